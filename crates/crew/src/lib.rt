@@ -9,6 +9,7 @@
 mod faults;
 mod gate;
 mod hand;
+mod heap;
 mod held;
 mod hiring;
 mod memory;

@@ -11,6 +11,7 @@ ghost use Rattle.crew.specs.Crews.{AreAnswersOf};
 
 use crate::gate::Gate;
 use crate::hand::{Hand, Hands, Looked, Turn};
+use crate::heap::Heap;
 use crate::hiring::Crew;
 use crate::memory::Memory;
 use crate::root::{Root, Roots};
@@ -25,6 +26,7 @@ use std::sync::{Arc, Wait};
 use std::thread::Threads;
 
 /// Looks at the newest waiting task, since its last child may have answered in the turn before.
+#[inline(always)]
 fn look_on(alloc: Global, signals: &Signals, hand: &mut Hand) -> Option<Looked> {
     match hand.look_newest(alloc) {
         Ok(looked) => Some(looked),
@@ -37,6 +39,7 @@ fn look_on(alloc: Global, signals: &Signals, hand: &mut Hand) -> Option<Looked> 
 
 /// After a turn in which the current task came to a stop: where it handed out a child, its rest can be stolen. Else it waits, and a hand
 /// that cuts all that it begins sleeps for a while.
+#[inline(always)]
 fn go_on<R: Wait>(
     rt: &R,
     alloc: Global,
@@ -65,6 +68,7 @@ fn work<R: Wait, G: Gate>(
     hand: &mut Hand,
     gate: &G,
 ) {
+    let mut heap = Heap::new(alloc);
     for _ in rt.forever() {
         if signals.is_stopped() {
             break;
@@ -75,7 +79,10 @@ fn work<R: Wait, G: Gate>(
             naps.end(signals);
         }
         match turn {
-            Ok(Turn::Ran) => go_on(rt, alloc, &mut naps, signals, hand, cuts),
+            Ok(Turn::Ran) => {
+                heap.count_turn();
+                go_on(rt, alloc, &mut naps, signals, hand, cuts);
+            }
             Ok(Turn::Answered(_)) => {
                 look_on(alloc, signals, hand);
             }

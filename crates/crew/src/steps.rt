@@ -46,6 +46,7 @@ fn push_overflow(overflow: &mut Vec<Task>, rest: Task) -> Result<(), Memory>
 }
 
 /// The rest of a task that handed out a child goes after all others.
+#[inline(always)]
 fn put_rest(deck: &mut Deck<Task>, overflow: &mut Vec<Task>, rest: Task) -> Result<(), Memory>
     ensures ok { OnOk result (IsPut rest overflow.old.items deck.old overflow.new.items deck.new) }
     ensures late { IsLate overflow.old.items deck.old → IsLate overflow.new.items deck.new }
@@ -79,6 +80,7 @@ pub(crate) fn put_all(
 }
 
 /// The child becomes current, and the rest of the task that handed it out goes after all others.
+#[inline(always)]
 fn hand_out(held: &mut Held, child: Task, rest: Task) -> Result<(), Memory>
     requires { held.old.current ≡ None }
     ensures ok { OnOk result (Runs (stop.Spawn child rest) (view_of held.old) (view_of held.new)) }
@@ -91,6 +93,7 @@ fn hand_out(held: &mut Held, child: Task, rest: Task) -> Result<(), Memory>
 }
 
 /// The task goes to the end of the stalled tasks.
+#[inline(always)]
 fn stall(stalled: &mut VecDeque<Stalled>, task: Task) -> Result<(), Memory>
     requires { task.task.waiting ≡ true }
     ensures { OnOk result (stalled.new.items ≡ stalled.old.items ++ task ∷ []) }
@@ -118,7 +121,7 @@ fn is_main(plan: &Plan, origin: &Origin) -> bool
 }
 
 /// Puts the answer of a task that has ended or was cut.
-#[inline(always)]
+#[inline(never)]
 fn put_answer(answer: Answer, give: Give<Answer>) -> Turn
     requires { give ≡ tag answer.plan answer.origin }
     ensures { IsAnswered give result }
@@ -226,6 +229,7 @@ fn newest(deck: &mut Deck<Task>, overflow: &mut Vec<Task>) -> Option<Task>
 }
 
 /// Takes up the newest of the hand's own tasks.
+#[inline(always)]
 fn pop(held: &mut Held) -> Option<Turn>
     requires { held.old.current ≡ None }
     ensures some { IfSome result (λ turn. Seeks (view_of held.old) turn (view_of held.new)) }
@@ -319,6 +323,7 @@ fn steal_or(held: &mut Held, alloc: Global, otherwise: Turn) -> Turn
 }
 
 /// A turn of a hand that has no current task.
+#[inline(always)]
 fn seek(held: &mut Held, alloc: Global) -> Result<Turn, Memory>
     requires { held.old.current ≡ None }
     ensures ok { IfOk result (λ turn. Seeks (view_of held.old) turn (view_of held.new)) }

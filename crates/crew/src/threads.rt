@@ -9,7 +9,7 @@ use std::thread::{Builder, Threads};
 const STACK: usize = 1024 * 1024;
 
 /// How far the stack of the calling thread is grown before the others start, in pages of 4 KiB.
-const ROOM: u64 = 128;
+const ROOM: u64 = 64;
 
 /// What is kept for the heap while the others start, in bytes. Else their stacks may take all that the process may have.
 const SPARE: usize = 4 * 1024 * 1024;

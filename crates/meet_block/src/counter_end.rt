@@ -89,6 +89,7 @@ fn give_up<A: Tagged>(
 }
 
 // Moves the value out of a slot.
+#[inline(never)]
 fn move_out<A: Tagged + Drop, W: PlaceOf>(
     counter: &Counter<A>,
     seat: &mut Seat<Option<Room<A>>, View<A::Key>>,

@@ -76,6 +76,7 @@ impl<A: Tagged + Drop> Tied<A> {
     }
 
     /// Puts the value and arrives.
+    #[inline(always)]
     pub fn put(self, value: A) -> Put<A>
         requires { A.tag value ≡ self }
         ensures { result ≡ self }

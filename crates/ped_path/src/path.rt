@@ -40,6 +40,7 @@ impl Path {
         }
     }
 
+    #[inline(always)]
     pub(crate) fn child(&self, alloc: Global, rank: u64) -> Result<Path, Memory>
         requires { IsRank rank }
         ensures { IfOk result (λ p. p ≡ self.now ++ rank ∷ []) }

@@ -38,6 +38,7 @@ impl Ped {
 
     /// The path of a child that is spawned at this rank. It copies the ranks after the last full block, and no block. Where they
     /// make a full block, it makes that one and a list that has it after the blocks of this path.
+    #[inline(always)]
     pub fn child(&self, alloc: Global, rank: u64) -> Result<Ped, Memory>
         requires { IsRank rank }
         ensures { IfOk result (λ p. p ≡ self.now ++ rank ∷ []) }

@@ -13,6 +13,7 @@ use edge::{refuse, show};
 use engine::{OpenGate, pedrun};
 use help::Topic;
 use ped_io::{StdSink, StdSource};
+use progress::Progress;
 use recorded::RecordedSource;
 use std::io::IsTerminal;
 use std::process::ExitCode;
@@ -29,6 +30,14 @@ fn words(rt: &(impl Env + AllocGlobal)) -> io::Result<Vec<String>> {
     Ok(words)
 }
 
+// Whether the terminal knows the codes by which a line is written over.
+fn can_rewrite(rt: &(impl Env + AllocGlobal)) -> bool {
+    match env::var(rt, "TERM") {
+        Ok(term) => !term.is_empty() && term.as_str() != "dumb",
+        Err(_) => false,
+    }
+}
+
 fn main(rt: HostRuntime) -> ExitCode {
     let mut out = StdSink::new(rt.stdout());
     let mut err = StdSink::new(rt.stderr());
@@ -43,7 +52,8 @@ fn main(rt: HostRuntime) -> ExitCode {
     if rt.stderr().is_terminal() {
         let is_typed = rt.stdin().is_terminal();
         let script = RecordedSource::new(&rt, rt.alloc(), script, is_typed);
-        let status = pedrun_on_terminal(&rt, rt.alloc(), &words, script, out, err);
+        let progress = Progress::new(&rt, can_rewrite(&rt));
+        let status = pedrun_on_terminal(&rt, rt.alloc(), &words, script, out, err, &progress);
         return ExitCode::from(status.code());
     }
     let status = pedrun(

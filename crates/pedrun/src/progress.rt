@@ -13,30 +13,52 @@ const FIRST: u64 = 2000;
 /// How long it stands until it is shown anew, in milliseconds.
 const STEP: u64 = 200;
 
-/// From so many tasks on, only each 256th that begins looks at the clock.
-const OFTEN: u64 = 4096;
+/// While so many tasks take no longer than `STEP`, only one of so many looks at the clock.
+const GROUP: u64 = 16;
+
+/// Tasks that are counted, in groups.
+#[derive(Drop)]
+struct Tally {
+    count: AtomicU64,
+    /// When the last whole group was counted, in milliseconds after the start.
+    last: AtomicU64,
+    /// Whether it took long, or there is none yet.
+    is_slow: AtomicBool,
+}
+
+impl Tally {
+    fn new() -> Tally {
+        Tally {
+            count: AtomicU64::new(0),
+            last: AtomicU64::new(0),
+            is_slow: AtomicBool::new(true),
+        }
+    }
+}
 
 /// A gate that counts the tasks of a run, and shows the counts on the error output in a line that is written over again and again, from
-/// two seconds after its making on.
+/// two seconds after its making on. It is shown as tasks begin and end, and no gate is told of anything else: while main computes alone,
+/// or each worker is at a long task, the line stands as it is, or isn't there yet.
 #[derive(Drop)]
 pub struct Progress<'a, R> {
     rt: &'a R,
     start: Duration,
-    begun: AtomicU64,
-    ended: AtomicU64,
+    begun: Tally,
+    ended: Tally,
     /// When the line is to be shown next, in milliseconds after the start.
     next: AtomicU64,
     is_shown: AtomicBool,
 }
 
 impl<'a, R: Clock + Eprint> Progress<'a, R> {
-    pub fn new(rt: &'a R) -> Progress<'a, R> {
+    /// Where the terminal can't write over a line, none is shown.
+    pub fn new(rt: &'a R, can_rewrite: bool) -> Progress<'a, R> {
         Progress {
             rt,
             start: rt.monotonic().unwrap_or(Duration::ZERO),
-            begun: AtomicU64::new(0),
-            ended: AtomicU64::new(0),
-            next: AtomicU64::new(FIRST),
+            begun: Tally::new(),
+            ended: Tally::new(),
+            next: AtomicU64::new(if can_rewrite { FIRST } else { u64::MAX }),
             is_shown: AtomicBool::new(false),
         }
     }
@@ -48,8 +70,7 @@ impl<'a, R: Clock + Eprint> Progress<'a, R> {
     }
 
     // Shows the line where it is time to. Of the workers that find so at once, one shows it.
-    fn show_due(&self) {
-        let now = self.millis();
+    fn show_due(&self, now: u64) {
         let next = self.next.load(Ordering::SeqCst);
         if now < next
             || self
@@ -64,11 +85,28 @@ impl<'a, R: Clock + Eprint> Progress<'a, R> {
         {
             return;
         }
-        let begun = self.begun.load(Ordering::SeqCst);
-        let ended = self.ended.load(Ordering::SeqCst);
+        let begun = self.begun.count.load(Ordering::SeqCst);
+        let ended = self.ended.count.load(Ordering::SeqCst);
         self.is_shown.store(true, Ordering::SeqCst);
         // A failed write leaves the line as it is.
-        let _ = eprint!(self.rt; "\r{begun} tasks begun, {ended} ended\x1b[K");
+        let _ = eprint!(self.rt; "\r{begun} tasks, {ended} ended\x1b[K");
+    }
+
+    // Counts one more, and looks at the clock where it ends a group, or the group before took long.
+    fn count(&self, tally: &Tally) {
+        let before = tally.count.fetch_add(1, Ordering::SeqCst);
+        let ends_group = before % GROUP == GROUP - 1;
+        if !ends_group && !tally.is_slow.load(Ordering::SeqCst) {
+            return;
+        }
+        let now = self.millis();
+        if ends_group {
+            let last = tally.last.swap(now, Ordering::SeqCst);
+            tally
+                .is_slow
+                .store(now.saturating_sub(last) > STEP, Ordering::SeqCst);
+        }
+        self.show_due(now);
     }
 
     /// Removes the line, if it is shown.
@@ -82,13 +120,10 @@ impl<'a, R: Clock + Eprint> Progress<'a, R> {
 
 impl<'a, R: Clock + Eprint> Gate for Progress<'a, R> {
     fn enter(&self, _origin: &Origin) {
-        let before = self.begun.fetch_add(1, Ordering::SeqCst);
-        if before < OFTEN || before % 256 == 0 {
-            self.show_due();
-        }
+        self.count(&self.begun);
     }
 
     fn leave(&self, _origin: &Origin) {
-        self.ended.fetch_add(1, Ordering::SeqCst);
+        self.count(&self.ended);
     }
 }

@@ -39,9 +39,8 @@ fn place_lines(alloc: Global, line: &[u8], text: &[u8]) -> Option<Vec<u8>> {
     excerpt(alloc, text, at, message).ok()
 }
 
-/// Does what `engine::pedrun` does, and shows on `err` what helps a person: how many tasks have begun and ended while a run takes more
-/// than two seconds, the place of a script's fault after its line, the word after a line on words with how to ask for help, and the help
-/// where no word was given.
+/// Does what `engine::pedrun` does, and shows on `err` what helps a person: the progress of a long run, the place of a script's fault
+/// after its line, the word after a line on words with how to ask for help, and the help where no word was given.
 pub fn pedrun_on_terminal<
     R: Threads + Wait + Sync + Clock + Eprint,
     S: Source + Drop,
@@ -54,11 +53,12 @@ pub fn pedrun_on_terminal<
     mut script: RecordedSource<R, S>,
     out: K,
     err: E,
+    progress: &Progress<R>,
 ) -> Status {
-    let progress = Progress::new(rt);
-    let mut out = RecordedSink::new(alloc, out, &progress);
-    let mut err = RecordedSink::new(alloc, err, &progress);
-    let status = pedrun(rt, alloc, words, &mut script, &mut out, &mut err, &progress);
+    let mut out = RecordedSink::new(alloc, out, progress);
+    let mut err = RecordedSink::new(alloc, err, progress);
+    let status = pedrun(rt, alloc, words, &mut script, &mut out, &mut err, progress);
+    progress.clear();
     // What follows the call's own line is for a person: a failed write of it changes nothing.
     if status == Status::Script {
         if let Some(lines) = place_lines(alloc, err.bytes(), script.bytes()) {

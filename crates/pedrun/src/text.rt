@@ -41,7 +41,7 @@ Options, in any order, each at most once:
   --budget N       how many steps each instance may make, from 1 to 4294967295
                    (default 1000000)
   --rounds N       how often a draw is mixed, from 0 to 8 (default 4)
-  --workers N      from 1 to 64 (default 4)
+  --workers N      how many threads, from 1 to 64 (default 4)
   --show WHAT      plain, or log to see draws and objects too (default plain)
   --number N       which simulation it is, from 0 to 18446744073709551615
   --at PEDIGREE    the name of a strand, such as 0.3.1: from 1 to 512 ranks,
@@ -92,7 +92,7 @@ Options, in any order, each at most once; a gamma excludes a seed:
   --budget N       how many steps each instance may make, from 1 to 4294967295
                    (default 1000000)
   --rounds N       how often a draw is mixed, from 0 to 8 (default 4)
-  --workers N      from 1 to 64 (default 4)
+  --workers N      how many threads, from 1 to 64 (default 4)
   --show WHAT      plain, or log to see draws and objects too (default plain)
 
 Exit status: 0; 1 where the last line is a fault's; 2 faulty words; 3 no valid
@@ -154,7 +154,7 @@ Options, in any order, each at most once; a gamma excludes a seed:
   --show WHAT      plain, or log to see draws and objects too (default plain)
 
 Exit status: 0; 1 where the last line is a fault's; 2 faulty words; 3 no valid
-script; 4 a failed read; 5 a failed write; 6 no memory.
+script; 4 a failed read; 5 a failed write; 6 out of memory.
 
 Example:
   $ pedrun sim --number 1 --workers 3 < examples/pi.ped
@@ -337,7 +337,7 @@ Options, in any order, each at most once:
   --budget N       how many steps each instance may make, from 1 to 4294967295
                    (default 1000000)
   --rounds N       how often a draw is mixed, from 0 to 8 (default 4)
-  --workers N      from 1 to 64 (default 4)
+  --workers N      how many threads, from 1 to 64 (default 4)
   --show WHAT      plain, or log to see draws and objects too (default plain)
 
 Exit status: 0; 1 where at least one run ended by a fault; 2 faulty words; 3 no

@@ -164,6 +164,7 @@ impl Checked {
 
     /// The index of the first function of this name. There is none exactly where no function has it. Where a name of the script is
     /// called, it is found at once.
+    #[inline(always)]
     pub fn function_of(&self, name: &Name) -> Option<u32>
         ensures function { result ≡ first_named self.now.functions name.now.bytes }
         ensures within { IfSome result (λ i. i < length self.now.functions) }

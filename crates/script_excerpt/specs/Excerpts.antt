@@ -27,10 +27,15 @@ is_at_version text at = at == 0 && starts_with nat_eq text (codes "version 2") &
 abbrev pub is_misplaced_return : List ℕ → ℕ → List ℕ → Bool
 is_misplaced_return text at word = bytes_eq word (codes "}") && starts_with nat_eq (drop at text) (codes "return")
 
+-- a version's line stands at `at`, and the word makes a function of it; `version (` would be a function's name
+abbrev pub is_misplaced_version : List ℕ → ℕ → List ℕ → Bool
+is_misplaced_version text at word = bytes_eq word (codes "fn") && starts_with nat_eq (drop at text) (codes "version ") && not (starts_with nat_eq (drop at text) (codes "version ("))
+
 -- what is said of the word that would do
 abbrev pub word_advice : List ℕ → ℕ → List ℕ → List ℕ
 word_advice text at word =
     if is_misplaced_return text at word then codes ", return stands at the end of its function"
+    else if is_misplaced_version text at word then codes ", a version's line is version 2 and begins the text"
     else codes ", here a " ++ word ++ codes " would do"
 
 -- What is said beside the message: of the version's line, or else of a word that would do at `at`, or nothing.

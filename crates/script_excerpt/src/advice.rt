@@ -56,12 +56,15 @@ fn would_do(alloc: Global, text: &[u8], at: usize, word: &str) -> Result<bool, A
 }
 
 /// The one word that would do before the token at `at`, where a parser stops: with it the text is a script, or its first fault stands
-/// after that token. `None` where no word would do, or more than one, or the text has more than 65536 bytes.
+/// after that token. `None` where no word would do, or more than one, the text is a script as it stands, or it has more than 65536 bytes.
 pub fn follower(alloc: Global, text: &[u8], at: usize) -> Result<Option<&'static str>, AllocError>
     requires { at ≤ length text.now }
     ensures { IfOk result (λ found. IfSome found (λ word. GoesOn text.now at word.now)) }
 {
     if text.len() > LONGEST_ADVISED {
+        return Ok(None);
+    }
+    if parse(alloc, text).is_ok() {
         return Ok(None);
     }
     let version = Version::of(text);

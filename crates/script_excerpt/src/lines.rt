@@ -1,7 +1,7 @@
 // The lines that show a fault of a text.
 
 ghost use Rattle.std.specs.Prelude.{◌≡◌, ◌≤◌, ◌++◌, IfOk, OnOk, codes, length, map};
-ghost use Rattle.script_excerpt.specs.Excerpts.{IsAdvice, IsExcerpt, IsWindow, caret_line, is_at_version, is_misplaced_return, place_line, room, shown, text_lines, word_advice};
+ghost use Rattle.script_excerpt.specs.Excerpts.{IsAdvice, IsExcerpt, IsWindow, caret_line, is_at_version, is_misplaced_return, is_misplaced_version, place_line, room, shown, text_lines, word_advice};
 
 use crate::advice::follower;
 use crate::bytes::extended;
@@ -106,6 +106,14 @@ fn is_misplaced_return(text: &[u8], at: usize, word: &str) -> bool
     word == "}" && text[at..].starts_with(b"return")
 }
 
+// Whether the word that would do makes a function of a version's line at `at`.
+fn is_misplaced_version(text: &[u8], at: usize, word: &str) -> bool
+    requires { at ≤ length text.now }
+    ensures { result ≡ is_misplaced_version text.now at word.now }
+{
+    word == "fn" && text[at..].starts_with(b"version ") && !text[at..].starts_with(b"version (")
+}
+
 // What is said of the word that would do.
 fn word_advice(alloc: Global, text: &[u8], at: usize, word: &str) -> Result<Vec<u8>, AllocError>
     requires { at ≤ length text.now }
@@ -113,6 +121,9 @@ fn word_advice(alloc: Global, text: &[u8], at: usize, word: &str) -> Result<Vec<
 {
     if is_misplaced_return(text, at, word) {
         return b", return stands at the end of its function".to_vec(alloc);
+    }
+    if is_misplaced_version(text, at, word) {
+        return b", a version's line is version 2 and begins the text".to_vec(alloc);
     }
     let advice = b", here a ".to_vec(alloc)?;
     let advice = extended(advice, word.as_bytes())?;
@@ -144,8 +155,8 @@ fn with_caret_line(lines: Vec<u8>, message: &str, advice: &[u8]) -> Result<Vec<u
 }
 
 /// Three lines on a fault at byte `at` of a text: its line and column, that line, and a caret under the byte with the message and with the
-/// word that would do there, where one alone would (`follower`). Where that word would close the block of a `return`, it says in place of it
-/// where a `return` stands, and at a line `version 2` that goes on after the 2 it says that alone.
+/// word that would do there, where one alone would (`follower`). Where that word would close the block of a `return`, or make a function of
+/// a version's line, it says in place of it where such a one stands, and at a line `version 2` that goes on after the 2 it says that alone.
 ///
 /// Of a long line the 72 bytes before the byte are shown and 72 from it on. A byte that isn't printable is shown as `?`.
 pub fn excerpt(alloc: Global, text: &[u8], at: usize, message: &str) -> Result<Vec<u8>, AllocError>

@@ -1,5 +1,5 @@
 -- Chunks of events, one after another. A list of events is kept so that none is copied; the form is this project's own.
-use Rattle.std.specs.Prelude.{List, [], ◌∷◌, ◌++◌}
+use Rattle.std.specs.Prelude.{List, [], ◌∷◌, ◌++◌, Bool, true, false}
 use Rattle.serial_meaning.specs.declared.event.Event.{Event}
 use Rattle.serial_meaning.specs.declared.out.Kept.{Kept}
 use Rattle.serial_meaning.specs.declared.out.Kept.TheVariants.{Nothing, One, Listed}
@@ -16,3 +16,9 @@ abbrev pub kept_events : Kept → List Event
 kept_events Nothing = []
 kept_events (One _ event) = event ∷ []
 kept_events (Listed s) = chunks_events s
+
+-- Whether one event stands alone.
+abbrev pub has_one : Kept → Bool
+has_one Nothing = false
+has_one (One _ _) = true
+has_one (Listed _) = false

@@ -66,6 +66,7 @@ impl Out {
     }
 
     /// Puts an event at the end. It also answers `Memory` where 2^64 - 1 events stand here.
+    #[inline(always)]
     pub fn push(&mut self, alloc: Global, event: Event) -> Result<(), Memory>
         ensures ok { OnOk result (self.new ≡ self.old ++ event ∷ []) }
         ensures err { OnErr result (self.new ≡ self.old) }
@@ -78,6 +79,7 @@ impl Out {
 
     /// Puts the other list's events at the end, and drops them where it answers `Memory`. It also answers so where there would be
     /// more than 2^64 - 1 events.
+    #[inline(always)]
     pub fn append(&mut self, other: Out) -> Result<(), Memory>
         ensures ok { OnOk result (self.new ≡ self.old ++ other) }
         ensures err { OnErr result (self.new ≡ self.old) }
@@ -121,8 +123,10 @@ impl Out {
 }
 
 impl Kept {
-    ghost use Rattle.serial_meaning.specs.Chunks.{kept_events, chunks_events};
+    ghost use Rattle.std.specs.Prelude.{true};
+    ghost use Rattle.serial_meaning.specs.Chunks.{kept_events, chunks_events, has_one};
 
+    #[inline(always)]
     fn push(&mut self, alloc: Global, event: Event) -> Result<(), Memory>
         ensures ok { OnOk result (kept_events self.new ≡ kept_events self.old ++ event ∷ []) }
         ensures err { OnErr result (kept_events self.new ≡ kept_events self.old) }
@@ -132,24 +136,33 @@ impl Kept {
                 *self = Kept::One(alloc, event);
                 Ok(())
             }
-            Kept::One(_, _) => {
-                let mut both = Vec::with_capacity(alloc, FIRST_ROOM)?;
-                let Kept::One(_, first) = mem::replace(self, Kept::Nothing) else {
-                    unreachable!()
-                };
-                both.push_reserved(first);
-                both.push_reserved(event);
-                *self = Kept::Listed(Chunks {
-                    alloc,
-                    full: Vec::new(alloc),
-                    last: both,
-                });
-                Ok(())
-            }
+            Kept::One(_, _) => self.push_second(alloc, event),
             Kept::Listed(chunks) => chunks.push(event),
         }
     }
 
+    /// Puts an event after one that stands alone. The room of its locals is written here, and not where it isn't needed.
+    #[inline(never)]
+    fn push_second(&mut self, alloc: Global, event: Event) -> Result<(), Memory>
+        requires { has_one self.old ≡ true }
+        ensures ok { OnOk result (kept_events self.new ≡ kept_events self.old ++ event ∷ []) }
+        ensures err { OnErr result (kept_events self.new ≡ kept_events self.old) }
+    {
+        let mut both = Vec::with_capacity(alloc, FIRST_ROOM)?;
+        let Kept::One(_, first) = mem::replace(self, Kept::Nothing) else {
+            unreachable!()
+        };
+        both.push_reserved(first);
+        both.push_reserved(event);
+        *self = Kept::Listed(Chunks {
+            alloc,
+            full: Vec::new(alloc),
+            last: both,
+        });
+        Ok(())
+    }
+
+    #[inline(always)]
     fn append(&mut self, others: Kept) -> Result<(), Memory>
         ensures ok { OnOk result (kept_events self.new ≡ kept_events self.old ++ kept_events others) }
         ensures err { OnErr result (kept_events self.new ≡ kept_events self.old) }
@@ -161,8 +174,8 @@ impl Kept {
         }
     }
 
-    /// Puts these events at the end. One that stands alone here goes to their front, so that they stay where they are.
-    fn append_list(&mut self, mut others: Chunks) -> Result<(), Memory>
+    /// Puts these events at the end.
+    fn append_list(&mut self, others: Chunks) -> Result<(), Memory>
         ensures ok { OnOk result (kept_events self.new ≡ kept_events self.old ++ chunks_events others) }
         ensures err { OnErr result (kept_events self.new ≡ kept_events self.old) }
     {
@@ -171,22 +184,30 @@ impl Kept {
                 *self = Kept::Listed(others);
                 Ok(())
             }
-            Kept::One(_, _) => {
-                let Kept::One(alloc, event) = mem::replace(self, Kept::Nothing) else {
-                    unreachable!()
-                };
-                match others.put_first(event) {
-                    Ok(()) => {
-                        *self = Kept::Listed(others);
-                        Ok(())
-                    }
-                    Err(event) => {
-                        *self = Kept::One(alloc, event);
-                        Err(Memory)
-                    }
-                }
-            }
+            Kept::One(_, _) => self.append_to_one(others),
             Kept::Listed(chunks) => chunks.append(others),
+        }
+    }
+
+    /// Puts these events after one that stands alone. That one goes to their front, so that they stay where they are.
+    #[inline(never)]
+    fn append_to_one(&mut self, mut others: Chunks) -> Result<(), Memory>
+        requires { has_one self.old ≡ true }
+        ensures ok { OnOk result (kept_events self.new ≡ kept_events self.old ++ chunks_events others) }
+        ensures err { OnErr result (kept_events self.new ≡ kept_events self.old) }
+    {
+        let Kept::One(alloc, event) = mem::replace(self, Kept::Nothing) else {
+            unreachable!()
+        };
+        match others.put_first(event) {
+            Ok(()) => {
+                *self = Kept::Listed(others);
+                Ok(())
+            }
+            Err(event) => {
+                *self = Kept::One(alloc, event);
+                Err(Memory)
+            }
         }
     }
 }
@@ -196,6 +217,7 @@ impl Chunks {
 
     /// Room for so many more events at the end: in the last chunk, or in a new one where that has grown enough.
     #[tactic(auto, using(crate::proofs::ChunkLemmas::joined_next))]
+    #[inline(always)]
     fn make_room(&mut self, more: usize) -> Result<(), Memory>
         ensures { chunks_events self.new ≡ chunks_events self.old }
     {

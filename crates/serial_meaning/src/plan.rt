@@ -128,6 +128,7 @@ impl Plan {
 
     /// The place of the first function of this name, or the number of functions where there is none. A name of the text is found
     /// at once.
+    #[inline(always)]
     pub fn callee(&self, name: &Name) -> u32
         ensures { result ≡ number_of (functions_of self.now) name.now.bytes }
     {

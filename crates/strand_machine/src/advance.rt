@@ -85,6 +85,7 @@ impl Task {
 
     /// Runs to the next stop: a child that is handed out, a wait, or the end. A task that waits stops at its wait again. On `Memory` it is
     /// dropped.
+    #[inline(always)]
     pub fn run(self, alloc: Global) -> Result<Paused, Memory>
         requires { self.cut ≡ None }
         ensures { IfOk result (Pauses self) }

@@ -196,7 +196,7 @@ fn look_on(
     match parts.body.family.look() {
         Look::NotYet(_) => Ok((false, room)),
         Look::Ready => {
-            let awaited = parts.body.trace.count();
+            let awaited = parts.body.trace.awaited().as_slice().len() as u64;
             let answers = take_answers(&mut parts.body.family, awaited, room)?;
             let left = go_on(parts, alloc, answers)?;
             Ok((true, left))

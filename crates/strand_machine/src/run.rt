@@ -16,7 +16,7 @@ use crate::memory::Memory;
 use crate::parts::Parts;
 use crate::stop::Passed;
 use crate::work::{InstanceState, Work};
-use script_grammar::{Act, Boxed, Right, Stmt};
+use script_grammar::Boxed;
 use std::alloc::Global;
 use strand_meaning::laws;
 use strand_moves::{Effects, Instance, LoopedChild, MoveResult, SpawnedChild, Spawning};
@@ -29,6 +29,7 @@ fn unboxed<T>(boxed: Boxed<T>) -> T
 }
 
 /// The spawn of a child joins the trace, and the child is handed out.
+#[inline(always)]
 fn show_spawn(
     parts: &mut Parts,
     alloc: Global,
@@ -91,17 +92,6 @@ pub(crate) fn show(
     }
 }
 
-/// Whether the statement may be a spawn. A hint alone: the instance says itself whether it spawned.
-#[inline(always)]
-fn may_spawn(statement: &Stmt) -> bool {
-    match &statement.act {
-        Act::Let(_, r) => matches!(r, Right::Spawn(_, _)),
-        Act::Set(_, r) => matches!(r, Right::Spawn(_, _)),
-        Act::Spawn(_) => true,
-        _ => false,
-    }
-}
-
 /// Moves of the instance in a row, up to the first that shows more than an event, with the wait or the end that comes of it.
 pub(crate) fn go(parts: &mut Parts, alloc: Global, mut instance: Instance) -> Result<Passed, Memory>
     requires { IsSound parts.old.body (work.Runs (stage.Running instance)) }
@@ -117,15 +107,12 @@ pub(crate) fn go(parts: &mut Parts, alloc: Global, mut instance: Instance) -> Re
             Ok(next) => next,
             Err(memory) => return Err(memory.into()),
         };
-        match next {
-            Some(statement) if may_spawn(statement) => {
-                match instance.spawn(alloc, plan, statement) {
-                    Ok(Some(spawning)) => return show_spawn(parts, alloc, instance, spawning),
-                    Ok(None) => {}
-                    Err(memory) => return Err(memory.into()),
-                }
+        if let Some(statement) = next {
+            match instance.spawn(alloc, plan, statement) {
+                Ok(Some(spawning)) => return show_spawn(parts, alloc, instance, spawning),
+                Ok(None) => {}
+                Err(memory) => return Err(memory.into()),
             }
-            _ => {}
         }
         match instance.make(alloc, plan, next) {
             Ok(MoveResult::Went(Effects::Nothing)) => {}

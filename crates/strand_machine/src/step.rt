@@ -156,6 +156,7 @@ pub(crate) fn stepped(parts: Box<Parts>, passed: Passed) -> MoveOrStop
 }
 
 /// Moves of the task in place, up to its next stop.
+#[inline(always)]
 pub(crate) fn run_on(parts: &mut Parts, alloc: Global) -> Result<Passed, Memory>
     requires { IsSound parts.old.body parts.old.work }
     ensures stopped { IfOk result IsStopped }

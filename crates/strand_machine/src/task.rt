@@ -65,6 +65,7 @@ impl Task {
     }
 
     /// The same, where the trail of the origin's path is at hand, and what is known of the loops on it.
+    #[inline(always)]
     pub(crate) fn begin(
         alloc: Global,
         plan: Arc<Plan>,

@@ -64,14 +64,6 @@ impl Trace {
         &self.awaited
     }
 
-    /// How many children there are whose answers aren't taken.
-    #[tactic(auto, using(crate::proofs::Moves::Handed::awaited_parts))]
-    pub fn count(&self) -> u64
-        ensures { result ≡ length (awaited self.now.handed) }
-    {
-        self.after.len() as u64
-    }
-
     /// One more event of the task's own.
     #[inline(always)]
     pub fn emit(&mut self, alloc: Global, event: Event) -> Result<(), Memory>

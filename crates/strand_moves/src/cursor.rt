@@ -167,6 +167,7 @@ impl Cursor {
     }
 
     /// The same, also where no statement of that block is left.
+    #[inline(always)]
     fn pass_on<'a>(&mut self, body: &'a [Stmt], block: &'a [Stmt]) -> Option<(&'a Stmt, &'a [Stmt])>
         requires { block.now ≡ block_of body.now self.old.entered.items }
         ensures { MatchOption result ((left_of body.now self.old ≡ []) × (left_of body.now self.new ≡ [])) (λ r. PassesStatement body.now self.old self.new r.0.now × (r.1.now ≡ block_of body.now self.new.entered.items)) }

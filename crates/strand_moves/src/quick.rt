@@ -250,6 +250,7 @@ impl Running {
     }
 
     /// The same of `let x = R` or `x = R`.
+    #[inline(always)]
     fn quiet_right(&mut self, places: &[u16], x: &Name, r: &Right) -> Result<bool, Memory>
         requires name { FindsName places.now self.old.top.env x.now }
         requires right { FindsRight places.now self.old.top.env r.now }

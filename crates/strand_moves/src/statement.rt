@@ -128,6 +128,7 @@ impl Running {
         Ok(Event::Print(self.pedigree()?, value))
     }
 
+    #[inline(always)]
     pub(crate) fn branch(&mut self, places: &[u16], e: &Expr) -> Result<(), Halt>
         requires { FindsExpression places.now self.old.top.env e.now }
         ensures shows { (plan : PlanView) (st : Stmt) (yes no : List Stmt) → IsAfterStatement (statements_of plan self.old.top) self.old.top.cursor st →

@@ -143,6 +143,7 @@ impl Environment {
     }
 
     /// The values of arguments from left to right, or the fault that is met first.
+    #[inline(always)]
     pub fn values(&self, alloc: Global, places: &[u16], args: &[Expr]) -> Result<Items<Value>, Halt>
         requires { FindsArguments places.now self.now args.now }
         ensures { Gives result (values_of args.now self.now.variables) }
@@ -194,6 +195,7 @@ impl Environment {
     }
 
     /// The same of the variable that a call's value goes to, which is one of the function's.
+    #[inline(always)]
     pub fn receive(&mut self, names: &Items<NameText>, target: &Target, value: Value)
         requires names { names.now ≡ self.old.names }
         requires known { IsSome (place_in self.old.names target.now.bytes) }
@@ -206,6 +208,7 @@ impl Environment {
     }
 
     /// Gives a scalar that is there a new value. Where the name isn't there nothing changes.
+    #[inline(always)]
     pub fn replace_scalar(&mut self, names: &Items<NameText>, target: &Target, value: Value)
         requires { names.now ≡ self.old.names }
         ensures there { IsSome (slot_of self.old.variables target.now.bytes) → self.new ≡ with_variables self.old (with_slot self.old.variables target.now.bytes (Scalar value)) }

@@ -220,6 +220,7 @@ fn multiply(
 }
 
 /// The values of arguments, from left to right.
+#[inline(always)]
 pub(crate) fn values(
     alloc: Global,
     env: &Environment,

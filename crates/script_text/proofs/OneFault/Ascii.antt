@@ -202,8 +202,8 @@ module _ (version : Version) where
   lexes-row bytes {from} {left} {stop = stop} n e (goes_on {l = l} {ls = ls} c x) =
       let next : IsNext version from left l = lexeme_is_next version from left l c in
       let rest : length (drop (l.end - from) left) ≡ length left - (l.end - from) = length-drop (l.end - from) left in
-      let far : n ≡ l.end + length (drop (l.end - from) left) = omega (arith, e, rest, next.within, next.below, next.tail) in
-      (next.tail, row-from (tokens_of bytes ls) l.end (suc l.start) (place_of n stop) (omega (arith, next.below)) (lexes-row bytes n far x))
+      let far : n ≡ l.end + length (drop (l.end - from) left) = omega (arith, e, rest, next.within, next.below, next.after) in
+      (next.after, row-from (tokens_of bytes ls) l.end (suc l.start) (place_of n stop) (omega (arith, next.below)) (lexes-row bytes n far x))
 
 -- the version's line
 line_low : (version : Version) (bytes : List ℕ) → version ≡ version_of bytes → AreLow (begins_at version) bytes

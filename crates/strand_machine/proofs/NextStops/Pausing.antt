@@ -1,5 +1,5 @@
 -- A task that comes to a stop and still has what it answers.
-use Rattle.std.proofs.Common.{◌≡◌, true, false, Option, Some, None, refl, sym, ap, ◌∙◌, subst}
+use Rattle.std.proofs.Common.{◌≡◌, true, false, Option, None, refl, sym, ap, subst}
 use Rattle.serial_meaning.specs.Answer.{AnswerView, AnswerTag, IsAnswer}
 use Rattle.serial_meaning.specs.Plan.{PlanView}
 use Rattle.serial_meaning.specs.declared.answer.Outcome.{Outcome}

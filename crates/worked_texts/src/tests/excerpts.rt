@@ -5,7 +5,7 @@ use std::alloc::Global;
 use std::process::Abort;
 use std::test::Fail;
 
-static EXCERPTS: [(&str, usize, &str); 9] = [
+static EXCERPTS: [(&str, usize, &str); 15] = [
     (
         "fn main() { print 1 return 0; }",
         20,
@@ -41,6 +41,32 @@ static EXCERPTS: [(&str, usize, &str); 9] = [
         "version 2\r\nfn main() { return 0; }\r\n",
         0,
         "line 1, column 1\nversion 2?\n^ fault, the line version 2 must end right after the 2\n",
+    ),
+    (
+        "version 3\nfn main() { return 0; }",
+        0,
+        "line 1, column 1\nversion 3\n^ fault, a version's line is version 2 and begins the text\n",
+    ),
+    (
+        "# a comment\nversion 2\nfn main() { return 0; }",
+        12,
+        "line 2, column 1\nversion 2\n^ fault, a version's line is version 2 and begins the text\n",
+    ),
+    (
+        "version (n) { return n; } fn main() { return 0; }",
+        0,
+        "line 1, column 1\nversion (n) { return n; } fn main() { return 0; }\n^ fault, here a fn would do\n",
+    ),
+    ("version 2\n", 0, "line 1, column 1\nversion 2\n^ fault\n"),
+    (
+        "fn main(a) { return 0; }",
+        8,
+        "line 1, column 9\nfn main(a) { return 0; }\n        ^ fault\n",
+    ),
+    (
+        "versions",
+        0,
+        "line 1, column 1\nversions\n^ fault, here a fn would do\n",
     ),
     (
         "fn () { return 0; }",

@@ -11,5 +11,5 @@ use Rattle.sched_core.proofs.new_state.new_state.Goals as goal
 pub returns-clause-consistent : goal.returns-clause-consistent
 returns-clause-consistent c =
     let plan = arc_value c.args.plan.now in
-    let valid : IsValid plan.script = subst (λ (p : PlanView). IsValid p.script) (c.after-plan.view_is ∙ c.deref.ensures) c.script-script.ensures.valid in
+    let valid : IsValid plan.script = subst (λ (p : PlanView). IsValid p.script) (c.behind-plan.view_is ∙ c.deref.ensures) c.script-script.ensures.valid in
     IfOk-weaker c.first_state.result (IsBegun plan c.args.workers) IsConsistent (λ s begun. consistent-begun plan c.args.workers s valid begun) c.first_state.ensures

@@ -7,5 +7,5 @@ use Rattle.serial_runner.proofs.walk.begin_walk.Goals as goal
 pub returns-clause-sound : goal.returns-clause-sound
 returns-clause-sound c =
     let plan = arc_value c.args.plan.now in
-    let valid : IsValid plan.script = subst (λ (p : PlanView). IsValid p.script) (c.after-plan.view_is ∙ c.deref.ensures) c.script-script.ensures.valid in
+    let valid : IsValid plan.script = subst (λ (p : PlanView). IsValid p.script) (c.behind-plan.view_is ∙ c.deref.ensures) c.script-script.ensures.valid in
     c.tasks_begin.ensures plan c.args.origin c.requires (c.valid_plans_are_clear.ensures plan valid)

@@ -1,6 +1,5 @@
 use Rattle.std.proofs.Common.{List, refl, sym, subst}
 use Rattle.serial_meaning.specs.Answer.{IsAnswer}
-use Rattle.serial_meaning.specs.declared.answer.Outcome.{Outcome}
 use Rattle.serial_meaning.specs.declared.event.Event.{Event}
 use Rattle.strand_meaning.specs.Cuts.{IsByFaultOf}
 use Rattle.strand_machine.proofs.NextStops.Pausing.{holds-end}

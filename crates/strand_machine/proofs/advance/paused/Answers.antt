@@ -1,6 +1,6 @@
 use Rattle.std.proofs.Common.{sym, subst}
 use Rattle.strand_meaning.specs.Cuts.{IsByFaultOf}
-use Rattle.strand_machine.specs.Made.{CanEnd, KnowsEnd, PausesAs, made}
+use Rattle.strand_machine.specs.Made.{CanEnd, PausesAs, made}
 use Rattle.strand_machine.specs.Tasks.{ended_by, view_of}
 use Rattle.strand_machine.specs.declared.parts.Parts.{Parts}
 use Rattle.strand_machine.specs.declared.stop.Paused.TheVariants as paused-in

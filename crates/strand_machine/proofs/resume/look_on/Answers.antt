@@ -27,7 +27,7 @@ pub take_answers-requires-clause-last : goal.take_answers-requires-clause-last
 take_answers-requires-clause-last c =
     let b = c.args.parts.now.body in
     let last = looked-last b.family c.look.new.self b.trace.handed true c.look.new.self.loads c.in-Ready.ensures.1 c.requires.sound.family in
-    subst (AwaitsCount c.look.new.self) (sym c.count-awaited.ensures) (awaits-count c.look.new.self b.trace.handed last)
+    subst (AwaitsCount c.look.new.self) (sym (ap length (c.as_slice.ensures ∙ c.awaited.ensures))) (awaits-count c.look.new.self b.trace.handed last)
 
 pub go_on-requires-clause-sound : goal.go_on-requires-clause-sound
 go_on-requires-clause-sound c =
@@ -40,7 +40,7 @@ go_on-requires-clause-tags c =
     let b = c.args.parts.now.body in
     let g = c.look.new.self in
     let last = looked-last b.family g b.trace.handed true g.loads c.in-Ready.ensures.1 c.requires.sound.family in
-    c.in_ok-answers-in-Ready.ensures.tags ∙ ap (λ (n : ℕ). tags g.plan (drop (length g.children - n) g.children)) c.count-awaited.ensures
+    c.in_ok-answers-in-Ready.ensures.tags ∙ ap (λ (n : ℕ). tags g.plan (drop (length g.children - n) g.children)) (ap length (c.as_slice.ensures ∙ c.awaited.ensures))
     ∙ ap (tags g.plan) (last-awaited g b.trace.handed last) ∙ ap (λ (p : PlanView). tags p (awaited b.trace.handed)) (sym (ap (λ (f : FamilyView). f.plan) c.take_answers.ensures.family))
 
 pub returns-in_ok-left-in-Ready-clause-resumed : goal.returns-in_ok-left-in-Ready-clause-resumed

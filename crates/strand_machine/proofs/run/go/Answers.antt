@@ -15,7 +15,7 @@ use Rattle.strand_machine.specs.declared.work.Work.TheVariants as work
 use Rattle.strand_machine.proofs.NextStops.Advancing.{leads-start}
 use Rattle.strand_machine.proofs.Moves.Moving.{IsLast, came-has, came-sound, one-more, went-sound, went-is, gave-sound, faulted-sound, syncs-sound, syncs-run, gives-run, faults-run, still-on, still-falls, tells-on, tells-falls, run-is-ok, runs-on, with_trace}
 use Rattle.strand_machine.proofs.run.go.Goals as goal
-use Rattle.strand_machine.proofs.run.go.Goals.{After-instance-in-loop-next-1, in-None-1, in-Some+in-Ok-None, in-Some+else-may_spawn}
+use Rattle.strand_machine.proofs.run.go.Goals.{After-instance-in-loop-next-1, in-Some+in-Ok-None, in_default}
 
 pub loop-next-init : goal.loop-next-init
 loop-next-init c = record { sound = c.requires; leads = leads-start (view_of c.args.parts.now.body (work.Runs (stage.Running c.args.instance))) refl }
@@ -60,13 +60,12 @@ returns-in-Ok-Some-clause-step c =
 
 -- another move
 
--- what isn't tried as a spawn, or isn't one, changed nothing
+-- a spawn that isn't one changed nothing
 same : (c : After-instance-in-loop-next-1) → c.match-next.instance.running.value ≡ c.row.new.self.running.value
 same c =
     elim c.match-next.branch [
       | in-Some+in-Ok-None w ↦ ap (λ (i : Instance). i.running.value) w.instance-is ∙ (rw w.in-Ok-None.field-0-is at w.in-Ok-None.ensures.did)
-      | in-Some+else-may_spawn w ↦ ap (λ (i : Instance). i.running.value) w.instance-is
-      | in-None-1 w ↦ ap (λ (i : Instance). i.running.value) w.instance-is
+      | in_default w ↦ ap (λ (i : Instance). i.running.value) w.instance-is
     ]
 
 last : (c : After-instance-in-loop-next-1) (m : MoveResult) (new : Instance) → move c.plan-plan.result.now (path_of c.match-next.instance) (unpassed c.plan-plan.result.now c.match-next.instance (option_copied c.in-Ok.next)) ≡ run_of m (machine_of c.plan-plan.result.now new) →

@@ -1,4 +1,4 @@
-use Rattle.std.proofs.Common.{◌≡◌, IfOk, sym, ◌∙◌, subst}
+use Rattle.std.proofs.Common.{IfOk, sym, ◌∙◌, subst}
 use Rattle.strand_machine.specs.Made.{made, GoesOn}
 use Rattle.strand_machine.specs.Tasks.{view_of}
 use Rattle.strand_machine.specs.declared.work.Work.{Work}

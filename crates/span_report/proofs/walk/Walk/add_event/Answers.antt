@@ -7,7 +7,7 @@ use Rattle.span_report.proofs.walk.Walk.add_event.Goals as goal
 
 pub returns-in_ok-push : goal.returns-in_ok-push
 returns-in_ok-push c =
-    walked-spawn (open_instances c.args.self.now) (open_instances c.enter.new.self) (open_instances c.push.new.self) c.args.event.now c.in-Spawn.at c.after-event.inside.path c.after-event.inside.rank c.add_event.new.self c.begin-child.result
-    c.in-Spawn.is (let a = c.pedigree_of.ensures in let b = c.after-event.view_is in cc)
-    (c.in_ok-enter.ensures ∙ ap (λ (v : OpenInstances). entered c.after-event.inside.path v) c.leave.ensures) c.in_ok-add_event.ensures
+    walked-spawn (open_instances c.args.self.now) (open_instances c.enter.new.self) (open_instances c.push.new.self) c.args.event.now c.in-Spawn.at c.behind-event.inside.path c.behind-event.inside.rank c.add_event.new.self c.begin-child.result
+    c.in-Spawn.is (let a = c.pedigree_of.ensures in let b = c.behind-event.view_is in cc)
+    (c.in_ok-enter.ensures ∙ ap (λ (v : OpenInstances). entered c.behind-event.inside.path v) c.leave.ensures) c.in_ok-add_event.ensures
     (c.begin-child.ensures ∙ ap (λ (p : List ℕ). begun p Spawned c.add_event.new.self.before) (c.in_ok-path.ensures ∙ (let b = c.at.view_is in cc))) c.in_ok-push.ensures

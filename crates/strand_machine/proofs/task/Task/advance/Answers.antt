@@ -1,4 +1,3 @@
-use Rattle.std.proofs.Common.{sym, ◌∙◌}
 use Rattle.strand_machine.proofs.NextStops.Advancing.{goes-on-uncut}
 use Rattle.strand_machine.proofs.NextStops.Pausing.{ended-short, ends-so, spawns-so, waits-so}
 use Rattle.strand_machine.proofs.task.Task.advance.Goals as goal

@@ -17,7 +17,7 @@ boxed-requires c =
     let plan = arc_value c.args.plan in
     let o = c.args.child.origin in
     let w = c.in-Ok.work in
-    let valid : IsValid plan.script = subst (λ (p : PlanView). IsValid p.script) (c.after-plan.view_is ∙ c.deref.ensures) c.script-script.ensures.valid in
+    let valid : IsValid plan.script = subst (λ (p : PlanView). IsValid p.script) (c.behind-plan.view_is ∙ c.deref.ensures) c.script-script.ensures.valid in
     let begun : work_of plan w ≡ begun_work plan o = subst (λ (p : PlanView). work_of p w ≡ begun_work p o) c.deref-2.ensures c.in-Ok.ensures.begun in
     let works : WorksAt plan o w = subst (λ (p : PlanView). WorksAt p o w) c.deref-2.ensures c.in-Ok.ensures.works in
     subst (λ (b : Body). Holds b w) (sym c.new-body.ensures)

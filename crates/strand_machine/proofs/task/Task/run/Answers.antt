@@ -1,5 +1,4 @@
 use Rattle.std.proofs.Common.{sym, ap, ◌∙◌, subst}
-use Rattle.strand_machine.specs.Made.{StopsSo, made}
 use Rattle.strand_machine.specs.Stops.{Pauses}
 use Rattle.strand_machine.specs.Tasks.{IsSound, TaskView, view_of}
 use Rattle.strand_machine.specs.declared.parts.Parts.{Parts}
