@@ -49,7 +49,7 @@ held_sends = declared_send held.the_type (
       deck_shared.the_send task.the_row task_sends,
       (
         Deque-send stalled.the_row stalled_sends,
-        (Vec-send (thief.the_row task.the_row) (thief_shared.the_send task.the_row task_sends), (items_shared.the_send answer.the_row answer_sends, (faults_sends, tt))),
+        (Vec-send (thief.the_row task.the_row) (thief_shared.the_send task.the_row task_sends), (option_shared.the_send _ (items_shared.the_send answer.the_row answer_sends), (faults_sends, tt))),
       ),
     ),
   ),

@@ -210,7 +210,7 @@ impl Faults {
     }
 
     /// The fault that the hand knows by which it may cut the task, if there is one.
-    #[inline(always)]
+    #[inline(never)]
     fn cutting(&self, task: &Task) -> Option<Fault>
         ensures { IfSome result (λ by. IsCut task.now.task.plan task.now.task.origin by) }
     {
@@ -235,6 +235,10 @@ impl Faults {
         ensures { IfSome result (λ by. IsCut task.now.task.plan task.now.task.origin by) }
     {
         self.read_on();
+        if self.least.is_empty() && self.own.is_none() {
+            self.cuts = false;
+            return None;
+        }
         let by = self.cutting(task);
         self.cuts = by.is_some();
         by

@@ -95,7 +95,7 @@ impl Hand {
                 deck,
                 stalled: VecDeque::new(alloc),
                 thieves: Vec::new(alloc),
-                answers: Items(Vec::new(alloc)),
+                answers: None,
                 faults,
             }),
         })

@@ -16,8 +16,8 @@ pub(crate) struct Held {
     pub stalled: VecDeque<Stalled>,
     /// Those of the other hands' decks, from the next number upwards and round.
     pub thieves: Vec<Thief<Task>>,
-    /// Room for the answers that a task takes.
-    pub answers: Items<Answer>,
+    /// Room for the answers that a task takes, if it was made.
+    pub answers: Option<Items<Answer>>,
     /// What it knows of the faults that the hands of its crew met.
     pub faults: Faults,
 }

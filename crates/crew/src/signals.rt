@@ -114,6 +114,8 @@ pub(crate) struct Naps {
     vain: usize,
     /// The signals count this hand as one that looks for a task.
     seeks: bool,
+    /// Nothing changed since the hand found something to do.
+    ended: bool,
     longest_idle: u64,
 }
 
@@ -125,12 +127,17 @@ impl Naps {
             next: SHORTEST_NAP,
             vain: 0,
             seeks: false,
+            ended: true,
             longest_idle: workers.saturating_mul(LONGEST_IDLE),
         }
     }
 
     /// The hand found something to do.
     pub fn end(&mut self, signals: &Signals) {
+        if self.ended {
+            return;
+        }
+        self.ended = true;
         if mem::replace(&mut self.seeks, false) {
             signals.end_seek();
         }
@@ -152,6 +159,7 @@ impl Naps {
     }
 
     fn nap<R: Wait>(&mut self, rt: &R, signals: &Signals, stalled: usize, longest: u64) {
+        self.ended = false;
         self.vain = self.vain.saturating_add(1);
         if self.vain <= stalled {
             return;

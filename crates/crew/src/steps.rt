@@ -21,7 +21,6 @@ use serial_meaning::plan::function_number;
 use serial_meaning::{Answer, Fault, Origin, Outcome, Plan};
 use std::alloc::Global;
 use std::collections::VecDeque;
-use std::mem;
 use steal_deck::{Deck, Steal, Thief};
 use strand_machine::{Paused, Resumed, Task, share_origin};
 
@@ -243,6 +242,21 @@ fn pop(held: &mut Held) -> Option<Turn>
     }
 }
 
+/// The room for answers, emptied. It is left without one.
+#[inline(always)]
+fn empty_room(alloc: Global, kept: &mut Option<Items<Answer>>) -> Items<Answer>
+    ensures { result ≡ [] }
+{
+    let Some(room) = kept.take() else {
+        return Items(Vec::new(alloc));
+    };
+    let mut room = room;
+    if !room.0.is_empty() {
+        room.0.clear();
+    }
+    room
+}
+
 /// Takes up a task that was stalled, where all of its children have answered. Else it goes to the end of the stalled tasks.
 fn take_up(held: &mut Held, task: Task, alloc: Global) -> Result<TakeUp, Memory>
     requires current { held.old.current ≡ None }
@@ -251,10 +265,9 @@ fn take_up(held: &mut Held, task: Task, alloc: Global) -> Result<TakeUp, Memory>
     ensures err { OnErr result (held.new.current ≡ None) }
     ensures late { KeepsLate (view_of held.old) (view_of held.new) }
 {
-    let mut room = mem::replace(&mut held.answers, Items(Vec::new(alloc)));
-    room.0.clear();
+    let room = empty_room(alloc, &mut held.answers);
     let (resumed, room) = task.resume_in(alloc, room)?;
-    held.answers = room;
+    held.answers = Some(room);
     match resumed {
         Resumed::On(task) => {
             held.current = Some(task);

@@ -148,17 +148,19 @@ impl Kept {
         ensures ok { OnOk result (kept_events self.new ≡ kept_events self.old ++ event ∷ []) }
         ensures err { OnErr result (kept_events self.new ≡ kept_events self.old) }
     {
-        let mut both = Vec::with_capacity(alloc, FIRST_ROOM)?;
-        let Kept::One(_, first) = mem::replace(self, Kept::Nothing) else {
-            unreachable!()
-        };
-        both.push_reserved(first);
-        both.push_reserved(event);
-        *self = Kept::Listed(Chunks {
+        let both = Chunks {
             alloc,
             full: Vec::new(alloc),
-            last: both,
-        });
+            last: Vec::with_capacity(alloc, FIRST_ROOM)?,
+        };
+        let Kept::One(_, first) = mem::replace(self, Kept::Listed(both)) else {
+            unreachable!()
+        };
+        let Kept::Listed(both) = self else {
+            unreachable!()
+        };
+        both.last.push_reserved(first);
+        both.last.push_reserved(event);
         Ok(())
     }
 
@@ -235,7 +237,22 @@ impl Chunks {
         Ok(())
     }
 
+    /// Puts an event at the end. Where the last chunk has room, it takes no call.
+    #[inline(always)]
     fn push(&mut self, event: Event) -> Result<(), Memory>
+        ensures ok { OnOk result (chunks_events self.new ≡ chunks_events self.old ++ event ∷ []) }
+        ensures err { OnErr result (chunks_events self.new ≡ chunks_events self.old) }
+    {
+        if self.last.len() < self.last.capacity() {
+            self.last.push_reserved(event);
+            return Ok(());
+        }
+        self.push_growing(event)
+    }
+
+    /// The same, and makes room for it first.
+    #[inline(never)]
+    fn push_growing(&mut self, event: Event) -> Result<(), Memory>
         ensures ok { OnOk result (chunks_events self.new ≡ chunks_events self.old ++ event ∷ []) }
         ensures err { OnErr result (chunks_events self.new ≡ chunks_events self.old) }
     {

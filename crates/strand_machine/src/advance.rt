@@ -10,7 +10,7 @@ ghost use Rattle.strand_machine.specs.declared.work.Work.TheVariants as work;
 use crate::body::Body;
 use crate::memory::Memory;
 use crate::parts::Parts;
-use crate::replace::set;
+use crate::replace::set_work;
 use crate::step::run_on;
 use crate::stop::{Passed, Paused, Stop};
 use crate::task::Task;
@@ -20,6 +20,7 @@ use serial_meaning::{Answer, Outcome};
 use std::alloc::Global;
 
 /// The task has ended so, but for a fault in its trace.
+#[inline(always)]
 fn keep_end(parts: &mut Parts, outcome: Outcome)
     requires can { CanEnd parts.old.body outcome }
     requires known { IsByFaultOf parts.old.body.family.plan (ended_by parts.old.body.trace.fault outcome) }
@@ -30,7 +31,7 @@ fn keep_end(parts: &mut Parts, outcome: Outcome)
 {
     let ended = parts.body.trace.end(outcome);
     parts.body.waiting = false;
-    set(&mut parts.work, Work::Ends(ended));
+    set_work(&mut parts.work, Work::Ends(ended));
 }
 
 /// The task that came to a stop.

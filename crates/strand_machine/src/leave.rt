@@ -17,7 +17,7 @@ use crate::destination::Destination;
 use crate::memory::Memory;
 use crate::origin::share_origin;
 use crate::parts::Parts;
-use crate::replace::set;
+use crate::replace::set_work;
 use crate::stop::Passed;
 use crate::task::Task;
 use crate::work::{InstanceState, Work};
@@ -34,7 +34,7 @@ pub(crate) fn pass(parts: &mut Parts, work: Work) -> Passed
     ensures sound { IsSoundMade parts.new result }
 {
     parts.body.advanced = true;
-    set(&mut parts.work, work);
+    set_work(&mut parts.work, work);
     Passed::Goes
 }
 
@@ -46,7 +46,7 @@ pub(crate) fn wait(parts: &mut Parts, work: Work) -> Passed
 {
     parts.body.waiting = true;
     parts.body.advanced = true;
-    set(&mut parts.work, work);
+    set_work(&mut parts.work, work);
     Passed::Waits
 }
 
@@ -114,6 +114,7 @@ fn hand_out(
 }
 
 /// The task hands out a child, and this remains.
+#[inline(always)]
 pub(crate) fn spawn(
     parts: &mut Parts,
     alloc: Global,
@@ -131,7 +132,7 @@ pub(crate) fn spawn(
 {
     match hand_out(&mut parts.body, alloc, child, place) {
         Ok(child) => {
-            set(&mut parts.work, work);
+            set_work(&mut parts.work, work);
             Ok(Passed::Spawned(child))
         }
         Err(memory) => {

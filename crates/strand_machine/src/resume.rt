@@ -14,7 +14,7 @@ ghost use Rattle.strand_machine.specs.declared.work.InstanceState.TheVariants as
 use crate::memory::Memory;
 use crate::merge::{Heard, merge_answer};
 use crate::parts::Parts;
-use crate::replace::set;
+use crate::replace::{set, set_work};
 use crate::stop::Resumed;
 use crate::task::Task;
 use crate::trace::AfterChild;
@@ -138,7 +138,7 @@ fn cut_short(parts: &mut Parts, heard: &Heard)
         unreachable!()
     };
     parts.body.waiting = false;
-    set(&mut parts.work, Work::Ends(outcome));
+    set_work(&mut parts.work, Work::Ends(outcome));
 }
 
 /// What is left of a task that took answers, none of them a cut: it goes on.

@@ -122,7 +122,10 @@ pub(crate) fn go(parts: &mut Parts, alloc: Global, mut instance: Instance) -> Re
                 return Ok(wait(parts, Work::Runs(InstanceState::AtSync(instance))));
             }
             Ok(MoveResult::Went(effects)) => return show(parts, alloc, instance, effects),
-            Ok(MoveResult::Returned(value)) => return Ok(returned(parts, value)),
+            Ok(MoveResult::Returned(value)) => {
+                instance.end();
+                return Ok(returned(parts, value));
+            }
             Ok(MoveResult::Faulted(own)) => return Ok(faulted(parts, own)),
             Err(memory) => return Err(memory.into()),
         }

@@ -221,6 +221,7 @@ impl Running {
     }
 
     /// The value of the innermost frame's function, as its variables are.
+    #[inline(always)]
     fn result(&self, plan: &Plan) -> Result<Value, Halt>
         requires { IsNamed plan.now self.now.top }
         ensures { Gives result (result_of (function_at (functions_of plan.now) self.now.top.function) self.now.top.env.variables) }

@@ -10,6 +10,7 @@ ghost use Rattle.strand_meaning.specs.Task.{answered, changed, with_values};
 
 use crate::effects::{MoveResult, Spawning};
 use crate::event_sink::EventSink;
+use crate::frame::Frame;
 use crate::memory::Memory;
 use crate::running::Running;
 use dotmix::Trail;
@@ -106,6 +107,27 @@ impl Instance {
         ensures sound { IfOk result (λ _. IsInstance plan.now self.new) }
     {
         self.running.make(alloc, plan, next)
+    }
+
+    /// It has ended. It is taken apart here, since to drop it by its box copies its frame twice.
+    #[inline(always)]
+    pub fn end(self) {
+        let Running {
+            trail,
+            top,
+            below,
+            ..
+        } = Box::into_inner(self.running);
+        let Frame {
+            levels,
+            cursor,
+            env,
+            faulted,
+            ..
+        } = top;
+        drop((trail, below));
+        drop((levels, cursor));
+        drop((env, faulted));
     }
 
     /// Takes the fault of a child of the frame with `height` others below it.

@@ -118,6 +118,7 @@ impl Running {
     /// two give a variable a value, make an array, store an item, print, or are an `if` or a `while`. The text is found once and where another
     /// frame goes on, and a block again only where one is entered or left. The cursor passes the first statement that is none of these, or
     /// that meets a fault, if there is one.
+    #[inline(always)]
     pub(crate) fn row<'a, S: EventSink>(
         &mut self,
         alloc: Global,

@@ -15,7 +15,8 @@ use crate::scalar::truth;
 use script_grammar::{Expr, ProductPart, SumPart};
 
 /// The integer that the expression is, where it is a number, a variable that holds one, or a calculation of plain operands. Otherwise, and where a fault is
-/// met, there is none.
+/// met, there is none. The first two take no call.
+#[inline(always)]
 pub(crate) fn plain(env: &Environment, places: &[u16], e: &Expr) -> Option<i64>
     requires { FindsExpression places.now env.now e.now }
     ensures { IfSome result (λ n. value_of e.now env.now.variables ≡ Ok (Int n)) }
@@ -23,6 +24,17 @@ pub(crate) fn plain(env: &Environment, places: &[u16], e: &Expr) -> Option<i64>
     match e {
         Expr::Number(number) => Some(number.value),
         Expr::Var(name) => env.integer_of(places, name),
+        _ => calculated(env, places, e),
+    }
+}
+
+/// The same of a calculation of plain operands.
+#[inline(never)]
+fn calculated(env: &Environment, places: &[u16], e: &Expr) -> Option<i64>
+    requires { FindsExpression places.now env.now e.now }
+    ensures { IfSome result (λ n. value_of e.now env.now.variables ≡ Ok (Int n)) }
+{
+    match e {
         Expr::Sum(first, rest) => {
             if rest.as_slice().is_empty() {
                 return None;

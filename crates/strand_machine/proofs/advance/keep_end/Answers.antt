@@ -10,5 +10,5 @@ returns-clause-holds c =
     let f = c.args.parts.now.body.family in
     let e = c.end-ended in
     let can = subst (IsAnswer f.plan f.origin c.args.parts.now.body.trace.prefix) (sym e.ensures.ended) c.requires.can in
-    holds-end _ e.result _ c.set.ensures (subst (λ (es : List Event). IsAnswer f.plan f.origin es e.result) (sym e.ensures.prefix) can)
+    holds-end _ e.result _ c.set_work.ensures (subst (λ (es : List Event). IsAnswer f.plan f.origin es e.result) (sym e.ensures.prefix) can)
     (subst (IsByFaultOf f.plan) (sym e.ensures.ended) c.requires.known) refl

@@ -16,7 +16,7 @@ returns-clause-short c =
     let after = record b { trace = c.take_fault.new.self; waiting = false } in
     let ended = c.end_of.ensures ∙ ap (λ (f : Option Fault). end_of f c.args.heard.now.by_cut) c.take_fault.ensures.fault in
     let trace = c.take_fault.ensures.rest ∙ ap (λ (ps : List AwaitedChild). record { prefix = b.trace.prefix; fault = None; handed = ps }) c.requires.handed in
-    rw c.set.ensures (short-view b.family (merge_of c.args.parts.now c.args.heard.now) b.advanced c.in-Some.outcome c.end_of.result ended c.in-Some.is after refl trace refl refl)
+    rw c.set_work.ensures (short-view b.family (merge_of c.args.parts.now c.args.heard.now) b.advanced c.in-Some.outcome c.end_of.result ended c.in-Some.is after refl trace refl refl)
 
 pub returns-clause-holds : goal.returns-clause-holds
 returns-clause-holds c =
@@ -24,4 +24,4 @@ returns-clause-holds c =
     let after = record b { trace = c.take_fault.new.self; waiting = false } in
     let ended = c.end_of.ensures ∙ ap (λ (f : Option Fault). end_of f c.args.heard.now.by_cut) c.take_fault.ensures.fault in
     let trace = c.take_fault.ensures.rest ∙ ap (λ (ps : List AwaitedChild). record { prefix = b.trace.prefix; fault = None; handed = ps }) c.requires.handed in
-    rw c.set.ensures (short-holds b.family (merge_of c.args.parts.now c.args.heard.now) c.requires.ends c.in-Some.outcome c.end_of.result ended c.in-Some.is after refl trace refl)
+    rw c.set_work.ensures (short-holds b.family (merge_of c.args.parts.now c.args.heard.now) c.requires.ends c.in-Some.outcome c.end_of.result ended c.in-Some.is after refl trace refl)
