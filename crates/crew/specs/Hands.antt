@@ -71,8 +71,7 @@ HasEnded t = (answer : AnswerView) × (give : AnswerTag) × AdvancesTo t (stop.D
 abbrev pub HasPut : TaskView → Turn → Type 0
 HasPut t turn = HasEnded t × IsAnswered (tag t.task.plan t.task.origin) turn
 
--- The task is cut, and nothing of it was done: a fault of its plan stands before its path, and before that of each loop that it is a part of
--- or below.
+-- The task is cut, and nothing of it was done: a fault of its plan stands before all that its origin answers for.
 abbrev pub MayBeCut : TaskView → Type 0
 MayBeCut t = (by : Fault) × (t.task.advanced ≡ false) × IsCut t.task.plan t.task.origin by
 

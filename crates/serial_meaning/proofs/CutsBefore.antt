@@ -1,4 +1,3 @@
 pub mod Before
 pub mod Earlier
-pub mod Loops
 pub mod Whole

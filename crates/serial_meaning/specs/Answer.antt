@@ -1,11 +1,9 @@
 -- Answers of origins: what an instance or a loop gives, whoever runs it (docs/LANGUAGE.md, "The serial elision" and "Tasks").
-use Rattle.std.specs.Prelude.{◌≡◌, ◌++◌, ℕ, ℤ, List, Result, Ok, Err, Contains}
+use Rattle.std.specs.Prelude.{◌≡◌, ◌≤◌, ◌<◌, ◌++◌, ℕ, List, [], ◌∷◌, Result, Ok, Err, Contains}
 use Rattle.ped_path.specs.Path.{IsBefore}
-use Rattle.loop_range.specs.Range.{Range}
 use Rattle.serial_meaning.specs.Plan.{PlanView}
-use Rattle.serial_meaning.specs.Eval.{first_of, path_of, eval}
+use Rattle.serial_meaning.specs.Eval.{first_of, eval}
 use Rattle.serial_meaning.specs.Open.{faults}
-use Rattle.serial_meaning.specs.Laws.{IsOriginOf}
 use Rattle.serial_meaning.specs.declared.value.Value.{Value}
 use Rattle.serial_meaning.specs.declared.event.Event.{Event}
 use Rattle.serial_meaning.specs.declared.event.Fault.{Fault}
@@ -37,17 +35,20 @@ pub record IsEval (plan : PlanView) (origin : Origin) (out : List Event) (ended 
   pub events : out ≡ (eval plan origin).items
   pub ends : ended ≡ outcome_of origin (eval plan origin).ending
 
--- the path of a loop's origins, which all its parts share
-abbrev pub IsLoopPath : PlanView → List ℕ → Type 0
-IsLoopPath plan path = (function : ℕ) × (rest : List Value) × (first : ℤ) × (range : Range) × IsOriginOf plan (Loop function rest first path range)
+-- The pedigrees that an origin answers for: those that begin with an instance's path, or with that of one of these iterations of a loop.
+abbrev pub AnswersFor : Origin → List ℕ → Type 0
+AnswersFor (Instance function args path) j = (more : List ℕ) × (j ≡ path ++ more)
+AnswersFor (Loop function rest first path range) j = (k : ℕ) × (more : List ℕ) × (j ≡ path ++ k ∷ more) × (range.lo ≤ k) × (k < range.hi)
 
--- A fault of the plan by which an origin may be cut. It stands before the origin's path, and so before every pedigree that begins with
--- it. It also stands before the path of each loop that the origin is a part of or below: a fault in one part of a loop cuts nothing that
--- only another part answers for.
+-- where they begin: an instance's path, or that of a loop's first iteration
+abbrev pub start_of : Origin → List ℕ
+start_of (Instance function args path) = path
+start_of (Loop function rest first path range) = path ++ range.lo ∷ []
+
+-- A fault of the plan by which an origin may be cut: it stands before all that the origin answers for.
 pub record IsCut (plan : PlanView) (origin : Origin) (by : Fault) : Type 0 where
   pub known : Contains (faults plan) by
-  pub before : IsBefore by.at (path_of origin)
-  pub loops : (path more : List ℕ) → path ++ more ≡ path_of origin → IsLoopPath plan path → IsBefore by.at path
+  pub before : IsBefore by.at (start_of origin)
 
 -- What an answer may say: the origin's serial meaning, or a cut.
 abbrev pub IsAnswer : PlanView → Origin → List Event → Outcome → Type 0

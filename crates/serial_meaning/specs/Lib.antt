@@ -6,7 +6,6 @@ pub mod Examples
 pub mod Exec
 pub mod Functions
 pub mod Laws
-pub mod Loops
 pub mod Names
 pub mod Open
 pub mod Plan

@@ -1,7 +1,6 @@
 //! Laws of the meaning, each the contract of a function that does nothing. A proof that wants a law calls it.
 
-ghost use Rattle.serial_meaning.specs.Cuts.{BeforeLasts, CutsStandBefore, MainIsNotCut, PathsAreOfOneKind, WholeAnswersAreEvals};
-ghost use Rattle.serial_meaning.specs.Loops.{BeforeFront, ChildrenKnowLoops, CutsAreTold, LoopsLast, MainIsUnlooped};
+ghost use Rattle.serial_meaning.specs.Cuts.{CutsStandBefore, MainIsNotCut, WholeAnswersAreEvals};
 ghost use Rattle.serial_meaning.specs.Laws.{DrawsAreDotMix, ElisionHasEquations, FaultIsLeast, LoopsEndAlike, OpenTreeHasEquations, OriginsEndWithinFaults, PedigreesRise, ValuesDependOnNames};
 
 /// What statements do, in the serial elision, is the first and then the others, blocks and calls by the same meaning: the equations
@@ -58,42 +57,7 @@ pub fn main_is_not_cut()
     ensures { MainIsNotCut }
 {}
 
-/// The fault by which an origin is cut stands before every pedigree that begins with the origin's path.
+/// The fault by which an origin is cut stands before every pedigree that the origin answers for.
 pub fn cuts_stand_before()
     ensures { CutsStandBefore }
-{}
-
-/// What stands before a path stands before each that begins with it.
-pub fn before_lasts()
-    ensures { BeforeLasts }
-{}
-
-/// The path of an instance is no loop's, so a child's path is a loop's only where the child is a loop.
-pub fn paths_are_of_one_kind()
-    ensures { PathsAreOfOneKind }
-{}
-
-/// No loop stands before `main`.
-pub fn main_is_unlooped()
-    ensures { MainIsUnlooped }
-{}
-
-/// Which loop before a parent is the outermost one tells it of a child.
-pub fn children_know_loops()
-    ensures { ChildrenKnowLoops }
-{}
-
-/// The outermost loop of what stands below it is that one.
-pub fn loops_last()
-    ensures { LoopsLast }
-{}
-
-/// A fault of the plan cuts what has its outermost loop, or where there is none itself, after the fault.
-pub fn cuts_are_told()
-    ensures { CutsAreTold }
-{}
-
-/// A pedigree stands before what a path begins with exactly where it stands before the path and doesn't begin with that.
-pub fn before_front()
-    ensures { BeforeFront }
 {}

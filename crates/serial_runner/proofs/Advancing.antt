@@ -21,10 +21,9 @@ use Rattle.strand_meaning.proofs.TakenAnswers.Onward.{answers_keep_tasks}
 use Rattle.strand_meaning.proofs.NextStops.Stops.{stops_are_sound, stops_keep_origins}
 use Rattle.strand_machine.specs.Family.{tag, tags}
 use Rattle.strand_machine.specs.Faults.{is_fault, EndsByFault}
-use Rattle.strand_machine.specs.Loops.{is_root}
 use Rattle.strand_machine.specs.Parts.{awaited}
 use Rattle.strand_machine.specs.Stops.{IsStop, WentOn, answer_tags, any_cut, is_cut, went, went_on, view_on}
-use Rattle.strand_machine.specs.Tasks.{TaskView, fresh, fresh_with}
+use Rattle.strand_machine.specs.Tasks.{TaskView, fresh}
 use Rattle.strand_machine.specs.declared.stop.Stop as stops
 use Rattle.strand_machine.specs.declared.stop.Stop.TheVariants as stop
 use Rattle.serial_runner.specs.Stacks.{task_of, IsOpenTask, AreBelow, IsStack, root_of, tasks, IsAnswerOf, task_of_answer, with_answer, Follows, Closes, AdvancesTo}
@@ -97,12 +96,12 @@ pub root-same : (t u : Task) (fs : List OpenTask) → IsOf t u → IsOf (root_of
 root-same t u [] same = same
 root-same t u (f ∷ fs) same = (refl, refl)
 
-begun-open_task : (knows : Bool) (plan : PlanView) (o : Origin) → IsTask (start plan o) → IsOpenTask [] (record { task = fresh_with knows plan o; answers = [] })
-begun-open_task knows plan o is = record { task = is; idle = refl; goes_on = refl; whole = refl; answers = refl }
+begun-open_task : (plan : PlanView) (o : Origin) → IsTask (start plan o) → IsOpenTask [] (record { task = fresh plan o; answers = [] })
+begun-open_task plan o is = record { task = is; idle = refl; goes_on = refl; whole = refl; answers = refl }
 
 -- the stack of an origin's task alone
 pub begun_stack : (plan : PlanView) (o : Origin) (top : OpenTask) (below : List OpenTask) → IsTask (start plan o) → top ≡ record { task = fresh plan o; answers = [] } → below ≡ [] → IsStack (record { top = top; below = below })
-begun_stack plan o top below is e h = record { top = subst (IsOpenTask []) (sym e) (begun-open_task (is_root o) plan o is); below = subst (AreBelow (task_of top)) (sym h) tt }
+begun_stack plan o top below is e h = record { top = subst (IsOpenTask []) (sym e) (begun-open_task plan o is); below = subst (AreBelow (task_of top)) (sym h) tt }
 
 -- What is left of a sound stack, by the stop of its topmost task
 module _ (s : Stack) (is : IsStack s) where
@@ -119,7 +118,7 @@ module _ (s : Stack) (is : IsStack s) where
     abbrev to : Stop
     to = Spawn c rest.task
 
-    is-fresh : child ≡ fresh_with s.top.task.knows t.plan c
+    is-fresh : child ≡ fresh t.plan c
     is-fresh = at.keeps.0
 
     begun : child.task ≡ start t.plan c
@@ -128,8 +127,8 @@ module _ (s : Stack) (is : IsStack s) where
     with-child : IsSoundStop t to → KeepsOrigin t to → LeavesFewer t to → HandsStop t to → Follows s (record { top = open_task child []; below = open_task rest s.top.answers ∷ s.below })
     with-child sound same fewer hands = record {
       sound = record {
-        top = subst (λ (v : TaskView). IsOpenTask [] (open_task v [])) (sym is-fresh) (begun-open_task s.top.task.knows t.plan c (tasks_begin t.plan c sound.0 is.top.task.clear));
-        below = (ap (λ (u : Task). u.plan) begun ∙ sym same.0, record { task = sound.1; idle = fewer.1; goes_on = at.keeps.4; whole = is.top.whole; answers = answers }, below-same t rest.task s.below same is.below);
+        top = subst (λ (v : TaskView). IsOpenTask [] (open_task v [])) (sym is-fresh) (begun-open_task t.plan c (tasks_begin t.plan c sound.0 is.top.task.clear));
+        below = (ap (λ (u : Task). u.plan) begun ∙ sym same.0, record { task = sound.1; idle = fewer.1; goes_on = at.keeps.3; whole = is.top.whole; answers = answers }, below-same t rest.task s.below same is.below);
       };
       root = root-same t rest.task s.below same;
       stop = to;
@@ -165,7 +164,7 @@ module _ (s : Stack) (is : IsStack s) where
     gone-on : IsSoundStop t (Wait rest.task) → KeepsOrigin t (Wait rest.task) → Follows s (record { top = open_task (view_on rest) []; below = s.below })
     gone-on sound same = record {
       sound = record {
-        top = record { task = answers_keep_tasks rest.task sound; idle = refl; goes_on = at.keeps.3; whole = refl; answers = ap (λ (l : List AwaitedChild). tags rest.task.plan (awaited l)) (sym none) };
+        top = record { task = answers_keep_tasks rest.task sound; idle = refl; goes_on = at.keeps.2; whole = refl; answers = ap (λ (l : List AwaitedChild). tags rest.task.plan (awaited l)) (sym none) };
         below = below-same t (went_on rest) s.below same is.below;
       };
       root = root-same t (went_on rest) s.below same;

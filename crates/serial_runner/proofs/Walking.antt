@@ -121,7 +121,7 @@ module _ (plan : PlanView) (o : Origin) (j : List ℕ) (w : NodeWalk) (is : IsWa
           instance = is.instance;
           task = task.1;
           idle = less.1;
-          goes_on = noted.stop.keeps.4;
+          goes_on = noted.stop.keeps.3;
           plan_is = kept.0 ∙ is.plan_is;
           origin_is = kept.1 ∙ is.origin_is;
           observation = also is.observation noted.observation;
@@ -199,7 +199,7 @@ module _ (plan : PlanView) (o : Origin) (j : List ℕ) (w : NodeWalk) (is : IsWa
           instance = is.instance;
           task = answers_keep_tasks rest.task task;
           idle = refl;
-          goes_on = noted_wait.stop.keeps.3;
+          goes_on = noted_wait.stop.keeps.2;
           plan_is = kept.0 ∙ is.plan_is;
           origin_is = kept.1 ∙ is.origin_is;
           observation = also is.observation noted_wait.observation;

@@ -10,7 +10,6 @@ use Rattle.serial_meaning.proofs.origin.Origin.TheSendSync as origin_shared
 use Rattle.serial_meaning.specs.contracts.answer.Answer as answer
 use Rattle.serial_meaning.specs.contracts.answer_key.AnswerKey as key
 use Rattle.serial_meaning.specs.contracts.answer_key.AnswerTagged.TheImpl.{ghosts}
-use Rattle.strand_family.proofs.loops.Loops.TheSendSync as loops_shared
 use Rattle.strand_family.specs.contracts.family.Family as family
 use Rattle.strand_family.specs.contracts.family.Family.TheInside as family_inside
 
@@ -21,7 +20,7 @@ join_sends : IsSend (join.the_row answer.the_row key.the_row ghosts)
 join_sends = join_shared.the_send answer.the_row key.the_row ghosts answer_sends
 
 family_inside_sends : IsSend family_inside.the_row
-family_inside_sends = declared_send family_inside.the_type (shared_plan_sends, (origin_shared.the_send, (loops_shared.the_send, (give_sends, (join_sends, tt)))))
+family_inside_sends = declared_send family_inside.the_type (shared_plan_sends, (origin_shared.the_send, (give_sends, (join_sends, tt))))
 
 pub family_sends : IsSend family.the_row
 family_sends = view_send family_inside.the_row _ _ _ _ family_inside_sends

@@ -6,19 +6,18 @@ use Rattle.serial_meaning.specs.Answer.{AnswerTag}
 use Rattle.serial_meaning.specs.Plan.{PlanView}
 use Rattle.serial_meaning.specs.declared.origin.Origin.{Origin}
 
--- Whether the loops on the origin's path are known; the origins of all children handed out, in order, and of which of them the answer was
--- taken; whether all were found to have answered; and the numbers that looks have loaded.
+-- The origins of all children handed out, in order, and of which of them the answer was taken; whether all were found to have answered; and
+-- the numbers that looks have loaded.
 pub record FamilyView : Type 0 where
   pub plan : PlanView
   pub origin : Origin
-  pub knows : Bool
   pub children : List Origin
   pub taken : List Bool
   pub ready : Bool
   pub loads : List ℕ
 
-abbrev pub alone : PlanView → Origin → Bool → FamilyView
-alone plan o knows = record { plan = plan; origin = o; knows = knows; children = []; taken = []; ready = true; loads = [] }
+abbrev pub alone : PlanView → Origin → FamilyView
+alone plan o = record { plan = plan; origin = o; children = []; taken = []; ready = true; loads = [] }
 
 abbrev pub tag : PlanView → Origin → AnswerTag
 tag plan o = record { plan = plan; origin = o }

@@ -1,3 +1,2 @@
 pub mod Family
-pub mod Loops
 pub mod Origins

@@ -3,21 +3,19 @@ ghost use Rattle.std.specs.Arc.{arc_value};
 ghost use Rattle.serial_meaning.specs.Answer.{IsAnswer};
 ghost use Rattle.strand_family.specs.Family.{tag, handed, Looked};
 
-use crate::loops::Loops;
 use crate::memory::Memory;
+use crate::start::stands_before;
 use meet_block::{Give, Join, Look};
 use serial_meaning::{Answer, AnswerKey, Fault, Origin, Out, Outcome, Plan};
 use std::alloc::Global;
 use std::marker::Model;
 use std::sync::Arc;
 
-/// What ties a task to others: its plan and origin, what is known of the loops on the origin's path, the give by which it answers its
-/// parent, and the join of its children.
+/// What ties a task to others: its plan and origin, the give by which it answers its parent, and the join of its children.
 #[derive(Drop)]
 pub struct Family {
     plan: Arc<Plan>,
     origin: Origin,
-    loops: Loops,
     give: Give<Answer>,
     join: Join<Answer>,
 }
@@ -28,7 +26,6 @@ impl Model for Family {
     ghost use Rattle.std.specs.Coded.{codes};
     ghost use Rattle.serial_meaning.specs.contracts.plan.Plan as plan_type;
     ghost use Rattle.strand_family.specs.Family.{FamilyView, tag, tags, origins};
-    ghost use Rattle.strand_family.specs.Loops.{IsLoops, knows_of};
 
     ghost Value = { FamilyView };
 
@@ -37,7 +34,6 @@ impl Model for Family {
     ghost view = { λ f. record {
       plan = arc_value f.plan;
       origin = f.origin;
-      knows = knows_of f.loops;
       children = origins f.join.tags;
       taken = f.join.taken;
       ready = f.join.ready;
@@ -45,28 +41,24 @@ impl Model for Family {
     } };
 
     ghost invariant = { λ f. (f.give ≡ tag (arc_value f.plan) f.origin)
-        × (f.join.tags ≡ tags (arc_value f.plan) (origins f.join.tags))
-        × IsLoops (arc_value f.plan) f.origin f.loops };
+        × (f.join.tags ≡ tags (arc_value f.plan) (origins f.join.tags)) };
 }
 
 impl Family {
     ghost use Rattle.std.specs.Prelude.{◌↔◌, IsTrue};
-    ghost use Rattle.serial_meaning.specs.Laws.{IsOriginOf};
+    ghost use Rattle.ped_path.specs.Path.{IsBefore};
+    ghost use Rattle.serial_meaning.specs.Answer.{start_of};
     ghost use Rattle.strand_family.specs.Family.{FamilyView, alone};
-    ghost use Rattle.serial_meaning.specs.Loops.{IsHandedFor};
-    ghost use Rattle.strand_family.specs.Loops.{IsLoops, StandsBefore, knows_of};
 
     /// A task's family before it has children. It takes no memory yet.
     pub fn new(
         alloc: Global,
         plan: Arc<Plan>,
         origin: Origin,
-        loops: Loops,
         give: Give<Answer>,
     ) -> Result<Family, Memory>
-        requires give { give ≡ tag (arc_value plan) origin }
-        requires loops { IsLoops (arc_value plan) origin loops }
-        ensures { IfOk result (λ family. family ≡ alone (arc_value plan) origin (knows_of loops)) }
+        requires { give ≡ tag (arc_value plan) origin }
+        ensures { IfOk result (λ family. family ≡ alone (arc_value plan) origin) }
     {
         // Who runs a task for whose value nobody looks takes the values of its children by himself, too.
         let join = if give.is_alone() {
@@ -77,7 +69,6 @@ impl Family {
         Ok(Family {
             plan,
             origin,
-            loops,
             give,
             join,
         })
@@ -112,22 +103,11 @@ impl Family {
         self.plan = plan;
     }
 
-    /// What a child knows of the loops on its path.
-    pub fn loops_below(&self, child: &Origin) -> Loops
-        requires own { IsOriginOf self.now.plan self.now.origin }
-        requires known { IsOriginOf self.now.plan child.now }
-        requires below { IsHandedFor self.now.plan self.now.origin child.now }
-        ensures are { IsLoops self.now.plan child.now result }
-        ensures knows { knows_of result ≡ self.now.knows }
-    {
-        self.loops.below(child)
-    }
-
-    /// Whether it is known that the fault stands before the origin's path, and before the path of each loop on it.
+    /// Whether the fault stands before all that the origin answers for.
     pub fn stands_after(&self, by: &Fault) -> bool
-        ensures { IsTrue result ↔ (IsTrue self.now.knows × StandsBefore self.now.plan self.now.origin by.now) }
+        ensures { IsTrue result ↔ IsBefore by.now.at (start_of self.now.origin) }
     {
-        self.loops.stand_after(&self.origin, by)
+        stands_before(&by.at, &self.origin)
     }
 
     /// What the task was begun as.

@@ -11,7 +11,6 @@ use Rattle.strand_moves.specs.Machines.{machine_of}
 use Rattle.strand_moves.specs.Moves.{ShowsTrail, effects_of}
 use Rattle.strand_moves.specs.declared.instance.Instance.{Instance}
 use Rattle.strand_moves.specs.declared.effects.Effects.{Effects}
-use Rattle.strand_machine.specs.Loops.{IsHandedFor}
 use Rattle.strand_machine.specs.Tasks.{RunsAt, AwaitsLast, task_with}
 use Rattle.strand_machine.specs.declared.body.Body.{Body}
 
@@ -25,15 +24,10 @@ abbrev pub IsKnownChild : PlanView → Option Origin → Type 0
 IsKnownChild plan None = Unit {0}
 IsKnownChild plan (Some o) = IsOriginOf plan o
 
-abbrev pub IsHandedChild : PlanView → Origin → Option Origin → Type 0
-IsHandedChild plan o None = Unit {0}
-IsHandedChild plan o (Some child) = IsHandedFor plan o child
-
--- That task is sound, and its child, if any, an origin of the plan with its trail, and one that is handed out for the task's own origin.
+-- That task is sound, and its child, if any, an origin of the plan with its trail.
 pub record HasSoundEffects (b : Body) (i : Instance) (s : Effects) : Type 0 where
   pub task : IsTask (task_after_effects b i s)
   pub child : IsKnownChild b.family.plan (child_in (effects_of s))
-  pub handed : IsHandedChild b.family.plan b.family.origin (child_in (effects_of s))
   pub family : AwaitsLast b.family b.trace.handed
   pub runs : RunsAt b.family.plan (path_of (own_instance b.family.origin)) i
   pub trail : ShowsTrail b.family.plan s

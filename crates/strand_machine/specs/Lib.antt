@@ -3,7 +3,6 @@ pub mod Eyes
 pub mod Family
 pub mod Faults
 pub mod Merge
-pub mod Loops
 pub mod Made
 pub mod Noted
 pub mod Parts

@@ -30,7 +30,6 @@ pub record LeadsTo (first now : TaskView) : Type 0 where
   pub origin : now.task.origin ≡ first.task.origin
   pub children : now.children ≡ first.children
   pub loads : now.loads ≡ first.loads
-  pub knows : now.knows ≡ first.knows
   pub cut : now.cut ≡ None
 
 -- Moves of a task in a row, and the next move or stop after them.

@@ -140,7 +140,6 @@ pub record IsShort (family : FamilyView) (g : Merge) (was_advanced : Bool) (next
   pub cut : next.cut ≡ ended_of g
   pub children : next.children ≡ family.children
   pub loads : next.loads ≡ family.loads
-  pub knows : next.knows ≡ family.knows
 
 -- what origins give by the serial meaning
 abbrev pub meanings : List AnswerTag → List Evaluation

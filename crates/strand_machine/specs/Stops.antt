@@ -14,7 +14,7 @@ use Rattle.strand_machine.specs.Family.{tag, HasPassed, HasStopped}
 use Rattle.serial_meaning.specs.declared.answer.Outcome.{Outcome}
 use Rattle.serial_meaning.specs.declared.answer.Outcome.TheVariants as outcome
 use Rattle.serial_meaning.specs.declared.event.Event.{Event}
-use Rattle.strand_machine.specs.Tasks.{TaskView, fresh_with}
+use Rattle.strand_machine.specs.Tasks.{TaskView, fresh}
 use Rattle.strand_machine.specs.declared.stop.Stop.{Stop}
 use Rattle.strand_machine.specs.declared.stop.Paused.{Paused}
 use Rattle.strand_machine.specs.declared.stop.Paused.TheVariants as paused
@@ -33,17 +33,16 @@ abbrev pub step_of : MoveOrStop → meaning.MoveOrStop
 step_of (step.Passes next) = meaning.Passes next.task
 step_of (step.Stops stop) = meaning.Stops (stop_of stop)
 
--- A child is a fresh task of the plan, which knows of the loops on its path where the task does, and its origin is the last of those that
--- the rest handed out. An answer is the origin's, and so is the give.
+-- A child is a fresh task of the plan, and its origin is the last of those that the rest handed out. An answer is the origin's, and so is
+-- the give.
 abbrev pub Keeps : TaskView → Stop → Type 0
 Keeps t (stop.Spawn child rest) =
-    (child ≡ fresh_with t.knows t.task.plan child.task.origin) × (rest.children ≡ t.children ++ child.task.origin ∷ []) × (rest.loads ≡ t.loads)
-    × (rest.knows ≡ t.knows) × (rest.cut ≡ None)
-Keeps t (stop.Wait rest) = (rest.children ≡ t.children) × (rest.loads ≡ t.loads) × (rest.knows ≡ t.knows) × (rest.cut ≡ None)
+    (child ≡ fresh t.task.plan child.task.origin) × (rest.children ≡ t.children ++ child.task.origin ∷ []) × (rest.loads ≡ t.loads) × (rest.cut ≡ None)
+Keeps t (stop.Wait rest) = (rest.children ≡ t.children) × (rest.loads ≡ t.loads) × (rest.cut ≡ None)
 Keeps t (stop.Done answer give) = (answer.plan ≡ t.task.plan) × (answer.origin ≡ t.task.origin) × (give ≡ tag t.task.plan t.task.origin)
 
 abbrev pub KeepsStep : TaskView → MoveOrStop → Type 0
-KeepsStep t (step.Passes next) = (next.children ≡ t.children) × (next.loads ≡ t.loads) × (next.knows ≡ t.knows) × (next.cut ≡ None)
+KeepsStep t (step.Passes next) = (next.children ≡ t.children) × (next.loads ≡ t.loads) × (next.cut ≡ None)
 KeepsStep t (step.Stops stop) = Keeps t stop
 
 -- The next move or stop of a task.
@@ -117,17 +116,16 @@ pub record IsCutOn (answers : List AnswerView) (t next : TaskView) : Type 0 wher
   pub advanced : next.task.advanced ≡ t.task.advanced
   pub cut : next.cut ≡ ended_after (by_fault t.task.trace.fault) answers
   pub children : next.children ≡ t.children
-  pub knows : next.knows ≡ t.knows
 
 abbrev pub resumes : Bool → List AnswerView → TaskView → TaskView → Type 0
-resumes false answers t next = (next.task ≡ went_on t) × (next.children ≡ t.children) × (next.knows ≡ t.knows) × (next.cut ≡ None)
+resumes false answers t next = (next.task ≡ went_on t) × (next.children ≡ t.children) × (next.cut ≡ None)
 resumes true answers t next = IsCutOn answers t next
 
 -- The wait is over, and the task took these answers of its children; or it is as it was, and a look has loaded a number that isn't 0.
 abbrev pub IsResumed : TaskView → Resumed → Type 0
 IsResumed t (resumed.On next) =
     (answers : List AnswerView) × AreAnswersOf t.task.plan t.task.trace.handed answers × resumes (any_cut answers) answers t next × HasPassed t.loads next.loads
-IsResumed t (resumed.NotYet same) = (same.task ≡ t.task) × (same.children ≡ t.children) × HasStopped t.loads same.loads × (same.knows ≡ t.knows) × (same.cut ≡ t.cut)
+IsResumed t (resumed.NotYet same) = (same.task ≡ t.task) × (same.children ≡ t.children) × HasStopped t.loads same.loads × (same.cut ≡ t.cut)
 
 abbrev pub answer_tags : List AnswerView → List AnswerTag
 answer_tags [] = []

@@ -19,7 +19,6 @@ use Rattle.strand_moves.specs.Machines as moves
 use Rattle.strand_moves.specs.Moves.{IsTrailOf}
 use Rattle.strand_moves.specs.declared.instance.Instance.{Instance}
 use Rattle.strand_machine.specs.Family.{FamilyView, handed}
-use Rattle.strand_machine.specs.Loops.{is_root}
 use Rattle.strand_machine.specs.Parts.{awaited, destination_of}
 use Rattle.strand_machine.specs.declared.body.Body.{Body}
 use Rattle.strand_machine.specs.declared.destination.Destination.{Destination}
@@ -29,22 +28,17 @@ use Rattle.strand_machine.specs.declared.work.Work.{Work}
 use Rattle.strand_machine.specs.declared.work.Work.TheVariants as work
 
 -- A task as contracts see it: what it is by its meaning, the origins of all children that it handed out, in order, and the numbers that
--- looks at their join have loaded; whether it knows of the loops on its path; and of a task that took a cut for an answer, or that has ended and
--- still has its answer, how it ends. Such a task isn't finished: of its meaning its plan and origin count, and its own events.
+-- looks at their join have loaded; and of a task that took a cut for an answer, or that has ended and still has its answer, how it ends.
+-- Such a task isn't finished: of its meaning its plan and origin count, and its own events.
 pub record TaskView : Type 0 where
   pub task : Task
   pub children : List Origin
   pub loads : List ℕ
-  pub knows : Bool
   pub cut : Option Outcome
 
--- a task of which nothing is done, which knows or doesn't
-abbrev pub fresh_with : Bool → PlanView → Origin → TaskView
-fresh_with knows plan o = record { task = start plan o; children = []; loads = []; knows = knows; cut = None }
-
--- one that nobody handed out
+-- a task of which nothing is done
 abbrev pub fresh : PlanView → Origin → TaskView
-fresh plan o = fresh_with (is_root o) plan o
+fresh plan o = record { task = start plan o; children = []; loads = []; cut = None }
 
 abbrev pub stage_of : PlanView → InstanceState → meaning.InstanceState
 stage_of plan (stage.Running i) = meaning.Running (moves.machine_of plan i)
@@ -85,7 +79,7 @@ abbrev pub task_of : Body → Work → Task
 task_of b w = task_with b (work_of b.family.plan w)
 
 abbrev pub view_of : Body → Work → TaskView
-view_of b w = record { task = task_of b w; children = b.family.children; loads = b.family.loads; knows = b.family.knows; cut = cut_of w }
+view_of b w = record { task = task_of b w; children = b.family.children; loads = b.family.loads; cut = cut_of w }
 
 -- The join's last tags are those of the children whose answers aren't taken.
 pub record AwaitsLast (family : FamilyView) (parts : List AwaitedChild) : Type 0 where

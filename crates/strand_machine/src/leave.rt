@@ -3,10 +3,9 @@ ghost use Rattle.std.specs.Prelude.{◌≡◌, IfOk, OnOk};
 ghost use Rattle.serial_meaning.specs.Laws.{IsOriginOf};
 ghost use Rattle.strand_moves.specs.Moves.{IsTrailOf};
 ghost use Rattle.strand_machine.specs.Family.{handed};
-ghost use Rattle.strand_machine.specs.Loops.{IsHandedFor};
 ghost use Rattle.strand_machine.specs.Made.{IsSoundMade, made};
 ghost use Rattle.strand_machine.specs.Stops.{IsStep};
-ghost use Rattle.strand_machine.specs.Tasks.{IsSound, view_of, fresh_with, gone, waiting, with_child};
+ghost use Rattle.strand_machine.specs.Tasks.{IsSound, view_of, fresh, gone, waiting, with_child};
 ghost use Rattle.strand_machine.specs.declared.stop.MoveOrStop.TheVariants as step;
 ghost use Rattle.strand_machine.specs.declared.stop.Stop.TheVariants as stop;
 ghost use Rattle.strand_machine.specs.declared.work.InstanceState.TheVariants as stage;
@@ -52,19 +51,16 @@ pub(crate) fn wait(parts: &mut Parts, work: Work) -> Passed
 
 /// Begins a child, and counts it among the family's. The key by which it is handed out is made of its own plan and origin.
 fn begin_child(family: &mut Family, alloc: Global, child: Child) -> Result<Task, Memory>
-    requires own { IsOriginOf family.old.plan family.old.origin }
     requires known { IsOriginOf family.old.plan child.origin }
     requires trail { IsTrailOf family.old.plan child.origin child.trail }
-    requires handed { IsHandedFor family.old.plan family.old.origin child.origin }
-    ensures child { IfOk result (λ task. task ≡ fresh_with family.old.knows family.old.plan child.origin) }
+    ensures child { IfOk result (λ task. task ≡ fresh family.old.plan child.origin) }
     ensures family { OnOk result (family.new ≡ handed family.old child.origin) }
 {
     let Child { origin, trail } = child;
-    let loops = family.loops_below(&origin);
     let plan = match family.share_plan() {
         Ok(plan) => plan,
         Err(memory) => {
-            drop((origin, trail, loops));
+            drop((origin, trail));
             return Err(memory.into());
         }
     };
@@ -72,12 +68,12 @@ fn begin_child(family: &mut Family, alloc: Global, child: Child) -> Result<Task,
     let give = match family.hand(alloc, &key) {
         Ok(give) => give,
         Err(memory) => {
-            drop((key, trail, loops));
+            drop((key, trail));
             return Err(memory.into());
         }
     };
     let AnswerKey { plan, origin } = key;
-    Task::begin(alloc, plan, Child { origin, trail }, loops, give)
+    Task::begin(alloc, plan, Child { origin, trail }, give)
 }
 
 /// Begins a child whose value goes to this place.
@@ -87,11 +83,9 @@ fn hand_out(
     child: Child,
     place: Destination,
 ) -> Result<Task, Memory>
-    requires own { IsOriginOf body.old.family.plan body.old.family.origin }
     requires known { IsOriginOf body.old.family.plan child.origin }
     requires trail { IsTrailOf body.old.family.plan child.origin child.trail }
-    requires handed { IsHandedFor body.old.family.plan body.old.family.origin child.origin }
-    ensures child { IfOk result (λ task. task ≡ fresh_with body.old.family.knows body.old.family.plan child.origin) }
+    ensures child { IfOk result (λ task. task ≡ fresh body.old.family.plan child.origin) }
     ensures body { OnOk result (body.new ≡ with_child body.old child.origin place) }
 {
     let shared = match share_origin(alloc, &child.origin) {
@@ -124,10 +118,9 @@ pub(crate) fn spawn(
 ) -> Result<Passed, Memory>
     requires known { IsOriginOf parts.old.body.family.plan child.origin }
     requires trail { IsTrailOf parts.old.body.family.plan child.origin child.trail }
-    requires handed { IsHandedFor parts.old.body.family.plan parts.old.body.family.origin child.origin }
     requires sound { IsSound (with_child parts.old.body child.origin place) work }
     ensures made { let b = parts.old.body in IfOk result (λ passed. made parts.new passed
-        ≡ step.Stops (stop.Spawn (fresh_with b.family.knows b.family.plan child.origin) (view_of (with_child b child.origin place) work))) }
+        ≡ step.Stops (stop.Spawn (fresh b.family.plan child.origin) (view_of (with_child b child.origin place) work))) }
     ensures sound { IfOk result (IsSoundMade parts.new) }
 {
     match hand_out(&mut parts.body, alloc, child, place) {

@@ -16,7 +16,7 @@ use serial_meaning::{Answer, Fault, Origin, Out, Outcome, Plan};
 use std::alloc::Global;
 use std::marker::Model;
 use std::sync::Arc;
-use strand_family::{Family, Loops};
+use strand_family::Family;
 use strand_meaning::laws;
 use strand_moves::Child;
 
@@ -44,11 +44,11 @@ impl Model for Task {
 
 impl Task {
     ghost use Rattle.std.specs.Prelude.{◌↔◌, IsTrue, [], false};
-    ghost use Rattle.serial_meaning.specs.Answer.{IsCut};
-    ghost use Rattle.strand_machine.specs.Loops.{IsLoops, StandsBefore, knows_of};
-    ghost use Rattle.strand_machine.specs.Tasks.{fresh, fresh_with};
+    ghost use Rattle.ped_path.specs.Path.{IsBefore};
+    ghost use Rattle.serial_meaning.specs.Answer.{IsCut, start_of};
+    ghost use Rattle.strand_machine.specs.Tasks.{fresh};
 
-    /// A task of an origin of which nothing is done yet. It knows of the loops on its path where that is empty.
+    /// A task of an origin of which nothing is done yet.
     pub fn start(
         alloc: Global,
         plan: Arc<Plan>,
@@ -59,25 +59,22 @@ impl Task {
         requires known { IsOriginOf (arc_value plan) origin }
         ensures { IfOk result (λ task. task ≡ fresh (arc_value plan) origin) }
     {
-        let loops = Loops::of(&origin);
         let trail = trail_of(&plan, &origin)?;
-        Task::begin(alloc, plan, Child { origin, trail }, loops, give)
+        Task::begin(alloc, plan, Child { origin, trail }, give)
     }
 
-    /// The same, where the trail of the origin's path is at hand, and what is known of the loops on it.
+    /// The same, where the trail of the origin's path is at hand.
     #[inline(always)]
     pub(crate) fn begin(
         alloc: Global,
         plan: Arc<Plan>,
         child: Child,
-        loops: Loops,
         give: Give<Answer>,
     ) -> Result<Task, Memory>
         requires give { give ≡ tag (arc_value plan) child.origin }
         requires known { IsOriginOf (arc_value plan) child.origin }
         requires trail { IsTrailOf (arc_value plan) child.origin child.trail }
-        requires loops { IsLoops (arc_value plan) child.origin loops }
-        ensures { IfOk result (λ task. task ≡ fresh_with (knows_of loops) (arc_value plan) child.origin) }
+        ensures { IfOk result (λ task. task ≡ fresh (arc_value plan) child.origin) }
     {
         laws::valid_plans_are_clear();
         laws::tasks_begin();
@@ -87,11 +84,11 @@ impl Task {
         let work = match begun_work(alloc, &plan, &origin, trail) {
             Ok(work) => work,
             Err(memory) => {
-                drop((plan, origin, loops, give));
+                drop((plan, origin, give));
                 return Err(memory);
             }
         };
-        let family = match Family::new(alloc, plan, origin, loops, give) {
+        let family = match Family::new(alloc, plan, origin, give) {
             Ok(family) => family,
             Err(memory) => {
                 drop(work);
@@ -138,10 +135,9 @@ impl Task {
         !self.parts.body.advanced
     }
 
-    /// Whether the fault stands before the task's path, and before the path of each loop that the task is a part of or below. It is false
-    /// too where the task doesn't know these loops.
+    /// Whether the fault stands before all that the task could do: before an instance's path, or before the path of a loop's first iteration.
     pub fn may_cut(&self, by: &Fault) -> bool
-        ensures { IsTrue result ↔ (IsTrue self.now.knows × StandsBefore self.now.task.plan self.now.task.origin by.now) }
+        ensures { IsTrue result ↔ IsBefore by.now.at (start_of self.now.task.origin) }
     {
         self.parts.body.family.stands_after(by)
     }

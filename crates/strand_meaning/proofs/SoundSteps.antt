@@ -5,5 +5,6 @@ pub mod Own
 pub mod Begun
 pub mod Steps
 pub mod Loops
+pub mod Passed
 pub mod Starts
 pub mod Ends

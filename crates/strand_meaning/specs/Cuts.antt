@@ -1,30 +1,19 @@
 -- What a task is once answers are taken of which one is a fault or a cut.
-use Rattle.std.specs.Prelude.{◌≡◌, List, [], ◌∷◌, ◌++◌, Option, Some, None, Result, Ok, Err, Contains}
+use Rattle.std.specs.Prelude.{◌≡◌, List, [], ◌∷◌, ◌++◌, Option, Some, None, Err, Contains}
 use Rattle.serial_meaning.specs.Plan.{PlanView}
-use Rattle.serial_meaning.specs.Eval.{Evaluation, eval}
+use Rattle.serial_meaning.specs.Eval.{eval}
 use Rattle.serial_meaning.specs.Open.{faults}
 use Rattle.serial_meaning.specs.Answer.{AnswerView, IsEval, IsCut, IsAnswer}
-use Rattle.serial_meaning.specs.declared.value.Value.{Value}
 use Rattle.serial_meaning.specs.declared.event.Fault.{Fault}
-use Rattle.serial_meaning.specs.declared.origin.Origin.{Origin}
 use Rattle.serial_meaning.specs.declared.answer.Outcome.{Outcome}
 use Rattle.serial_meaning.specs.declared.answer.Outcome.TheVariants as outcome
 use Rattle.strand_meaning.specs.Answers.{answer_evaluations}
 use Rattle.strand_meaning.specs.Trace.{AwaitedChild, Trace, heard_all}
 use Rattle.strand_meaning.specs.Sound.{IsTask}
 use Rattle.strand_meaning.specs.Task.{Task}
-use Rattle.strand_meaning.specs.Rest.{evaluations}
+use Rattle.strand_meaning.specs.Rest.{GaveValues, evaluations}
 
 -- One child
-
-abbrev pub GaveValue : Result (List Value) Fault → Type 0
-GaveValue (Ok vs) = Unit {0}
-GaveValue (Err f) = ⊥
-
--- the evaluations of these children are values
-abbrev pub GaveValues : (Origin → Evaluation) → List AwaitedChild → Type 0
-GaveValues child [] = Unit {0}
-GaveValues child (p ∷ ps) = GaveValue (child p.child).ending × GaveValues child ps
 
 -- what a task has heard once these children have answered by their evaluations
 abbrev pub heard_of : Task → List AwaitedChild → Trace

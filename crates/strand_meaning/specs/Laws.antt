@@ -7,7 +7,6 @@ use Rattle.serial_meaning.specs.Plan.{PlanView}
 use Rattle.serial_meaning.specs.Eval.{eval}
 use Rattle.serial_meaning.specs.Open.{faults}
 use Rattle.serial_meaning.specs.Laws.{IsOriginOf}
-use Rattle.serial_meaning.specs.Loops.{IsHandedFor}
 use Rattle.serial_meaning.specs.Answer.{IsEval}
 use Rattle.serial_meaning.specs.declared.value.Value.{Value}
 use Rattle.serial_meaning.specs.declared.event.Event.{Event}
@@ -42,7 +41,7 @@ IsFaultOf plan (outcome.Cut f) = ⊥
 
 -- what a stop gives is sound, and an end is the origin's evaluation
 abbrev pub IsSoundStop : Task → Stop → Type 0
-IsSoundStop t (Spawn child rest) = IsOriginOf t.plan child × IsTask rest × IsHandedFor t.plan t.origin child
+IsSoundStop t (Spawn child rest) = IsOriginOf t.plan child × IsTask rest
 IsSoundStop t (Wait rest) = IsTask rest
 IsSoundStop t (End out ended) = IsEval t.plan t.origin out ended × IsFaultOf t.plan ended
 

@@ -29,6 +29,15 @@ abbrev pub evaluations : (Origin → Evaluation) → List AwaitedChild → List 
 evaluations child [] = []
 evaluations child (p ∷ ps) = child p.child ∷ evaluations child ps
 
+abbrev pub GaveValue : Result (List Value) Fault → Type 0
+GaveValue (Ok vs) = Unit {0}
+GaveValue (Err f) = ⊥
+
+-- the evaluations of these children are values
+abbrev pub GaveValues : (Origin → Evaluation) → List AwaitedChild → Type 0
+GaveValues child [] = Unit {0}
+GaveValues child (p ∷ ps) = GaveValue (child p.child).ending × GaveValues child ps
+
 -- What remains of an instance, with its children's evaluations in place of their answers
 
 module _ (plan : PlanView) (child : Origin → Evaluation) (path : List ℕ) where

@@ -11,6 +11,7 @@ use Rattle.serial_meaning.specs.Eval.{path_of, eval}
 use Rattle.serial_meaning.specs.Open.{Item, Own, ChildFaulted, opened}
 use Rattle.serial_meaning.specs.Laws.{IsOriginOf, places}
 use Rattle.serial_meaning.specs.declared.event.Event.{Event}
+use Rattle.serial_meaning.specs.declared.event.Fault.{Fault}
 use Rattle.serial_meaning.specs.declared.origin.Origin.{Origin}
 use Rattle.serial_meaning.specs.declared.origin.Origin.TheVariants.{Instance, Loop}
 use Rattle.strand_meaning.specs.Clear.{IsApart, IsClear, IsClearPlan, target_names}
@@ -18,7 +19,7 @@ use Rattle.strand_meaning.specs.Machine.{Destination, Spawned, Looped, Half, Lev
 use Rattle.strand_meaning.specs.Trace.{AwaitedChild}
 use Rattle.strand_meaning.specs.Pending.{ArePending, ArePendingStill, IsCall, IsSync, IsPfor}
 use Rattle.strand_meaning.specs.Task.{InstanceState, Running, AtSync, AtLoop, Ended, Work, Splits, Runs, Over, Task, own_instance}
-use Rattle.strand_meaning.specs.Rest.{children_of, rest_open, finish}
+use Rattle.strand_meaning.specs.Rest.{GaveValues, children_of, rest_open, finish}
 
 -- Unfilled variables
 
@@ -185,16 +186,37 @@ IsSoundWork plan o parts (Over v false) = IsLoop o × AreHalves parts
 
 -- Children as they were handed out
 
--- A half of the task's loop has its path. Any other child's path is that of a strand of the task's own instance, in a scope or outside of all,
--- and stands among these events as the one by which the child was spawned or begun.
-abbrev pub IsShownBy : Origin → List Event → AwaitedChild → Type 0
-IsShownBy o events p =
-    (IsHalf p.place × (path_of p.child ≡ path_of o)) ⊎ ((rank : ℕ) × (more : List ℕ) × (path_of p.child ≡ path_of (own_instance o) ++ rank ∷ more) × Contains (places events) (path_of p.child))
+-- A part of the task's loop, which begins with one of its iterations. Where the children before it give values, so does each iteration before it: a fault
+-- by which the loop then ends stands at the part or after it.
+abbrev pub IsPartAfter : PlanView → Origin → List AwaitedChild → Origin → Type 0
+IsPartAfter plan (Instance function args path) front child = ⊥
+IsPartAfter plan (Loop function rest first path range) front child =
+    (from to : ℕ) × (from < range.hi) × (child ≡ Loop function rest first path (record { lo = from; hi = to }))
+    × (GaveValues (eval plan) front → (f : Fault) → (eval plan (Loop function rest first path range)).ending ≡ Err f → (k : ℕ) × (more : List ℕ) × (f.at ≡ path ++ k ∷ more) × (from ≤ k))
 
--- the first is shown by these events, and each other by those between it and the child before it
-abbrev pub AreShownBy : Origin → List Event → List AwaitedChild → Type 0
-AreShownBy o events [] = Unit {0}
-AreShownBy o events (p ∷ ps) = IsShownBy o events p × AreShownBy o p.after ps
+-- a child that is a loop has all of its iterations
+abbrev pub IsUndivided : Origin → Type 0
+IsUndivided (Instance function args path) = Unit {0}
+IsUndivided (Loop function rest first path range) = range.lo ≡ 0
+
+-- The path of a child of the task's own instance is that of a strand of the instance, in a scope or outside of all, and stands among these
+-- events as the one by which the child was spawned or begun.
+pub record IsBegunBy (o : Origin) (events : List Event) (child : Origin) : Type 0 where
+  pub rank : ℕ
+  pub more : List ℕ
+  pub at : path_of child ≡ path_of (own_instance o) ++ rank ∷ more
+  pub whole : IsUndivided child
+  pub event : Contains (places events) (path_of child)
+
+abbrev pub IsShownAs : Destination → PlanView → Origin → List AwaitedChild → List Event → Origin → Type 0
+IsShownAs (Spawned owner target) plan o front events child = IsBegunBy o events child
+IsShownAs (Looped target) plan o front events child = IsBegunBy o events child
+IsShownAs Half plan o front events child = IsPartAfter plan o front child
+
+-- After these children, the first is shown by these events, and each other by those between it and the child before it.
+abbrev pub AreShownBy : PlanView → Origin → List AwaitedChild → List Event → List AwaitedChild → Type 0
+AreShownBy plan o front events [] = Unit {0}
+AreShownBy plan o front events (p ∷ ps) = IsShownAs p.place plan o front events p.child × AreShownBy plan o (front ++ p ∷ []) p.after ps
 
 -- The invariant: to finish a task gives the evaluation of its origin; and what is unfilled of it is pending, where it stands.
 pub record IsTask (t : Task) : Type 0 where
@@ -202,6 +224,6 @@ pub record IsTask (t : Task) : Type 0 where
   pub known : IsOriginOf t.plan t.origin
   pub clear : IsClearPlan t.plan
   pub parts : AreParts t.plan t.origin t.trace.handed
-  pub shown : t.trace.fault ≡ None → AreShownBy t.origin t.trace.prefix t.trace.handed
+  pub shown : t.trace.fault ≡ None → AreShownBy t.plan t.origin [] t.trace.prefix t.trace.handed
   pub work : IsSoundWork t.plan t.origin t.trace.handed t.work
   pub pending : UnfilledArePendingIn t.plan t.trace.handed t.work

@@ -1,5 +1,5 @@
 -- Where tasks stop, by the laws of tasks.
-use Rattle.std.proofs.Common.{◌≡◌, Bool, List, [], ◌∷◌, Option, None, length, get_or, refl, sym, ap, ap₂, ◌∙◌, subst, arith}
+use Rattle.std.proofs.Common.{◌≡◌, List, [], ◌∷◌, Option, None, length, get_or, refl, sym, ap, ap₂, ◌∙◌, subst, arith}
 use Rattle.serial_meaning.specs.Answer.{AnswerView, AnswerTag}
 use Rattle.serial_meaning.specs.Eval.{main_origin}
 use Rattle.serial_meaning.specs.Laws.{IsOriginOf, Main}
@@ -13,9 +13,8 @@ use Rattle.strand_meaning.proofs.SoundSteps.Ends.{tasks_begin}
 use Rattle.strand_meaning.proofs.NextStops.Fewer.{stops_fall}
 use Rattle.strand_meaning.proofs.NextStops.Stops.{stops_are_sound, stops_keep_origins}
 use Rattle.strand_machine.specs.Family.{tag, tags}
-use Rattle.strand_machine.specs.Loops.{is_root}
 use Rattle.strand_machine.specs.Stops.{IsStop, Advances, advances, answer_tags}
-use Rattle.strand_machine.specs.Tasks.{TaskView, fresh, fresh_with}
+use Rattle.strand_machine.specs.Tasks.{TaskView, fresh}
 use Rattle.strand_machine.specs.declared.stop.Stop as stop_type
 use Rattle.strand_machine.specs.declared.stop.Stop.TheVariants as stop
 use Rattle.worked_tasks.specs.Stopping.{IsIdle, StopsAt}
@@ -25,11 +24,11 @@ pub main_known : (plan same : PlanView) (o : Origin) → same ≡ plan → o ≡
 main_known plan same o h e = subst (IsOriginOf plan) (sym (e ∙ ap main_origin h)) Main
 
 -- A task of which nothing is done is idle.
-begun : (knows : Bool) (plan : PlanView) (o : Origin) (t : TaskView) → IsOriginOf plan o → IsClearPlan plan → t ≡ fresh_with knows plan o → IsIdle t × (t.task.plan ≡ plan)
-begun knows plan o t known clear e = subst (λ (v : TaskView). IsIdle v × (v.task.plan ≡ plan)) (sym e) (record { task = tasks_begin plan o known clear; idle = refl; goes_on = refl }, refl)
+begun : (plan : PlanView) (o : Origin) (t : TaskView) → IsOriginOf plan o → IsClearPlan plan → t ≡ fresh plan o → IsIdle t × (t.task.plan ≡ plan)
+begun plan o t known clear e = subst (λ (v : TaskView). IsIdle v × (v.task.plan ≡ plan)) (sym e) (record { task = tasks_begin plan o known clear; idle = refl; goes_on = refl }, refl)
 
 pub main_idle : (plan : PlanView) (t : TaskView) → IsClearPlan plan → t ≡ fresh plan (main_origin plan) → IsIdle t
-main_idle plan t clear e = (begun (is_root (main_origin plan)) plan (main_origin plan) t Main clear e).0
+main_idle plan t clear e = (begun plan (main_origin plan) t Main clear e).0
 
 stops : (t : TaskView) (s : stop_type.Stop) → IsIdle t → IsStop t s → StopsAt t s
 stops t (stop.Spawn child rest) is at =
@@ -37,8 +36,8 @@ stops t (stop.Spawn child rest) is at =
     let sound : IsSoundStop t.task to = stops_are_sound t.task to is.task at.next in
     let same : KeepsOrigin t.task to = stops_keep_origins t.task to at.next in
     let fewer : LeavesFewer t.task to = stops_fall t.task to is.task is.idle at.next in
-    let child_begun = begun t.knows t.task.plan child.task.origin child sound.0 is.task.clear at.keeps.0 in
-    (child_begun.0, child_begun.1, record { task = sound.1; idle = fewer.1; goes_on = at.keeps.4 }, same.0)
+    let child_begun = begun t.task.plan child.task.origin child sound.0 is.task.clear at.keeps.0 in
+    (child_begun.0, child_begun.1, record { task = sound.1; idle = fewer.1; goes_on = at.keeps.3 }, same.0)
 stops t (stop.Wait rest) is at =
     let to : Stop = Wait rest.task in
     let same : KeepsOrigin t.task to = stops_keep_origins t.task to at.next in

@@ -92,7 +92,7 @@ module _ (s next : CoreState) (t : IsConsistent s) (none : s.root ≡ None) (w :
       origin = ap (λ (n : SpawnNode). n.origin) (sym same-node) ∙ own.origin ∙ sym (stops_keep_origins (task_in j) (Spawn (task_in child).origin (task_in rest)) stops.next).1;
       awaits = subst (λ b. Awaits b (node.children ++ record { number = length s.nodes.items; answer = None } ∷ []) (awaited (task_in rest).trace.handed)) (sym origins)
           (subst (Awaits (origins_of s.nodes.items ++ (task_in child).origin ∷ []) (node.children ++ record { number = length s.nodes.items; answer = None } ∷ [])) (sym hands) rest-awaits);
-      uncut = stops.keeps.4;
+      uncut = stops.keeps.3;
     }
 
     grow : (i : Job) → IsJob s.nodes.items i → (i.number ≡ j.number → ⊥) → IsJob after i

@@ -121,7 +121,7 @@ module _ (s next : CoreState) (t : IsConsistent s) (none : s.root ≡ None) (w :
       there = ap (λ n. slice_get s.nodes.items n) number ∙ own.there;
       origin = own.origin ∙ sym (stops_keep_origins (task_in j) (Wait (task_in rest)) stops.next).1;
       awaits = subst (Awaits (origins_of s.nodes.items) own.node.children) (sym hands) own.awaits;
-      uncut = stops.keeps.3;
+      uncut = stops.keeps.2;
     }
 
     jobs : AreJobs s.nodes.items (record v { current = None; stalled = v.stalled ++ rest ∷ [] })

@@ -1,14 +1,15 @@
--- Which answers are no cuts.
-use Rattle.std.proofs.Common.{ℕ, List, ◌++◌}
+-- Which answers are no cuts, and what a cut stands before.
+use Rattle.std.proofs.Common.{ℕ, List, sym, subst}
 use Rattle.ped_path.specs.Path.{IsBefore}
-use Rattle.serial_meaning.specs.Answer.{IsEval, IsCut, IsAnswer}
-use Rattle.serial_meaning.specs.Eval.{path_of, main_origin}
+use Rattle.serial_meaning.specs.Answer.{AnswersFor, IsEval, IsCut, IsAnswer}
+use Rattle.serial_meaning.specs.Eval.{main_origin}
 use Rattle.serial_meaning.specs.Plan.{PlanView}
 use Rattle.serial_meaning.specs.Render.{IsWhole}
-use Rattle.serial_meaning.proofs.CutsBefore.Before.{before-longer, nothing-before}
+use Rattle.serial_meaning.proofs.CutsBefore.Before.{before-longer, before-later, nothing-before}
 use Rattle.serial_meaning.specs.declared.event.Event.{Event}
 use Rattle.serial_meaning.specs.declared.event.Fault.{Fault}
 use Rattle.serial_meaning.specs.declared.origin.Origin.{Origin}
+use Rattle.serial_meaning.specs.declared.origin.Origin.TheVariants.{Instance, Loop}
 use Rattle.serial_meaning.specs.declared.answer.Outcome.{Outcome}
 use Rattle.serial_meaning.specs.declared.answer.Outcome.TheVariants as outcome
 
@@ -24,5 +25,7 @@ main_is_not_cut plan out (outcome.Values vs) is = tt
 main_is_not_cut plan out (outcome.Fault f) is = tt
 main_is_not_cut plan out (outcome.Cut f) is = nothing-before f.at is.before
 
-pub cuts_stand_before : (plan : PlanView) (o : Origin) (by : Fault) (more : List ℕ) → IsCut plan o by → IsBefore by.at (path_of o ++ more)
-cuts_stand_before plan o by more cut = before-longer by.at (path_of o) more cut.before
+pub cuts_stand_before : (plan : PlanView) (o : Origin) (by : Fault) (j : List ℕ) → IsCut plan o by → AnswersFor o j → IsBefore by.at j
+cuts_stand_before plan (Instance function args path) by j cut below = subst (IsBefore by.at) (sym below.1) (before-longer by.at path below.0 cut.before)
+cuts_stand_before plan (Loop function rest first path range) by j cut below =
+    subst (IsBefore by.at) (sym below.2) (before-later by.at path range.lo below.0 below.1 below.3 cut.before)

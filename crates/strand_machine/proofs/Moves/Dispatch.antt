@@ -1,5 +1,5 @@
 -- What is left of a task after a move is sound, and each kind of move is the defined one.
-use Rattle.std.proofs.Common.{add-one, ◌≡◌, ℕ, zero, suc, ◌+◌, ◌-◌, ◌≤◌, Bool, true, false, List, [], ◌∷◌, ◌++◌, Option, Some, None, length, length-append, replicate, nat_lt, refl, sym, ap, ◌∙◌, subst, arith, append_assoc, append-nil}
+use Rattle.std.proofs.Common.{add-one, ◌≡◌, ℕ, zero, suc, ◌+◌, ◌-◌, ◌≤◌, Bool, true, false, List, [], ◌∷◌, ◌++◌, Option, Some, None, length, length-append, replicate, nat_lt, refl, sym, ap, ◌∙◌, subst, arith, append_assoc}
 use Rattle.std.proofs.Common.{ℤ}
 use Rattle.std.proofs.lemmas.Bool.{true≢false}
 use Rattle.std.proofs.lemmas.Bool.Decides.{nat_tests}
@@ -21,7 +21,7 @@ use Rattle.strand_meaning.specs.Laws.{IsSoundStep, IsFaultOf, StepsAreSound}
 use Rattle.serial_meaning.specs.Runs.{Run}
 use Rattle.strand_meaning.specs.Machine.{Effect, Reached, move}
 use Rattle.strand_meaning.specs.Trace.{AwaitedChild}
-use Rattle.strand_meaning.specs.Sound.{IsEndOf, IsTask}
+use Rattle.strand_meaning.specs.Sound.{IsTask}
 use Rattle.strand_meaning.specs.Task as meaning
 use Rattle.strand_meaning.specs.Task.{Task, ends, ends_unless, own_instance, first_half, split_step, over_step, waits, begins_last, gave, faults_after, moved, stops_at, child_in}
 use Rattle.strand_moves.specs.Machines as moves
@@ -33,14 +33,13 @@ use Rattle.strand_family.specs.Origins.{only}
 use Rattle.strand_machine.specs.Bodies.{is_long}
 use Rattle.strand_machine.specs.Family.{FamilyView, handed}
 use Rattle.strand_machine.specs.Parts.{awaited, destination_of}
-use Rattle.strand_machine.specs.Loops.{IsHandedFor}
-use Rattle.strand_machine.specs.Effects.{task_after_effects, HasSoundEffects, IsKnownChild, IsHandedChild}
+use Rattle.strand_machine.specs.Effects.{task_after_effects, HasSoundEffects, IsKnownChild}
 use Rattle.strand_machine.specs.Made.{ended}
 use Rattle.strand_machine.specs.Stops.{IsStep}
 use Rattle.strand_machine.specs.declared.stop.MoveOrStop.{MoveOrStop as MadeStep}
 use Rattle.strand_machine.specs.declared.stop.MoveOrStop.TheVariants as step-in
 use Rattle.strand_machine.specs.declared.stop.Stop.TheVariants as stop-in
-use Rattle.strand_machine.specs.Tasks.{view_of, fresh_with, cut_of, AwaitsLast, RunsAt, WorksAt, IsSound, task_of, task_with, work_of, gone, waiting, with_child, ended_by}
+use Rattle.strand_machine.specs.Tasks.{view_of, fresh, cut_of, AwaitsLast, RunsAt, WorksAt, IsSound, task_of, task_with, work_of, gone, waiting, with_child, ended_by}
 use Rattle.strand_machine.specs.declared.body.Body.{Body}
 use Rattle.strand_machine.specs.declared.destination.Destination.{Destination}
 use Rattle.strand_machine.specs.declared.destination.Destination.TheVariants as place
@@ -120,14 +119,14 @@ works-on plan o (work.Over v gone_on) h = refl
 works-on plan o (work.Ends ended) h = absurd h
 
 pub pass-is : (b : Body) (w next : Work) (s : MadeStep) → WorksAt b.family.plan b.family.origin next → meaning.step (task_of b w) ≡ meaning.Passes (task_of (gone b) next) → s ≡ step-in.Passes (view_of (gone b) next) → IsStep (view_of b w) s
-pass-is b w next s works e h = rw h (record { is = e; keeps = (refl, refl, refl, works-on b.family.plan b.family.origin next works) })
+pass-is b w next s works e h = rw h (record { is = e; keeps = (refl, refl, works-on b.family.plan b.family.origin next works) })
 
 pub wait-is : (b : Body) (w next : Work) (s : MadeStep) → WorksAt b.family.plan b.family.origin next → meaning.step (task_of b w) ≡ meaning.Stops (meaning.Wait (task_of (waiting b) next)) → s ≡ step-in.Stops (stop-in.Wait (view_of (waiting b) next)) → IsStep (view_of b w) s
-wait-is b w next s works e h = rw h (record { is = e; keeps = (refl, refl, refl, works-on b.family.plan b.family.origin next works) })
+wait-is b w next s works e h = rw h (record { is = e; keeps = (refl, refl, works-on b.family.plan b.family.origin next works) })
 
 pub spawn-is : (b : Body) (w next : Work) (child : Origin) (p : Destination) (s : MadeStep) → WorksAt b.family.plan b.family.origin next → meaning.step (task_of b w) ≡ meaning.Stops (meaning.Spawn child (task_of (with_child b child p) next)) →
-    s ≡ step-in.Stops (stop-in.Spawn (fresh_with b.family.knows b.family.plan child) (view_of (with_child b child p) next)) → IsStep (view_of b w) s
-spawn-is b w next child p s works e h = rw h (record { is = e; keeps = (refl, refl, refl, refl, works-on b.family.plan b.family.origin next works) })
+    s ≡ step-in.Stops (stop-in.Spawn (fresh b.family.plan child) (view_of (with_child b child p) next)) → IsStep (view_of b w) s
+spawn-is b w next child p s works e h = rw h (record { is = e; keeps = (refl, refl, refl, works-on b.family.plan b.family.origin next works) })
 
 -- Loops
 
@@ -224,12 +223,6 @@ fault-after b f h = from b.trace.handed h
     from [] g = absurd (g refl)
     from (p ∷ ps) g = refl
 
--- A child that is handed out
-
-pub handed-half : (plan : PlanView) (o child : Origin) (left part : Range) → IsEndOf o left → child ≡ only o part → IsHandedFor plan o child
-handed-half plan (Instance function args path) child left part h e = absurd h
-handed-half plan (Loop function rest first path range) child left part h e = ([], ap path_of e ∙ sym (append-nil path))
-
 -- Moves
 
 module _ (b : Body) (i : RawInstance) where
@@ -260,8 +253,8 @@ module _ (b : Body) (i : RawInstance) where
   shown-sound law next s h moved-so runs trail =
       let e = go-went next s h.works moved-so in
       let known = from (child_in (effects_of s)) (sound-step law b (work.Runs (stage.Running i)) (stops_at (child_in (effects_of s)) (task_after_effects b next s)) h e) in
-      record { task = known.0; child = known.1; handed = known.2; family = h.family; runs = runs; trail = trail }
+      record { task = known.0; child = known.1; family = h.family; runs = runs; trail = trail }
     where
-      from : (o : Option Origin) → IsSoundStep here (stops_at o (task_after_effects b next s)) → IsTask (task_after_effects b next s) × IsKnownChild b.family.plan o × IsHandedChild b.family.plan b.family.origin o
-      from None g = (g, tt, tt)
-      from (Some o) g = (g.1, g.0, g.2)
+      from : (o : Option Origin) → IsSoundStep here (stops_at o (task_after_effects b next s)) → IsTask (task_after_effects b next s) × IsKnownChild b.family.plan o
+      from None g = (g, tt)
+      from (Some o) g = (g.1, g.0)

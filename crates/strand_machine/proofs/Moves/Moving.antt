@@ -30,12 +30,11 @@ use Rattle.strand_moves.specs.declared.effects.MoveResult.TheVariants as moved-i
 use Rattle.strand_moves.specs.declared.effects.Effects.{Effects}
 use Rattle.strand_moves.specs.declared.effects.Effects.TheVariants as shown-in
 use Rattle.strand_machine.specs.Family.{FamilyView}
-use Rattle.strand_machine.specs.Loops.{IsHandedFor}
 use Rattle.strand_machine.specs.Parts.{awaited, destination_of}
 use Rattle.strand_machine.specs.Effects.{task_after_effects, HasSoundEffects}
 use Rattle.strand_machine.specs.Made.{IsRun, LeadsTo}
 use Rattle.strand_machine.specs.Stops.{IsStep, KeepsStep, step_of}
-use Rattle.strand_machine.specs.Tasks.{TaskView, task_of, view_of, fresh_with, cut_of, AwaitsLast, RunsAt, IsSound, gone, waiting, with_child}
+use Rattle.strand_machine.specs.Tasks.{TaskView, task_of, view_of, fresh, cut_of, AwaitsLast, RunsAt, IsSound, gone, waiting, with_child}
 use Rattle.strand_machine.specs.declared.body.Body.{Body}
 use Rattle.strand_machine.specs.declared.destination.Destination.{Destination}
 use Rattle.strand_machine.specs.declared.destination.Destination.TheVariants as place
@@ -140,9 +139,6 @@ module _ (b : Body) (i : RawInstance) where
   pub spawned-trail : (s : Effects) (e : Event) (o : SpawnedChild) → s ≡ shown-in.Spawned e o → HasSoundEffects b i s → IsTrailOf b.family.plan o.child.origin o.child.trail
   spawned-trail s e o is h = let k : HasSoundEffects b i (shown-in.Spawned e o) = subst (HasSoundEffects b i) is h in k.trail
 
-  pub spawned-handed : (s : Effects) (e : Event) (o : SpawnedChild) → s ≡ shown-in.Spawned e o → HasSoundEffects b i s → IsHandedFor b.family.plan b.family.origin o.child.origin
-  spawned-handed s e o is h = let k : HasSoundEffects b i (shown-in.Spawned e o) = subst (HasSoundEffects b i) is h in k.handed
-
   spawned-at : (e : Event) (o : SpawnedChild) → HasSoundEffects b i (shown-in.Spawned e o) →
       IsSound (with_child (with_trace b (emit e b.trace)) o.child.origin (place.Spawned o.height o.target)) goes
   spawned-at e o h = record {
@@ -157,7 +153,7 @@ module _ (b : Body) (i : RawInstance) where
       subst (λ (x : Trace). IsSound (with_child (with_trace b x) o.child.origin (place.Spawned o.height o.target)) goes) (sym q) (spawned-at e o (subst (HasSoundEffects b i) is h))
 
   pub spawned-step : (s : Effects) (e : Event) (o : SpawnedChild) (p : Trace) (r : MadeStep) → s ≡ shown-in.Spawned e o → p ≡ emit e b.trace →
-      r ≡ step-in.Stops (stop-in.Spawn (fresh_with b.family.knows b.family.plan o.child.origin) (view_of (with_child (with_trace b p) o.child.origin (place.Spawned o.height o.target)) goes)) →
+      r ≡ step-in.Stops (stop-in.Spawn (fresh b.family.plan o.child.origin) (view_of (with_child (with_trace b p) o.child.origin (place.Spawned o.height o.target)) goes)) →
       step_of r ≡ stops_at (child_in (effects_of s)) (task_after_effects b i s)
   spawned-step s e o p r is q h = rw (h, q, is) refl
 
@@ -171,9 +167,6 @@ module _ (b : Body) (i : RawInstance) where
 
   pub looped-trail : (s : Effects) (e : Event) (o : LoopedChild) → s ≡ shown-in.Looped e o → HasSoundEffects b i s → IsTrailOf b.family.plan o.child.origin o.child.trail
   looped-trail s e o is h = let k : HasSoundEffects b i (shown-in.Looped e o) = subst (HasSoundEffects b i) is h in k.trail
-
-  pub looped-handed : (s : Effects) (e : Event) (o : LoopedChild) → s ≡ shown-in.Looped e o → HasSoundEffects b i s → IsHandedFor b.family.plan b.family.origin o.child.origin
-  looped-handed s e o is h = let k : HasSoundEffects b i (shown-in.Looped e o) = subst (HasSoundEffects b i) is h in k.handed
 
   looped-at : (e : Event) (o : LoopedChild) → HasSoundEffects b i (shown-in.Looped e o) →
       IsSound (with_child (with_trace b (emit e b.trace)) o.child.origin (place.Looped o.target)) at-loop
@@ -189,18 +182,18 @@ module _ (b : Body) (i : RawInstance) where
       subst (λ (x : Trace). IsSound (with_child (with_trace b x) o.child.origin (place.Looped o.target)) at-loop) (sym q) (looped-at e o (subst (HasSoundEffects b i) is h))
 
   pub looped-step : (s : Effects) (e : Event) (o : LoopedChild) (p : Trace) (r : MadeStep) → s ≡ shown-in.Looped e o → p ≡ emit e b.trace →
-      r ≡ step-in.Stops (stop-in.Spawn (fresh_with b.family.knows b.family.plan o.child.origin) (view_of (with_child (with_trace b p) o.child.origin (place.Looped o.target)) at-loop)) →
+      r ≡ step-in.Stops (stop-in.Spawn (fresh b.family.plan o.child.origin) (view_of (with_child (with_trace b p) o.child.origin (place.Looped o.target)) at-loop)) →
       step_of r ≡ stops_at (child_in (effects_of s)) (task_after_effects b i s)
   looped-step s e o p r is q h = rw (h, q, is) refl
 
 -- What the family keeps
 
 pub passes-keep : (b : Body) (p : Trace) (w next : Work) (r : MadeStep) → cut_of next ≡ None → r ≡ step-in.Passes (view_of (gone (with_trace b p)) next) → KeepsStep (view_of b w) r
-passes-keep b p w next r none h = rw h (refl, refl, refl, none)
+passes-keep b p w next r none h = rw h (refl, refl, none)
 
 pub spawns-keep : (b : Body) (p : Trace) (w next : Work) (o : Origin) (at : Destination) (r : MadeStep) → cut_of next ≡ None →
-    r ≡ step-in.Stops (stop-in.Spawn (fresh_with b.family.knows b.family.plan o) (view_of (with_child (with_trace b p) o at) next)) → KeepsStep (view_of b w) r
-spawns-keep b p w next o at r none h = rw h (refl, refl, refl, refl, none)
+    r ≡ step-in.Stops (stop-in.Spawn (fresh b.family.plan o) (view_of (with_child (with_trace b p) o at) next)) → KeepsStep (view_of b w) r
+spawns-keep b p w next o at r none h = rw h (refl, refl, refl, none)
 
 keeps-alike : (b : Body) (w other : Work) (r : MadeStep) → KeepsStep (view_of b w) r → KeepsStep (view_of b other) r
 keeps-alike b w other (step-in.Passes next) h = h
@@ -253,7 +246,7 @@ module _ (b : Body) (i next : RawInstance) (plan : PlanView) (m : MoveResult) (p
   -- one that shows nothing, or an event alone: the instance goes on
 
   still-is : (s : Effects) → m ≡ moved-in.Went s → s ≡ shown-in.Nothing → IsStep (view_of b (work.Runs (stage.Running i))) (step-in.Passes (view_of (gone b) (work.Runs (stage.Running next))))
-  still-is s is shows = went-one s _ is (nothing-step b next s _ shows refl) (refl, refl, refl, refl)
+  still-is s is shows = went-one s _ is (nothing-step b next s _ shows refl) (refl, refl, refl)
 
   pub still-on : StepsAreSound → MovesFall → (first : TaskView) → LeadsTo first (view_of b (work.Runs (stage.Running i))) → (s : Effects) → m ≡ moved-in.Went s → s ≡ shown-in.Nothing →
       moves.path_of next ≡ moves.path_of i → moves.IsInstance plan next → MovesTrail plan m → IsOnRun first (gone b) next
@@ -267,7 +260,7 @@ module _ (b : Body) (i next : RawInstance) (plan : PlanView) (m : MoveResult) (p
 
   tells-is : (s : Effects) (t : Event) (q : Trace) → m ≡ moved-in.Went s → s ≡ shown-in.Emitted t → q ≡ emit t b.trace →
       IsStep (view_of b (work.Runs (stage.Running i))) (step-in.Passes (view_of (gone (with_trace b q)) (work.Runs (stage.Running next))))
-  tells-is s t q is shows g = went-one s _ is (emitted-step b next s t q _ shows g refl) (refl, refl, refl, refl)
+  tells-is s t q is shows g = went-one s _ is (emitted-step b next s t q _ shows g refl) (refl, refl, refl)
 
   pub tells-on : StepsAreSound → MovesFall → (first : TaskView) → LeadsTo first (view_of b (work.Runs (stage.Running i))) → (s : Effects) (t : Event) (q : Trace) → m ≡ moved-in.Went s → s ≡ shown-in.Emitted t → q ≡ emit t b.trace →
       moves.path_of next ≡ moves.path_of i → moves.IsInstance plan next → MovesTrail plan m → IsOnRun first (gone (with_trace b q)) next
@@ -294,7 +287,7 @@ module _ (b : Body) (i next : RawInstance) (plan : PlanView) (m : MoveResult) (p
       RunsAt b.family.plan (path_of (own_instance b.family.origin)) next → (r : MadeStep) → r ≡ step-in.Stops (stop-in.Wait (view_of (waiting (gone (with_trace b q))) syncs)) → IsRun first r
   syncs-run fall first leads s t q is shows g at r e = record {
     before = view_of (gone (with_trace b q)) syncs;
-    leads = leads-on fall first _ _ _ leads (went-one s (step-in.Passes (view_of (gone (with_trace b q)) syncs)) is (synced-step b next s t q _ shows g refl) (refl, refl, refl, refl)) refl;
+    leads = leads-on fall first _ _ _ leads (went-one s (step-in.Passes (view_of (gone (with_trace b q)) syncs)) is (synced-step b next s t q _ shows g refl) (refl, refl, refl)) refl;
     step = wait-is (gone (with_trace b q)) syncs syncs r at refl e;
   }
 
@@ -365,7 +358,6 @@ module _ (b : Body) (i : RawInstance) where
           origin = l.origin;
           children = l.children;
           loads = l.loads;
-          knows = l.knows;
           cut = l.cut;
         };
       }

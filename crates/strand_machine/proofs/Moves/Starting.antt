@@ -1,5 +1,5 @@
 -- A task begins sound.
-use Rattle.std.proofs.Common.{◌≡◌, Bool, false, [], Option, None, refl, sym, ap, subst, ◌∙◌}
+use Rattle.std.proofs.Common.{◌≡◌, false, [], Option, None, refl, sym, ap, subst, ◌∙◌}
 use Rattle.script_check.specs.Valid.{IsValid}
 use Rattle.serial_meaning.specs.Laws.{IsOriginOf}
 use Rattle.serial_meaning.specs.Plan.{PlanView}
@@ -11,24 +11,24 @@ use Rattle.strand_meaning.specs.Task as meaning
 use Rattle.strand_meaning.specs.Task.{Task, start, begun_work}
 use Rattle.strand_meaning.specs.Laws.{TasksBegin, ValidPlansAreClear}
 use Rattle.strand_machine.specs.Family.{FamilyView, alone}
-use Rattle.strand_machine.specs.Tasks.{fresh_with, cut_of, work_of, task_of, view_of, WorksAt, IsSound}
+use Rattle.strand_machine.specs.Tasks.{fresh, cut_of, work_of, task_of, view_of, WorksAt, IsSound}
 use Rattle.strand_machine.specs.declared.body.Body.{Body}
 use Rattle.strand_machine.specs.declared.work.Work.{Work}
 
 abbrev pub new_body : FamilyView → Trace → Body
 new_body family trace = record { family = family; trace = trace; values = []; waiting = false; advanced = false }
 
-module _ (plan : PlanView) (o : Origin) (w : Work) (family : FamilyView) (trace : Trace) (knows : Bool) (f : family ≡ alone plan o knows) (p : trace ≡ no_trace) (e : work_of plan w ≡ begun_work plan o) where
-  same : new_body family trace ≡ new_body (alone plan o knows) no_trace
-  same = ap (λ g. new_body g trace) f ∙ ap (new_body (alone plan o knows)) p
+module _ (plan : PlanView) (o : Origin) (w : Work) (family : FamilyView) (trace : Trace) (f : family ≡ alone plan o) (p : trace ≡ no_trace) (e : work_of plan w ≡ begun_work plan o) where
+  same : new_body family trace ≡ new_body (alone plan o) no_trace
+  same = ap (λ g. new_body g trace) f ∙ ap (new_body (alone plan o)) p
 
-  task-is : task_of (new_body (alone plan o knows) no_trace) w ≡ start plan o
+  task-is : task_of (new_body (alone plan o) no_trace) w ≡ start plan o
   task-is = ap (λ (work : meaning.Work). record { plan = plan; origin = o; trace = no_trace; values = []; work = work; waiting = false; advanced = false }) e
 
-  pub start-view : cut_of w ≡ None → view_of (new_body family trace) w ≡ fresh_with knows plan o
+  pub start-view : cut_of w ≡ None → view_of (new_body family trace) w ≡ fresh plan o
   start-view uncut =
-      ap (λ (b : Body). view_of b w) same ∙ ap (λ (t : Task). record { task = t; children = []; loads = []; knows = knows; cut = cut_of w }) task-is
-      ∙ ap (λ (c : Option Outcome). record { task = start plan o; children = []; loads = []; knows = knows; cut = c }) uncut
+      ap (λ (b : Body). view_of b w) same ∙ ap (λ (t : Task). record { task = t; children = []; loads = []; cut = cut_of w }) task-is
+      ∙ ap (λ (c : Option Outcome). record { task = start plan o; children = []; loads = []; cut = c }) uncut
 
   pub start-sound : TasksBegin → ValidPlansAreClear → IsOriginOf plan o → IsValid plan.script → WorksAt plan o w → IsSound (new_body family trace) w
   start-sound tasks_begin are_clear known valid works =

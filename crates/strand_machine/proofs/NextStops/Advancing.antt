@@ -23,7 +23,7 @@ use Rattle.strand_meaning.specs.Task.{Task, Stop, IsNext, Now, Later, own_instan
 use Rattle.strand_machine.specs.Family.{tag}
 use Rattle.strand_machine.specs.Made.{IsRun, LeadsTo, GoesOn, stage_goes_on, work_goes_on}
 use Rattle.strand_machine.specs.Stops.{IsStep, IsStop, IsKnownStop, Advances, advances, Keeps, stop_of}
-use Rattle.strand_machine.specs.Tasks.{TaskView, Holds, IsCutShort, IsSound, fresh_with, is_cut_short, cut_of, view_of}
+use Rattle.strand_machine.specs.Tasks.{TaskView, Holds, IsCutShort, IsSound, fresh, is_cut_short, cut_of, view_of}
 use Rattle.strand_machine.specs.declared.body.Body.{Body}
 use Rattle.strand_machine.specs.declared.work.Work.{Work}
 use Rattle.strand_machine.specs.declared.work.Work.TheVariants as work
@@ -94,7 +94,7 @@ pass-of t next e = subst (KeepsOf t) e (of-work t t.work)
 -- Moves in a row
 
 pub leads-start : (t : TaskView) → t.cut ≡ None → LeadsTo t t
-leads-start t goes = record { next = λ stop n. n; fewer = omega arith; plan = refl; origin = refl; children = refl; loads = refl; knows = refl; cut = goes }
+leads-start t goes = record { next = λ stop n. n; fewer = omega arith; plan = refl; origin = refl; children = refl; loads = refl; cut = goes }
 
 pub leads-over : (first now next : TaskView) → LeadsTo first now → LeadsTo now next → LeadsTo first next
 leads-over first now next h g = record {
@@ -104,7 +104,6 @@ leads-over first now next h g = record {
   origin = g.origin ∙ h.origin;
   children = g.children ∙ h.children;
   loads = g.loads ∙ h.loads;
-  knows = g.knows ∙ h.knows;
   cut = g.cut;
 }
 
@@ -125,19 +124,17 @@ leads-on law first now next s h g e =
       origin = of.1 ∙ h.origin;
       children = k.keeps.0 ∙ h.children;
       loads = k.keeps.1 ∙ h.loads;
-      knows = k.keeps.2 ∙ h.knows;
-      cut = k.keeps.3;
+      cut = k.keeps.2;
     }
 
 keeps-first : (first now : TaskView) (stop : MadeStop) → LeadsTo first now → Keeps now stop → Keeps first stop
 keeps-first first now (stop-in.Spawn child rest) h k = (
-  k.0 ∙ ap (λ (b : Bool). fresh_with b now.task.plan child.task.origin) h.knows ∙ ap (λ (p : PlanView). fresh_with first.knows p child.task.origin) h.plan,
+  k.0 ∙ ap (λ (p : PlanView). fresh p child.task.origin) h.plan,
   k.1 ∙ ap (λ (l : List Origin). l ++ child.task.origin ∷ []) h.children,
   k.2 ∙ h.loads,
-  k.3 ∙ h.knows,
-  k.4,
+  k.3,
 )
-keeps-first first now (stop-in.Wait rest) h k = (k.0 ∙ h.children, k.1 ∙ h.loads, k.2 ∙ h.knows, k.3)
+keeps-first first now (stop-in.Wait rest) h k = (k.0 ∙ h.children, k.1 ∙ h.loads, k.2)
 keeps-first first now (stop-in.Done answer give) h k =
     (k.0 ∙ h.plan, k.1 ∙ h.origin, k.2 ∙ ap (λ (p : PlanView). tag p now.task.origin) h.plan ∙ ap (tag first.task.plan) h.origin)
 

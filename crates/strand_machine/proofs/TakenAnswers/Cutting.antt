@@ -227,7 +227,6 @@ module _ (b : Body) (w : Work) (os : List Origin) (bs : List AfterChild) (answer
         advanced = s.advanced;
         cut = s.cut ∙ ended-same;
         children = s.children;
-        knows = s.knows;
       },
       s.loads,
     )
@@ -264,5 +263,4 @@ short-view family g advanced o r e is b same trace waits was = record {
   cut = sym is ∙ e;
   children = ap (λ (f : FamilyView). f.children) same;
   loads = ap (λ (f : FamilyView). f.loads) same;
-  knows = ap (λ (f : FamilyView). f.knows) same;
 }

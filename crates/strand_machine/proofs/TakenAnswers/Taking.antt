@@ -290,12 +290,11 @@ taken-answered b w g k ready loads e d same h =
     subst (λ (x : FamilyView). HasTakenAnswers (record b { family = x }) w) (sym d) there
 
 pub looked-same : (b : Body) (w : Work) (g : FamilyView) (ready : Bool) (loads : List ℕ) → g ≡ record b.family { ready = ready; loads = loads } → (t : TaskView) → view_of b w ≡ t → HasStopped b.family.loads g.loads →
-    (task_of (record b { family = g }) w ≡ t.task) × (g.children ≡ t.children) × HasStopped t.loads g.loads × (g.knows ≡ t.knows) × (cut_of w ≡ t.cut)
+    (task_of (record b { family = g }) w ≡ t.task) × (g.children ≡ t.children) × HasStopped t.loads g.loads × (cut_of w ≡ t.cut)
 looked-same b w g ready loads e t view stopped = (
   ap (λ (f : FamilyView). task_of (record b { family = f }) w) e ∙ ap (λ (v : TaskView). v.task) view,
   ap (λ (f : FamilyView). f.children) e ∙ ap (λ (v : TaskView). v.children) view,
   subst (λ (l : List ℕ). HasStopped l g.loads) (ap (λ (v : TaskView). v.loads) view) stopped,
-  ap (λ (f : FamilyView). f.knows) e ∙ ap (λ (v : TaskView). v.knows) view,
   ap (λ (v : TaskView). v.cut) view,
 )
 
@@ -326,7 +325,7 @@ resumed-on b w g k ready loads e d t next view goes answers are went-on passed =
 
     by_cut : (cut : Bool) → went cut answers (record t { loads = g.loads }) next → resumes cut answers t next × HasPassed t.loads next.loads
     by_cut false h = (
-      (ap (λ (v : TaskView). v.task) h, ap (λ (v : TaskView). v.children) h, ap (λ (v : TaskView). v.knows) h, ap (λ (v : TaskView). v.cut) h ∙ goes),
+      (ap (λ (v : TaskView). v.task) h, ap (λ (v : TaskView). v.children) h, ap (λ (v : TaskView). v.cut) h ∙ goes),
       read (ap (λ (v : TaskView). v.loads) h),
     )
     by_cut true h = (
@@ -339,7 +338,6 @@ resumed-on b w g k ready loads e d t next view goes answers are went-on passed =
         advanced = h.0.advanced;
         cut = h.0.cut;
         children = h.0.children;
-        knows = h.0.knows;
       },
       read h.1,
     )

@@ -15,7 +15,6 @@ use Rattle.strand_meaning.specs.Machine.{Effect, Reached, Stands, Gives, move}
 use Rattle.strand_meaning.specs.Trace.{AwaitedChild}
 use Rattle.strand_meaning.specs.Task.{InstanceState, Running, AtSync, AtLoop, Ended, Work, Splits, Runs, Over, Task, own_instance, MoveOrStop, Passes, Stops, Stop, Spawn, Wait, End, IsNext, Now, Later, stage_after, child_in, stops_at, passing, moved, ends_unless, faults_after, gave, stage_step, split_step, over_step, work_step, step}
 use Rattle.strand_meaning.specs.Sound.{IsTask}
-use Rattle.serial_meaning.specs.Loops.{IsHandedFor}
 use Rattle.strand_meaning.specs.Laws.{IsSoundStop, IsSoundStep, IsFaultOf, IsOf, KeepsOrigin}
 use Rattle.strand_meaning.proofs.SoundSteps.Ends.{steps_are_sound}
 
@@ -86,11 +85,7 @@ stops_keep_origins t stop (Now h) = subst (KeepsStep t) h (step-keeps t)
 stops_keep_origins t stop (Later next h n) = keeps-further t next stop (subst (KeepsStep t) h (step-keeps t)) (stops_keep_origins next stop n)
 
 sound-further : (t next : Task) (stop : Stop) → IsOf t next → IsSoundStop next stop → IsSoundStop t stop
-sound-further t next (Spawn child rest) h s = (
-  subst (λ (p : PlanView). IsOriginOf p child) h.0 s.0,
-  s.1,
-  subst (λ (p : PlanView). IsHandedFor p t.origin child) h.0 (subst (λ (o : Origin). IsHandedFor next.plan o child) h.1 s.2),
-)
+sound-further t next (Spawn child rest) h s = (subst (λ (p : PlanView). IsOriginOf p child) h.0 s.0, s.1)
 sound-further t next (Wait rest) h s = s
 sound-further t next (End out ended) h s =
     (subst (λ (p : PlanView). IsEval p t.origin out ended) h.0 (subst (λ (o : Origin). IsEval next.plan o out ended) h.1 s.0), subst (λ (p : PlanView). IsFaultOf p ended) h.0 s.1)

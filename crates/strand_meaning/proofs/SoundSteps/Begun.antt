@@ -1,5 +1,5 @@
 -- Each child that a task handed out is shown by the events before it.
-use Rattle.std.proofs.Common.{◌≡◌, ℕ, Bool, true, false, List, [], ◌∷◌, ◌++◌, Option, None, refl, sym, ap, ◌∙◌, subst, inr}
+use Rattle.std.proofs.Common.{◌≡◌, ℕ, Bool, true, false, List, [], ◌∷◌, ◌++◌, Option, None, refl, sym, ap, ◌∙◌, subst, append_assoc, append-nil}
 use Rattle.std.specs.Prelude.{Contains}
 use Rattle.std.proofs.lemmas.List.Elements.{Contains-append_right}
 use Rattle.serial_meaning.specs.Laws.{places}
@@ -11,12 +11,10 @@ use Rattle.serial_meaning.specs.declared.event.Fault.{Fault}
 use Rattle.serial_meaning.specs.declared.event.Event.{Event}
 use Rattle.serial_meaning.specs.declared.event.Event.TheVariants as event
 use Rattle.serial_meaning.specs.declared.origin.Origin.{Origin}
-use Rattle.serial_meaning.specs.declared.origin.Origin.TheVariants.{Instance, Loop}
-use Rattle.loop_range.specs.Range.{Range}
 use Rattle.strand_meaning.specs.Machine.{Destination, Spawned, Looped, Effect, Opens, Closes, Emitted, Handed, Syncs, Loops, Machine, sync_effects, loop_effects, move}
 use Rattle.strand_meaning.specs.Trace.{AwaitedChild, Trace, prefix_unless, after_last, emit, emit_at, add_child, with_effects}
-use Rattle.strand_meaning.specs.Task.{own_instance, first_half}
-use Rattle.strand_meaning.specs.Sound.{IsShownBy, AreShownBy}
+use Rattle.strand_meaning.specs.Task.{own_instance}
+use Rattle.strand_meaning.specs.Sound.{IsBegunBy, IsShownAs, AreShownBy}
 use Rattle.strand_meaning.proofs.Unfilled.Keeps.{first-contained}
 use Rattle.strand_meaning.proofs.SoundSteps.Own.{Begins, EffectRules, effects-move}
 
@@ -25,9 +23,14 @@ abbrev pub front_of : List Event → List AwaitedChild → List Event
 front_of events [] = events
 front_of events (p ∷ ps) = front_of p.after ps
 
-pub shown-more : (o : Origin) (events : List Event) (ps : List AwaitedChild) (q : AwaitedChild) → AreShownBy o events ps → IsShownBy o (front_of events ps) q → AreShownBy o events (ps ++ q ∷ [])
-shown-more o events [] q h k = (k, tt)
-shown-more o events (p ∷ ps) q h k = (h.0, shown-more o p.after ps q h.1 k)
+pub shown-more : (plan : PlanView) (o : Origin) (front : List AwaitedChild) (events : List Event) (ps : List AwaitedChild) (q : AwaitedChild) → AreShownBy plan o front events ps →
+    IsShownAs q.place plan o (front ++ ps) (front_of events ps) q.child → AreShownBy plan o front events (ps ++ q ∷ [])
+shown-more plan o front events [] q h k = (subst (λ (l : List AwaitedChild). IsShownAs q.place plan o l events q.child) (append-nil front) k, tt)
+shown-more plan o front events (p ∷ ps) q h k = (
+  h.0,
+  shown-more plan o (front ++ p ∷ []) p.after ps q h.1
+      (subst (λ (l : List AwaitedChild). IsShownAs q.place plan o l (front_of p.after ps) q.child) (sym (append_assoc front (p ∷ []) ps)) k),
+)
 
 -- An event of the task's own
 
@@ -56,9 +59,10 @@ effects-one-by-one (Handed o place ∷ xs) ys trace = effects-one-by-one xs ys (
 effects-one-by-one (Syncs ∷ xs) ys trace = effects-one-by-one xs ys trace
 effects-one-by-one (Loops ∷ xs) ys trace = effects-one-by-one xs ys trace
 
-after-shown : (o : Origin) (events : List Event) (p : AwaitedChild) (ps : List AwaitedChild) (e : Event) → AreShownBy o events (p ∷ ps) → AreShownBy o events (after_last p ps e)
-after-shown o events p [] e h = h
-after-shown o events p (q ∷ qs) e h = (h.0, after-shown o p.after q qs e h.1)
+after-shown : (plan : PlanView) (o : Origin) (front : List AwaitedChild) (events : List Event) (p : AwaitedChild) (ps : List AwaitedChild) (e : Event) → AreShownBy plan o front events (p ∷ ps) →
+    AreShownBy plan o front events (after_last p ps e)
+after-shown plan o front events p [] e h = h
+after-shown plan o front events p (q ∷ qs) e h = (h.0, after-shown plan o (front ++ p ∷ []) p.after q qs e h.1)
 
 after-front : (events : List Event) (p : AwaitedChild) (ps : List AwaitedChild) (e : Event) → front_of events (after_last p ps e) ≡ front_of events (p ∷ ps) ++ e ∷ []
 after-front events p [] e = refl
@@ -71,24 +75,27 @@ front-prefix e trace none = by_parts trace.handed
     by_parts [] = ap (λ (f : Option Fault). prefix_unless f trace.prefix (e ∷ [])) none
     by_parts (p ∷ ps) = after-front trace.prefix p ps e
 
-module _ (o : Origin) where
+module _ (plan : PlanView) (o : Origin) where
   abbrev pub Shown : Trace → Type 0
-  Shown trace = AreShownBy o trace.prefix trace.handed
+  Shown trace = AreShownBy plan o [] trace.prefix trace.handed
 
   emit-shown : (e : Event) (trace : Trace) → Shown trace → Shown (emit e trace)
   emit-shown e trace h = by_parts trace.handed h
     where
-      by_parts : (ps : List AwaitedChild) → AreShownBy o trace.prefix ps → Shown (emit_at ps e (record { prefix = trace.prefix; fault = trace.fault; handed = ps }))
+      by_parts : (ps : List AwaitedChild) → AreShownBy plan o [] trace.prefix ps → Shown (emit_at ps e (record { prefix = trace.prefix; fault = trace.fault; handed = ps }))
       by_parts [] s = tt
-      by_parts (p ∷ ps) s = after-shown o trace.prefix p ps e s
+      by_parts (p ∷ ps) s = after-shown plan o [] trace.prefix p ps e s
 
   abbrev own_path : List ℕ
   own_path = path_of (own_instance o)
 
   -- a child after the event by which it begins
-  begun-shown : (e : Event) (c : Origin) (place : Destination) → Begins own_path e c → (trace : Trace) → trace.fault ≡ None → Shown trace → Shown (add_child c place (emit e trace))
-  begun-shown e c place b trace none h =
-      shown-more o (emit e trace).prefix (emit e trace).handed (record { child = c; place = place; after = [] }) (emit-shown e trace h) (inr (b.rank, b.more, b.at, there))
+  begun-shown : (e : Event) (c : Origin) (place : Destination) → ((front : List AwaitedChild) (events : List Event) → IsBegunBy o events c → IsShownAs place plan o front events c) →
+      Begins own_path e c → (trace : Trace) → trace.fault ≡ None → Shown trace → Shown (add_child c place (emit e trace))
+  begun-shown e c place own b trace none h =
+      let next : Trace = emit e trace in
+      shown-more plan o [] next.prefix next.handed (record { child = c; place = place; after = [] }) (emit-shown e trace h)
+      (own next.handed (front_of next.prefix next.handed) (record { rank = b.rank; more = b.more; at = b.at; whole = b.whole; event = there }))
     where
       old : List Event
       old = front_of trace.prefix trace.handed
@@ -112,7 +119,7 @@ module _ (o : Origin) where
     none = λ trace none s. s;
     more = shows-more;
     prefix = λ e trace none s. emit-shown e trace s;
-    spawned = λ e c height target begins trace none s. begun-shown e c (Spawned height target) begins trace none s;
+    spawned = λ e c height target begins trace none s. begun-shown e c (Spawned height target) (λ front events b. b) begins trace none s;
     synced = at_sync;
     looped = at_loop;
     opened = λ j trace none s. s;
@@ -125,13 +132,8 @@ module _ (o : Origin) where
 
       at_loop : (e : Event) (c : Origin) (target : Option Name) (b : Bool) → Begins own_path e c → Shows (Emitted e ∷ loop_effects b c (Looped target))
       at_loop e c target true begins trace none s = emit-shown e trace s
-      at_loop e c target false begins trace none s = begun-shown e c (Looped target) begins trace none s
+      at_loop e c target false begins trace none s = begun-shown e c (Looped target) (λ front events b. b) begins trace none s
 
   -- A move hands out no child but after the event by which it begins.
-  pub move-shows : (plan : PlanView) (m : Machine) → Shows (move plan own_path m).items
-  move-shows plan m = effects-move Shows plan own_path shows m
-
--- Half of a loop has the loop's path.
-pub half-path : (o : Origin) (left : Range) → path_of (first_half o left) ≡ path_of o
-half-path (Instance function args path) left = refl
-half-path (Loop function rest first path range) left = refl
+  pub move-shows : (m : Machine) → Shows (move plan own_path m).items
+  move-shows m = effects-move Shows plan own_path shows m

@@ -1,7 +1,7 @@
 -- What a task comes to by one step is sound.
 use Rattle.std.proofs.Common.{◌≡◌, ℕ, zero, suc, ◌+◌, ◌-◌, ◌<◌, ◌≤◌, Bool, true, false, List, [], ◌∷◌, ◌++◌, Option, Some, None, Result, Ok, Err, inl, inr, ◌⊎◌, length, refl, sym, ap, ◌∙◌, append_assoc, append-nil, subst, arith}
 use Rattle.std.proofs.Common.{ℤ}
-use Rattle.loop_range.specs.Range.{Range, lower_half, upper_half}
+use Rattle.loop_range.specs.Range.{Range, middle, lower_half, upper_half}
 use Rattle.serial_meaning.specs.Runs.{Run, done, ◌then◌}
 use Rattle.serial_meaning.specs.Plan.{PlanView}
 use Rattle.serial_meaning.specs.Eval.{Evaluation, iteration, path_of, turns, eval}
@@ -22,14 +22,14 @@ use Rattle.strand_meaning.specs.Machine.{Destination, Spawned, Looped, Half, beg
 use Rattle.strand_meaning.specs.Trace.{AwaitedChild, Trace, add_child}
 use Rattle.strand_meaning.specs.Task.{InstanceState, Running, AtSync, AtLoop, Ended, Work, Splits, Runs, Over, Task, begun_stage, start, own_instance, Stops, Spawn, waits, ends, ends_unless, faults_after, gave, stage_step, first_half, begins_last, split_step, over_step, work_step, step}
 use Rattle.strand_meaning.specs.Rest.{children_of, rest_of_stage, rest_open, closed, prefix_run, parts_run, turns_left, all_with, work_run, finish}
-use Rattle.strand_meaning.specs.Sound.{IsHalf, AreHalves, IsSoundStage, IsSoFar, IsEndOf, IsLoop, IsLongLoop, FitsOrigin, AreParts, IsInstanceOrLoop, IsSoundWork, UnfilledArePendingIn, IsTask}
-use Rattle.serial_meaning.specs.Loops.{IsHandedFor}
+use Rattle.strand_meaning.specs.Sound.{IsHalf, AreHalves, IsPartAfter, IsSoundStage, IsSoFar, IsEndOf, IsLoop, IsLongLoop, FitsOrigin, AreParts, IsInstanceOrLoop, IsSoundWork, UnfilledArePendingIn, IsTask}
 use Rattle.strand_meaning.specs.Laws.{IsFaultOf, IsSoundStep}
 use Rattle.strand_meaning.proofs.SoundSteps.Steps.{so_far-same, parts-append, ended-rest, halves-places, sound-going}
 use Rattle.strand_meaning.proofs.SoundSteps.Starts.{begun-whole, begun-sound, begun-pending, halves-rest}
 use Rattle.strand_meaning.proofs.SoundSteps.Closing.{closed-then, eval-closed}
 use Rattle.strand_meaning.proofs.SoundSteps.Finishing.{add_child-so_far}
-use Rattle.strand_meaning.proofs.SoundSteps.Begun.{shown-more, half-path}
+use Rattle.strand_meaning.proofs.SoundSteps.Begun.{shown-more}
+use Rattle.strand_meaning.proofs.SoundSteps.Passed.{ends-later}
 use Rattle.strand_meaning.proofs.SoundSteps.Depth.{loop-of-plan}
 use Rattle.strand_meaning.proofs.SoundSteps.Loops.{then-done, eval-loop, halves-turns, own-of-plan, part-of-loop}
 
@@ -273,11 +273,10 @@ module _ (t : Task) (is : IsTask t) where
         known = is.known;
         clear = is.clear;
         parts = parts-append t.plan t.origin ps _ is.parts (record { known = subst (IsOriginOf t.plan) (sym half-is) known-half; fits = subst IsLongLoop (sym loop) long; same = inl tt }, tt);
-        shown = λ none. shown-more t.origin t.trace.prefix ps (record { child = first_half t.origin left; place = Half; after = [] }) (is.shown none) (inl (tt, half-path t.origin left));
+        shown = λ none. shown-more t.plan t.origin [] t.trace.prefix ps (record { child = first_half t.origin left; place = Half; after = [] }) (is.shown none) (part none);
         work = (subst (λ (o : Origin). IsEndOf o (upper_half left)) (sym loop) upper, more ps halves);
         pending = tt;
       },
-      subst (λ (o : Origin). IsHandedFor t.plan o (first_half o left)) (sym loop) ([], sym (append-nil path)),
     )
       where
         half : Origin
@@ -300,6 +299,11 @@ module _ (t : Task) (is : IsTask t) where
 
         known-half : IsOriginOf t.plan half
         known-half = part-of-loop t.plan function rest first path range (lower_half left) whole known-loop refl low (omega arith) (omega arith)
+
+        part : t.trace.fault ≡ None → IsPartAfter t.plan t.origin ps (first_half t.origin left)
+        part none =
+            subst (λ (o : Origin). IsPartAfter t.plan o ps (first_half o left)) (sym loop)
+            (left.lo, middle left, omega arith, refl, λ gave f e. ends-later t is none gave function rest first path range left loop at f e)
 
         more : (qs : List AwaitedChild) → AreHalves qs → AreHalves (qs ++ record { child = first_half t.origin left; place = Half; after = [] } ∷ [])
         more [] g = (tt, tt)

@@ -27,6 +27,7 @@ use Rattle.serial_meaning.specs.declared.event.Event.TheVariants as event
 use Rattle.serial_meaning.specs.declared.origin.Origin.{Origin}
 use Rattle.serial_meaning.specs.declared.origin.Origin.TheVariants as origin
 use Rattle.strand_meaning.specs.Machine.{Destination, Spawned, Looped, Effect, Opens, Closes, Emitted, Handed, Exit, loop_effects, sync_effects, handing, inside, destination_of, Level, Frame, Machine, inside_of, present, here_of, state_of, spawns_in, value_run, return_move, level_move, end_move, move_at, move}
+use Rattle.strand_meaning.specs.Sound.{IsUndivided}
 use Rattle.strand_meaning.proofs.SoundSteps.Finishing.{NotHalf}
 
 -- an event by which a child of an instance is spawned or begun
@@ -35,6 +36,7 @@ pub record Begins (path : List ℕ) (e : Event) (o : Origin) : Type 0 where
   pub more : List ℕ
   pub at : path_of o ≡ path ++ rank ∷ more
   pub place : places (e ∷ []) ≡ path_of o ∷ []
+  pub whole : IsUndivided o
 
 -- what holds of all lists of effects that a move shows
 pub record EffectRules (path : List ℕ) (P : List Effect → Type 0) : Type 0 where
@@ -69,9 +71,9 @@ here-below path m = present-below path (m.top ∷ m.below)
 
 -- at a present path
 module _ (P : List Effect → Type 0) (plan : PlanView) (whole : List ℕ) (rules : EffectRules whole P) (ranks path : List ℕ) (goes_on_so : path ≡ whole ++ ranks) where
-  begins : (e : Event) (o : Origin) (k : ℕ) → path_of o ≡ path ++ k ∷ [] → places (e ∷ []) ≡ path_of o ∷ [] → Begins whole e o
-  begins e o k at place =
-      let b = rank-below whole ranks k in record { rank = b.0; more = b.1; at = at ∙ ap (λ z. z ++ k ∷ []) goes_on_so ∙ b.2; place = place }
+  begins : (e : Event) (o : Origin) (k : ℕ) → path_of o ≡ path ++ k ∷ [] → places (e ∷ []) ≡ path_of o ∷ [] → IsUndivided o → Begins whole e o
+  begins e o k at place undivided =
+      let b = rank-below whole ranks k in record { rank = b.0; more = b.1; at = at ∙ ap (λ z. z ++ k ∷ []) goes_on_so ∙ b.2; place = place; whole = undivided }
 
   abbrev Owns : {A : Type 0} → Run Effect Exit A → Type 0
   Owns r = P r.items
@@ -103,7 +105,7 @@ module _ (P : List Effect → Type 0) (plan : PlanView) (whole : List ℕ) (rule
 
   owns-spawn : (height : ℕ) (target : Option Name) (c : CallText) (s : State Bool) → Owns (spawn (what (Spawned height target)) plan path c s)
   owns-spawn height target c s =
-      owns-given (Spawned height target) (values_of c.args s.env) s _ (λ vs. owns-tested (Spawned height target) (nat_lt (length path + 1) plan.limits.depth) Depth s _ (rules.spawned _ _ height target (begins _ _ s.rank refl refl)))
+      owns-given (Spawned height target) (values_of c.args s.env) s _ (λ vs. owns-tested (Spawned height target) (nat_lt (length path + 1) plan.limits.depth) Depth s _ (rules.spawned _ _ height target (begins _ _ s.rank refl refl tt)))
 
   owns-called : (place : Destination) (calls : ℕ) (c : CallText) (s : State Bool) → Owns (called (what place) plan path inside calls c s)
   owns-called place calls c s =
@@ -124,7 +126,7 @@ module _ (P : List Effect → Type 0) (plan : PlanView) (whole : List ℕ) (rule
   owns-loop : (target : Option Name) (c : CallText) (lo : ℤ) (hi : ℕ) (vs : List Value) (s : State Bool) → Owns (looped (what (Looped target)) plan path lo hi vs target c s)
   owns-loop target c lo hi vs s =
       owns-tested place (nat_lt hi (s.steps + 1)) Budget s _ (owns-tested place (has_room target hi s.env) Index _ _ (owns-tested place (fits_depth (what place) plan path hi) Depth _ _
-      (subst P (sym (append-nil (Emitted e ∷ loop_effects (is_empty_loop o) o place))) (rules.looped e o target (is_empty_loop o) (begins e o s.rank refl refl)))))
+      (subst P (sym (append-nil (Emitted e ∷ loop_effects (is_empty_loop o) o place))) (rules.looped e o target (is_empty_loop o) (begins e o s.rank refl refl refl)))))
     where
       place : Destination
       place = Looped target

@@ -1,5 +1,5 @@
 -- A move of a task keeps its invariant.
-use Rattle.std.proofs.Common.{◌≡◌, ℕ, ◌-◌, List, [], ◌∷◌, ◌++◌, Option, Some, None, Result, Ok, Err, inr, length, refl, sym, ap, ◌∙◌, append_assoc, append-nil, subst}
+use Rattle.std.proofs.Common.{◌≡◌, ℕ, List, [], ◌∷◌, ◌++◌, Option, Some, None, Result, Ok, Err, inr, length, refl, sym, ap, ◌∙◌, append_assoc, append-nil, subst}
 use Rattle.std.specs.Prelude.{Contains}
 use Rattle.std.proofs.lemmas.List.Elements.{Contains-append_left, Contains-append_right}
 use Rattle.serial_meaning.specs.Runs.{Run, done, stopped, after_items, ◌then◌}
@@ -12,14 +12,11 @@ use Rattle.serial_meaning.proofs.Equations.Each.{Each}
 use Rattle.serial_meaning.specs.declared.value.Value.{Value}
 use Rattle.serial_meaning.specs.declared.event.Fault.{Fault}
 use Rattle.serial_meaning.specs.declared.origin.Origin.{Origin}
-use Rattle.serial_meaning.specs.declared.origin.Origin.TheVariants.{Instance, Loop}
-use Rattle.serial_meaning.proofs.OriginFaults.Origins.{child-below}
 use Rattle.strand_meaning.specs.Machine.{Destination, Spawned, Looped, Half, Effect, Opens, Closes, Emitted, Handed, Syncs, Loops, Machine, Reached, Stands, Gives, move}
 use Rattle.strand_meaning.specs.Trace.{AwaitedChild, Trace, with_effects}
 use Rattle.strand_meaning.specs.Task.{InstanceState, Running, Ended, Work, Runs, Task, own_instance, stage_after, child_in, stops_at, passing, moved, resumed}
 use Rattle.strand_meaning.specs.Rest.{children_of, rest_of_stage, rest_open, closed, parts_run, prefix_run, work_run, all_with, finish}
 use Rattle.strand_meaning.specs.Sound.{IsDestination, AreDestinations, IsHalf, AreHalves, IsSoundStage, IsSoFar, AreParts, IsInstanceOrLoop, UnfilledArePending, IsTask}
-use Rattle.serial_meaning.specs.Loops.{IsHandedFor}
 use Rattle.strand_meaning.specs.Laws.{IsSoundStep}
 use Rattle.strand_meaning.specs.Observation.{effect_items}
 use Rattle.strand_meaning.proofs.Unfilled.Shown.{effect_parts}
@@ -42,13 +39,6 @@ so_far-same child trace values f g same =
 pub parts-append : (plan : PlanView) (o : Origin) (ps qs : List AwaitedChild) → AreParts plan o ps → AreParts plan o qs → AreParts plan o (ps ++ qs)
 parts-append plan o [] qs h k = k
 parts-append plan o (p ∷ ps) qs h k = (h.0, parts-append plan o ps qs h.1 k)
-
--- What the instance's node has as a child is handed out for the task's origin.
-handed-for : (plan : PlanView) (o c : Origin) → Contains (opened plan (own_instance o)).items (Child c) → IsHandedFor plan o c
-handed-for plan (Instance function args path) c k = k
-handed-for plan (Loop function rest first path range) c k =
-    let below = child-below plan (own_instance (Loop function rest first path range)) c k in
-    ((range.hi - 1) ∷ below.0 ∷ below.1, below.2 ∙ append_assoc path ((range.hi - 1) ∷ []) (below.0 ∷ below.1))
 
 -- The children of a move
 
@@ -150,7 +140,7 @@ module _ (t : Task) (is : IsTask t) (m : Machine) (own-known : IsOriginOf t.plan
           (Contains-append_left (far.front ++ effect_items ts) (rest then all_of).items (Child c) (Contains-append_right far.front (effect_items ts) (Child c) k))
 
   -- the task after the move
-  next-task : (ts : List Effect) → Each NotHalf ts → Shows t.origin ts → (rest : Run Item NodeFault Value) → Leaves ts rest → (stage : InstanceState) →
+  next-task : (ts : List Effect) → Each NotHalf ts → Shows t.plan t.origin ts → (rest : Run Item NodeFault Value) → Leaves ts rest → (stage : InstanceState) →
       rest ≡ rest_open t.plan kids path (ps ++ effect_parts ts) stage → IsSoundStage t.plan (ps ++ effect_parts ts) stage → UnfilledArePending t.plan (ps ++ effect_parts ts) stage → IsTask (passing t ts (Runs stage))
   next-task ts own-effects shows rest leaves stage lands fits stands = record {
     finishes = finishes;
@@ -184,7 +174,7 @@ module _ (t : Task) (is : IsTask t) (m : Machine) (own-known : IsOriginOf t.plan
           ∙ ap (λ (w : Work). so_far (eval t.plan) t.trace t.values (work_run t.plan t.origin ps w)) (sym at)
           ∙ is.finishes
 
-  sound-moved : (ts : List Effect) (e : Result Reached Fault) → Each NotHalf ts → Shows t.origin ts → Leaves ts (shown_with t.plan kids path ps ts e) → SoundEnd t.plan ps ts e → PendingEnd t.plan ps ts e → IsSoundStep t (moved t ts e)
+  sound-moved : (ts : List Effect) (e : Result Reached Fault) → Each NotHalf ts → Shows t.plan t.origin ts → Leaves ts (shown_with t.plan kids path ps ts e) → SoundEnd t.plan ps ts e → PendingEnd t.plan ps ts e → IsSoundStep t (moved t ts e)
   sound-moved ts (Ok (Stands k)) own-effects shows leaves fits stands = by_child (child_in ts) refl
     where
       next : Task
@@ -197,7 +187,7 @@ module _ (t : Task) (is : IsTask t) (m : Machine) (own-known : IsOriginOf t.plan
       by_child None h = is-next
       by_child (Some c) h =
           let k = child-known t.plan t.origin ts c (known ts (rest_open t.plan kids path (ps ++ effect_parts ts) (stage_after ts k)) leaves) h in
-          (k.0, is-next, handed-for t.plan t.origin c k.2)
+          (k.0, is-next)
   sound-moved ts (Ok (Gives v)) own-effects shows leaves fits stands =
       next-task ts own-effects shows (done v) leaves (Ended (Ok v)) (sym (ended-rest t.plan kids path 0 (ps ++ effect_parts ts) (halves-places (ps ++ effect_parts ts) halves) (Ok v))) halves tt
     where
@@ -212,6 +202,6 @@ module _ (t : Task) (is : IsTask t) (m : Machine) (own-known : IsOriginOf t.plan
   pub sound-going : IsSoundStep t (moved t (move t.plan path m).items (move t.plan path m).ending)
   sound-going =
       let r = move t.plan path m in
-      sound-moved r.items r.ending (own-move t.plan path m) (move-shows t.origin t.plan m)
+      sound-moved r.items r.ending (own-move t.plan path m) (move-shows t.plan t.origin m)
       (open-move t.plan kids path (length m.below) ps sound.0 m (sound-free t.plan ps m sound) (none-known kids ps m sound.1.spawned sound.1.faulted) (λ h. (sound.1.leaving h).1))
       (sound-move t.plan path is.clear ps m sound) (pending-move t.plan path ps m sound pends)

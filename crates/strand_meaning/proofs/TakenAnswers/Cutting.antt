@@ -1,15 +1,15 @@
 -- What a task is by the first of its children's answers that is a fault or a cut.
-use Rattle.std.proofs.Common.{◌≡◌, ℕ, List, [], ◌∷◌, ◌++◌, Option, Some, None, Result, Ok, Err, ◌-◌, refl, sym, ap, ◌∙◌, subst, append_assoc, append-nil, inl, inr}
+use Rattle.std.proofs.Common.{◌≡◌, ◌<◌, ℕ, List, [], ◌∷◌, ◌++◌, Option, Some, None, Result, Ok, Err, ◌-◌, refl, sym, ap, ◌∙◌, subst, append_assoc, append-nil, arith}
 use Rattle.std.specs.Prelude.{Contains}
 use Rattle.std.proofs.lemmas.List.Elements.{Contains-append_left, Contains-append_right}
 use Rattle.ped_path.specs.Path.{IsBefore}
-use Rattle.serial_meaning.specs.Answer.{AnswerView, IsEval, IsLoopPath, IsCut, IsAnswer, outcome_of}
+use Rattle.serial_meaning.specs.Answer.{AnswerView, IsEval, IsCut, IsAnswer, outcome_of, start_of}
 use Rattle.serial_meaning.specs.Eval.{Evaluation, path_of, eval}
 use Rattle.serial_meaning.specs.Laws.{IsOriginOf, EndsWithin, places}
 use Rattle.serial_meaning.specs.Open.{faults}
 use Rattle.serial_meaning.specs.Plan.{PlanView}
 use Rattle.serial_meaning.specs.Runs.{after_items, ◌then◌}
-use Rattle.serial_meaning.proofs.CutsBefore.Earlier.{before-own}
+use Rattle.serial_meaning.proofs.CutsBefore.Earlier.{StandsBelow, before-event, before-loop, before-part, has-iterations}
 use Rattle.serial_meaning.proofs.OriginFaults.Origins.{origins_end_within_faults}
 use Rattle.serial_meaning.proofs.RisingPedigrees.Rising.{places-append}
 use Rattle.serial_meaning.specs.declared.value.Value.{Value}
@@ -20,11 +20,12 @@ use Rattle.serial_meaning.specs.declared.origin.Origin.TheVariants.{Instance, Lo
 use Rattle.serial_meaning.specs.declared.answer.Outcome.{Outcome}
 use Rattle.serial_meaning.specs.declared.answer.Outcome.TheVariants as outcome
 use Rattle.strand_meaning.specs.Answers.{evaluation_of, answer_evaluations}
-use Rattle.strand_meaning.specs.Cuts.{GaveValue, GaveValues, heard_of, AreAnswersOf, or_ends, ended_after, by_fault, IsByFaultOf}
+use Rattle.strand_meaning.specs.Machine.{Destination, Spawned, Looped, Half}
+use Rattle.strand_meaning.specs.Cuts.{heard_of, AreAnswersOf, or_ends, ended_after, by_fault, IsByFaultOf}
 use Rattle.strand_meaning.specs.Trace.{AwaitedChild, Trace, heard, heard_all}
-use Rattle.strand_meaning.specs.Rest.{evaluations, prefix_run, parts_run, work_run}
-use Rattle.strand_meaning.specs.Sound.{IsShownBy, AreShownBy, IsTask}
-use Rattle.strand_meaning.specs.Task.{Task, own_instance, more_values}
+use Rattle.strand_meaning.specs.Rest.{GaveValue, GaveValues, evaluations, prefix_run, parts_run, work_run}
+use Rattle.strand_meaning.specs.Sound.{AreParts, IsBegunBy, IsPartAfter, IsShownAs, IsUndivided, AreShownBy, IsTask}
+use Rattle.strand_meaning.specs.Task.{Task, more_values}
 use Rattle.strand_meaning.proofs.TakenAnswers.AnswerRuns.{answers_are_evaluations}
 use Rattle.strand_meaning.proofs.SoundSteps.Begun.{front_of}
 use Rattle.strand_meaning.proofs.SoundSteps.Closing.{after-then}
@@ -104,10 +105,13 @@ module _ (child : Origin → Evaluation) where
           ∙ ap (λ (l : List Event). record { items = l; ending = (rest vs then tail).ending }) (ap (λ (l : List Event). prefix ++ l) (sym (append_assoc (child q.child).items q.after (rest vs then tail).items)) ∙ sym (append_assoc prefix ((child q.child).items ++ q.after) (rest vs then tail).items))
           ∙ h vs
 
--- how the child after the front ones is shown
-shown-at : (o : Origin) (events : List Event) (front : List AwaitedChild) (p : AwaitedChild) (later : List AwaitedChild) → AreShownBy o events (front ++ p ∷ later) → IsShownBy o (front_of events front) p
-shown-at o events [] p later h = h.0
-shown-at o events (q ∷ front) p later h = shown-at o q.after front p later h.1
+-- how the child after these ones is shown
+shown-at : (plan : PlanView) (o : Origin) (before : List AwaitedChild) (events : List Event) (front : List AwaitedChild) (p : AwaitedChild) (later : List AwaitedChild) →
+    AreShownBy plan o before events (front ++ p ∷ later) → IsShownAs p.place plan o (before ++ front) (front_of events front) p.child
+shown-at plan o before events [] p later h = subst (λ (l : List AwaitedChild). IsShownAs p.place plan o l events p.child) (sym (append-nil before)) h.0
+shown-at plan o before events (q ∷ front) p later h =
+    subst (λ (l : List AwaitedChild). IsShownAs p.place plan o l (front_of q.after front) p.child) (append_assoc before (q ∷ []) front)
+    (shown-at plan o (before ++ q ∷ []) q.after front p later h.1)
 
 -- a task's trace without a fault, before the rest
 trace-whole : (t : Task) (ps : List AwaitedChild) → IsTask t → t.trace.fault ≡ None → t.trace.handed ≡ ps →
@@ -120,53 +124,58 @@ trace-whole t ps is none e = sym (ap run none) ∙ ap whole (sym e) ∙ is.finis
     whole : List AwaitedChild → Evaluation
     whole qs = prefix_run t.trace then λ u. parts_run (eval t.plan) qs t.values then work_run t.plan t.origin qs t.work
 
--- the path of a task's origin begins that of each child
-own-begins : (o : Origin) → (more : List ℕ) × (path_of (own_instance o) ≡ path_of o ++ more)
-own-begins (Instance function args path) = ([], sym (append-nil path))
-own-begins (Loop function rest first path range) = ((range.hi - 1) ∷ [], refl)
+-- A child of the task's own instance
 
-child-begins : (o : Origin) (events : List Event) (p : AwaitedChild) → IsShownBy o events p → (more : List ℕ) × (path_of p.child ≡ path_of o ++ more)
-child-begins o events p (inl h) = ([], h.1 ∙ sym (append-nil (path_of o)))
-child-begins o events p (inr h) =
-    let b = own-begins o in (b.0 ++ h.0 ∷ h.1, h.2 ∙ ap (λ (l : List ℕ). l ++ h.0 ∷ h.1) b.1 ∙ append_assoc (path_of o) b.0 (h.0 ∷ h.1))
+-- its path stands below the task's origin
+own-below : (plan : PlanView) (o : Origin) (events : List Event) (child : Origin) → IsBegunBy o events child → Contains (places (eval plan o).items) (path_of child) → StandsBelow o (path_of child)
+own-below plan (Instance function args path) events child b reached = (b.rank ∷ b.more, b.at)
+own-below plan (Loop function rest first path range) events child b reached =
+    let some : 0 < range.hi = has-iterations plan function rest first path range (path_of child) reached in
+    (range.hi - 1, b.rank ∷ b.more, b.at ∙ append_assoc path ((range.hi - 1) ∷ []) (b.rank ∷ b.more), omega arith)
+
+-- what cuts it stands before its path
+own-before : (plan : PlanView) (child : Origin) (by : Fault) → IsOriginOf plan child → IsUndivided child → IsCut plan child by → IsBefore by.at (path_of child)
+own-before plan (Instance function args path) by known undivided cut = cut.before
+own-before plan (Loop function rest first path range) by known undivided cut = before-loop plan function rest first path range known undivided by cut.known cut.before
+
+-- A part of the task's loop
+part-before : (plan : PlanView) (o : Origin) (front : List AwaitedChild) (child : Origin) (by : Fault) → IsOriginOf plan o → IsPartAfter plan o front child → GaveValues (eval plan) front → IsCut plan child by →
+    IsBefore by.at (start_of o)
+part-before plan (Instance function args path) front child by known part gave cut = absurd part
+part-before plan (Loop function rest first path range) front child by known part gave cut =
+    before-part plan function rest first path range known by cut.known part.0 part.2 (part.4 gave) (subst (λ (c : Origin). IsBefore by.at (start_of c)) part.3 cut.before)
+
+known-at : (plan : PlanView) (o : Origin) (front : List AwaitedChild) (p : AwaitedChild) (later : List AwaitedChild) → AreParts plan o (front ++ p ∷ later) → IsOriginOf plan p.child
+known-at plan o [] p later h = h.0.known
+known-at plan o (q ∷ front) p later h = known-at plan o front p later h.1
 
 -- A child's cut is its parent's.
 pub cuts_pass : (t : Task) (front : List AwaitedChild) (p : AwaitedChild) (later : List AwaitedChild) (by : Fault) → IsTask t → t.trace.fault ≡ None → t.trace.handed ≡ front ++ p ∷ later →
     GaveValues (eval t.plan) front → IsCut t.plan p.child by → IsCut t.plan t.origin by
-cuts_pass t front p later by is none e gave cut = record { known = cut.known; before = before t.origin refl; loops = loops }
+cuts_pass t front p later by is none e gave cut =
+    record { known = cut.known; before = by_place p.place (shown-at t.plan t.origin [] t.trace.prefix front p later (subst (AreShownBy t.plan t.origin [] t.trace.prefix) e (is.shown none))) }
   where
     events : List Event
     events = front_of t.trace.prefix front
 
-    shown : IsShownBy t.origin events p
-    shown = shown-at t.origin t.trace.prefix front p later (subst (AreShownBy t.origin t.trace.prefix) e (is.shown none))
+    tail : List Value → Evaluation
+    tail = work_run t.plan t.origin (front ++ p ∷ later) t.work
 
-    begins : (more : List ℕ) × (path_of p.child ≡ path_of t.origin ++ more)
-    begins = child-begins t.origin events p shown
+    reached : Contains (places events) (path_of p.child) → Contains (places (eval t.plan t.origin).items) (path_of p.child)
+    reached c =
+        subst (λ (r : Evaluation). Contains (places r.items) (path_of p.child)) (trace-whole t (front ++ p ∷ later) is none e)
+        (shown-comes (eval t.plan) t.trace.prefix front p later t.values tail (path_of p.child) gave c)
 
-    loops : (path more : List ℕ) → path ++ more ≡ path_of t.origin → IsLoopPath t.plan path → IsBefore by.at path
-    loops path more s loop = cut.loops path (more ++ begins.0) (sym (append_assoc path more begins.0) ∙ ap (λ (l : List ℕ). l ++ begins.0) s ∙ sym begins.1) loop
+    own : IsBegunBy t.origin events p.child → IsBefore by.at (start_of t.origin)
+    own b =
+        let known : IsOriginOf t.plan p.child = known-at t.plan t.origin front p later (subst (AreParts t.plan t.origin) e is.parts) in
+        let there : Contains (places (eval t.plan t.origin).items) (path_of p.child) = reached b.event in
+        before-event t.plan t.origin is.known by cut.known (path_of p.child) (own-before t.plan p.child by known b.whole cut) there (own-below t.plan t.origin events p.child b there)
 
-    before : (o : Origin) → t.origin ≡ o → IsBefore by.at (path_of o)
-    before (Loop function rest first path range) h =
-        cut.loops path begins.0 (ap (λ (x : Origin). path_of x ++ begins.0) (sym h) ∙ sym begins.1) (function, rest, first, range, subst (IsOriginOf t.plan) h is.known)
-    before (Instance function args path) h = by_place (subst (λ (x : Origin). IsShownBy x events p) h shown)
-      where
-        o : Origin
-        o = Instance function args path
-
-        tail : List Value → Evaluation
-        tail = work_run t.plan t.origin (front ++ p ∷ later) t.work
-
-        reached : Contains (places events) (path_of p.child) → Contains (places (eval t.plan o).items) (path_of p.child)
-        reached c =
-            subst (λ (r : Evaluation). Contains (places r.items) (path_of p.child)) (trace-whole t (front ++ p ∷ later) is none e ∙ ap (eval t.plan) h)
-            (shown-comes (eval t.plan) t.trace.prefix front p later t.values tail (path_of p.child) gave c)
-
-        by_place : IsShownBy o events p → IsBefore by.at path
-        by_place (inl g) = subst (IsBefore by.at) g.1 cut.before
-        by_place (inr g) =
-            before-own t.plan function args path (subst (IsOriginOf t.plan) h is.known) by cut.known (path_of p.child) cut.before (reached g.3)
+    by_place : (place : Destination) → IsShownAs place t.plan t.origin front events p.child → IsBefore by.at (start_of t.origin)
+    by_place (Spawned owner target) b = own b
+    by_place (Looped target) b = own b
+    by_place Half b = part-before t.plan t.origin front p.child by is.known b gave cut
 
 -- an evaluation that ends by a fault is an answer
 eval-fault : (plan : PlanView) (o : Origin) (out : List Event) (f : Fault) → ◌≡◌ {A = Evaluation} (record { items = out; ending = Err f }) (eval plan o) → IsEval plan o out (outcome.Fault f)

@@ -339,7 +339,7 @@ module _ (t : Task) (is : IsTask t) where
     known = is.known;
     clear = is.clear;
     parts = subst (AreParts t.plan t.origin) (sym none-handed) tt;
-    shown = λ none. subst (AreShownBy t.origin trace-on.prefix) (sym none-handed) tt;
+    shown = λ none. subst (AreShownBy t.plan t.origin [] trace-on.prefix) (sym none-handed) tt;
     work = subst (λ (qs : List AwaitedChild). IsSoundWork t.plan t.origin qs (resumed_work ps answers t.work)) (sym none-handed) (work-sound t.work is.work);
     pending = subst (λ (qs : List AwaitedChild). UnfilledArePendingIn t.plan qs (resumed_work ps answers t.work)) (sym none-handed) (work-pending t.work is.pending);
   }

@@ -209,7 +209,15 @@ fn generated_scripts_are_the_same_on_any_workers(rt: HostRuntime) -> Result<(), 
     Ok(())
 }
 
-// Without cuts each level would take three times as long as the one before.
+// How main begins what spawns on until no depth is left.
+static EARLY: [&str; 3] = [
+    "spawn f(1); sync;",
+    "pfor i in 0..1 call f(i);",
+    "pfor i in 0..100 call f(i);",
+];
+
+// Without cuts each level would take three times as long as the one before. The first strand without depth for a child has a pedigree of as
+// many zeros as there may be ranks, in the first child as in the first iteration.
 #[test]
 fn what_stands_after_a_known_fault_is_not_run(rt: HostRuntime) -> Result<(), Fail> {
     let alloc = rt.alloc();
@@ -218,7 +226,18 @@ fn what_stands_after_a_known_fault_is_not_run(rt: HostRuntime) -> Result<(), Fai
         output.push_str(".0")?;
     }
     output.push_str(": depth\n")?;
-    let script =
-        "fn f(n) { spawn f(n); spawn f(n); spawn f(n); return 0; } fn main() { spawn f(1); sync; return 0; }";
-    repeats(&rt, "run --depth 100", 2, script, 1, output.as_str())
+    for &main in &EARLY {
+        let script = format!(in alloc;
+            "fn f(n) {{ spawn f(n); spawn f(n); spawn f(n); return 0; }} fn main() {{ {main} return 0; }}"
+        )?;
+        repeats(
+            &rt,
+            "run --depth 100",
+            2,
+            script.as_str(),
+            1,
+            output.as_str(),
+        )?;
+    }
+    Ok(())
 }

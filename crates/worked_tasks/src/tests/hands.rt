@@ -1,6 +1,6 @@
 // The turns of hands. That crews answer as one worker does, on any number of workers, is shown by `worked_commands`.
 
-use super::{plan, same};
+use super::{plan, plan_within, same};
 use crew::{Crew, Gate, Hand, Looked, OpenGate, Root, Turn};
 use meet_block::Look;
 use serial_meaning::{FaultKind, Origin, Outcome};
@@ -74,7 +74,8 @@ fn a_hand_looks_at_its_newest_task_between_turns(rt: HostRuntime) -> Result<(), 
     looks(&rt, rt.alloc(), &mut hands[0])
 }
 
-/// Of which tasks a gate was told, in order: of each a digit, 1 for main, 2 and 3 for its first two children, and 9 for any other.
+/// Of which tasks a gate was told, in order: of each a digit, 1 for main, 2 and 3 for its first two children, 5 for a loop or a part of it
+/// from iteration 0 on, 6 and 7 for a part from iteration 1 or 2 on, and 9 for any other.
 #[derive(Drop)]
 struct Record {
     entered: AtomicU64,
@@ -98,7 +99,7 @@ fn digit(origin: &Origin) -> u64 {
             (1, Some(1)) => 3,
             _ => 9,
         },
-        Origin::Loop { .. } => 9,
+        Origin::Loop { range, .. } => range.lo.wrapping_add(5),
     }
 }
 
@@ -119,7 +120,27 @@ impl Gate for Record {
     }
 }
 
-/// Main has ended by the fault of its first child.
+/// One hand's turns do this, tell a gate of these tasks as they begin and as they end, and end main by a division by zero.
+fn cuts(
+    rt: &(impl Abort + AllocGlobal),
+    script: &str,
+    words: &[&str],
+    entered: u64,
+    left: u64,
+) -> Result<(), Fail> {
+    let plan = plan_within(rt, script, 4)?;
+    let (root, hands) = Crew::new(rt.alloc(), &plan, 1)?;
+    let mut hands = hands.0.0;
+    assert!(rt; hands.len() == 1);
+    let gate = Record::new();
+    turns(rt, rt.alloc(), &mut hands[0], &gate, words)?;
+    same(rt, "entered", gate.entered.load(Ordering::SeqCst), entered);
+    same(rt, "left", gate.left.load(Ordering::SeqCst), left);
+    ends_by_child(rt, root);
+    Ok(())
+}
+
+/// Main has ended by the division by zero of what runs first below it.
 fn ends_by_child(rt: &impl Abort, mut root: Root) {
     let Look::Ready = root.look() else {
         panic!(rt; "main has answered");
@@ -138,14 +159,21 @@ const CUT_TURNS: [&str; 9] = [
 
 #[test]
 fn a_task_after_a_known_fault_is_cut(rt: HostRuntime) -> Result<(), Fail> {
-    let plan = plan(&rt, FAULT_BEFORE_ANOTHER)?;
-    let (root, hands) = Crew::new(rt.alloc(), &plan, 1)?;
-    let mut hands = hands.0.0;
-    assert!(rt; hands.len() == 1);
-    let gate = Record::new();
-    turns(&rt, rt.alloc(), &mut hands[0], &gate, &CUT_TURNS)?;
-    same(&rt, "entered", gate.entered.load(Ordering::SeqCst), 12);
-    same(&rt, "left", gate.left.load(Ordering::SeqCst), 21);
-    ends_by_child(&rt, root);
-    Ok(())
+    cuts(&rt, FAULT_BEFORE_ANOTHER, &CUT_TURNS, 12, 21)
+}
+
+// Iteration 0 faults. Iteration 1 is then handed out as a part of its own. Iteration 2 is run by the task that kept the upper half, which
+// has begun, and spawns a child.
+const FAULT_IN_A_LOOP: &str =
+    "fn ok() { return 1; } fn f(n) { let q = 1 / n; spawn ok(); sync; return q; } fn main() { pfor i in 0..3 call f(i); return 0; }";
+
+// That part is cut in the sixth turn, and that child in the ninth.
+const LOOP_TURNS: [&str; 17] = [
+    "ran", "ran", "answered", "popped", "ran", "answered", "popped", "ran", "answered", "popped",
+    "ran", "popped", "ran", "resumed", "answered", "resumed", "ended",
+];
+
+#[test]
+fn what_stands_after_a_fault_in_its_own_loop_is_cut(rt: HostRuntime) -> Result<(), Fail> {
+    cuts(&rt, FAULT_IN_A_LOOP, &LOOP_TURNS, 155, 551)
 }

@@ -8,7 +8,7 @@ use Rattle.strand_moves.specs.declared.effects.SpawnedChild.{SpawnedChild}
 use Rattle.strand_machine.specs.Effects.{HasSoundEffects, task_after_effects}
 use Rattle.strand_machine.specs.Made.{made}
 use Rattle.strand_machine.specs.Stops.{KeepsStep, step_of}
-use Rattle.strand_machine.specs.Tasks.{view_of, fresh_with, with_child}
+use Rattle.strand_machine.specs.Tasks.{view_of, fresh, with_child}
 use Rattle.strand_machine.specs.declared.destination.Destination.TheVariants as place
 use Rattle.strand_machine.specs.declared.stop.MoveOrStop.{MoveOrStop}
 use Rattle.strand_machine.specs.declared.stop.MoveOrStop.TheVariants as step
@@ -16,7 +16,7 @@ use Rattle.strand_machine.specs.declared.stop.Stop.TheVariants as stop
 use Rattle.strand_machine.specs.declared.work.InstanceState.TheVariants as stage
 use Rattle.strand_machine.specs.declared.work.Work.TheVariants as work
 use Rattle.strand_machine.proofs.Moves.Making.{made-ok}
-use Rattle.strand_machine.proofs.Moves.Moving.{quiet-sound, quiet-step, emitted-sound, emitted-step, synced-sound, synced-step, looped-known, looped-trail, looped-handed, looped-sound, looped-step, passes-keep, spawns-keep, with_trace}
+use Rattle.strand_machine.proofs.Moves.Moving.{quiet-sound, quiet-step, emitted-sound, emitted-step, synced-sound, synced-step, looped-known, looped-trail, looped-sound, looped-step, passes-keep, spawns-keep, with_trace}
 use Rattle.strand_machine.proofs.run.show.Goals as goal
 
 -- nothing, or where a scope begins or has ended
@@ -83,10 +83,6 @@ pub spawn-requires-clause-trail : goal.spawn-requires-clause-trail
 spawn-requires-clause-trail c =
     looped-trail c.args.parts.now.body c.args.instance c.args.effects c.in-Looped.event c.unboxed-child.result (c.in-Looped.is ∙ ap (λ (o : LoopedChild). effect.Looped c.in-Looped.event o) (sym c.unboxed-child.ensures)) c.requires
 
-pub spawn-requires-clause-handed : goal.spawn-requires-clause-handed
-spawn-requires-clause-handed c =
-    looped-handed c.args.parts.now.body c.args.instance c.args.effects c.in-Looped.event c.unboxed-child.result (c.in-Looped.is ∙ ap (λ (o : LoopedChild). effect.Looped c.in-Looped.event o) (sym c.unboxed-child.ensures)) c.requires
-
 pub spawn-requires-clause-sound : goal.spawn-requires-clause-sound
 spawn-requires-clause-sound c =
     looped-sound c.args.parts.now.body c.args.instance c.args.effects c.in-Looped.event c.unboxed-child.result c.emit-in-Looped.new.self (c.in-Looped.is ∙ ap (λ (o : LoopedChild). effect.Looped c.in-Looped.event o) (sym c.unboxed-child.ensures)) c.in_ok-emit-in-Looped.ensures c.requires
@@ -98,7 +94,7 @@ returns-clause-step c =
     let o = c.unboxed-child.result in
     let p = c.emit-in-Looped.new.self in
     made-ok c.spawn.new.parts c.spawn.result
-    (λ (r : MoveOrStop). r ≡ step.Stops (stop.Spawn (fresh_with b.family.knows b.family.plan o.child.origin) (view_of (with_child (with_trace b p) o.child.origin (place.Looped o.target)) (work.Runs (stage.AtLoop i)))))
+    (λ (r : MoveOrStop). r ≡ step.Stops (stop.Spawn (fresh b.family.plan o.child.origin) (view_of (with_child (with_trace b p) o.child.origin (place.Looped o.target)) (work.Runs (stage.AtLoop i)))))
     (λ (r : MoveOrStop). step_of r ≡ stops_at (child_in (effects_of c.args.effects)) (task_after_effects b i c.args.effects))
     (λ r h. looped-step b i c.args.effects c.in-Looped.event o p r (c.in-Looped.is ∙ ap (λ (o : LoopedChild). effect.Looped c.in-Looped.event o) (sym c.unboxed-child.ensures)) c.in_ok-emit-in-Looped.ensures h) c.spawn.ensures.made
 
@@ -110,5 +106,5 @@ returns-clause-keeps c =
     let p = c.emit-in-Looped.new.self in
     let at = place.Looped o.target in
     made-ok c.spawn.new.parts c.spawn.result
-    (λ (r : MoveOrStop). r ≡ step.Stops (stop.Spawn (fresh_with b.family.knows b.family.plan o.child.origin) (view_of (with_child (with_trace b p) o.child.origin at) (work.Runs (stage.AtLoop i)))))
+    (λ (r : MoveOrStop). r ≡ step.Stops (stop.Spawn (fresh b.family.plan o.child.origin) (view_of (with_child (with_trace b p) o.child.origin at) (work.Runs (stage.AtLoop i)))))
     (KeepsStep (view_of b (work.Runs (stage.Running i)))) (λ r h. spawns-keep b p (work.Runs (stage.Running i)) (work.Runs (stage.AtLoop i)) o.child.origin at r refl h) c.spawn.ensures.made

@@ -3,13 +3,13 @@ use Rattle.serial_meaning.specs.declared.origin.Origin.{Origin}
 use Rattle.serial_meaning.specs.declared.answer.Outcome.TheVariants as outcome
 use Rattle.strand_family.specs.Origins.{only}
 use Rattle.strand_machine.specs.Stops.{IsStep}
-use Rattle.strand_machine.specs.Tasks.{view_of, with_child, fresh_with}
+use Rattle.strand_machine.specs.Tasks.{view_of, with_child, fresh}
 use Rattle.strand_machine.specs.declared.stop.MoveOrStop.TheVariants as step
 use Rattle.strand_machine.specs.declared.stop.Stop.TheVariants as stop
 use Rattle.strand_machine.specs.declared.destination.Destination.TheVariants as place
 use Rattle.strand_machine.specs.declared.work.Left.{Left}
 use Rattle.strand_machine.specs.declared.work.Work.TheVariants as work
-use Rattle.strand_machine.proofs.Moves.Dispatch.{end-answers, end-is, handed-half, part-trail, pass-sound, pass-is, spawn-sound, spawn-is, split-many, split-none, split-one}
+use Rattle.strand_machine.proofs.Moves.Dispatch.{end-answers, end-is, part-trail, pass-sound, pass-is, spawn-sound, spawn-is, split-many, split-none, split-one}
 use Rattle.strand_machine.proofs.Moves.Making.{made-ok}
 use Rattle.strand_machine.proofs.Moves.Halves.{many, halves, only-one}
 use Rattle.strand_machine.proofs.step.split.Goals as goal
@@ -33,13 +33,6 @@ spawn-requires-clause-trail c =
     let child : c.in_ok-origin.origin ≡ only b.family.origin p.0 = c.in_ok-origin.ensures ∙ ap (λ (o : Origin). only o p.0) c.origin.ensures in
     part-trail b.family.plan b.family.origin c.in_ok-origin.origin p.0 c.args.left.trail c.in_ok-shared.shared child c.in_ok-shared.ensures c.requires.works
 
-pub spawn-requires-clause-handed : goal.spawn-requires-clause-handed
-spawn-requires-clause-handed c =
-    let b = c.args.parts.now.body in
-    let p = c.in-Some.halves in
-    let child : c.in_ok-origin.origin ≡ only b.family.origin p.0 = c.in_ok-origin.ensures ∙ ap (λ (o : Origin). only o p.0) c.origin.ensures in
-    handed-half b.family.plan b.family.origin c.in_ok-origin.origin c.args.left.range p.0 c.requires.task.work.0 child
-
 pub spawn-requires-clause-sound : goal.spawn-requires-clause-sound
 spawn-requires-clause-sound c =
     let b = c.args.parts.now.body in
@@ -62,7 +55,7 @@ returns-in-Some-clause-step c =
     let two = many (l.range.hi - l.range.lo) c.split.result p c.in-Some.is c.split.ensures.too_few in
     let child : c.in_ok-origin.origin ≡ only b.family.origin p.0 = c.in_ok-origin.ensures ∙ ap (λ (o : Origin). only o p.0) c.origin.ensures in
     made-ok c.spawn.new.parts c.spawn.result
-    (λ s. s ≡ step.Stops (stop.Spawn (fresh_with b.family.knows b.family.plan c.in_ok-origin.origin) (view_of (with_child b c.in_ok-origin.origin place.Half) (work.Splits upper)))) (IsStep (view_of b (work.Splits l)))
+    (λ s. s ≡ step.Stops (stop.Spawn (fresh b.family.plan c.in_ok-origin.origin) (view_of (with_child b c.in_ok-origin.origin place.Half) (work.Splits upper)))) (IsStep (view_of b (work.Splits l)))
     (λ s h. spawn-is b (work.Splits l) (work.Splits upper) c.in_ok-origin.origin place.Half s c.requires.works (split-many b l upper p.0 c.in_ok-origin.origin two parts.0 parts.1 child) h)
     c.spawn.ensures.made
 
