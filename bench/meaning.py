@@ -1,0 +1,425 @@
+"""What scripts mean, worked out from docs/LANGUAGE.md and from no code of the program: bench/random compares `pedrun` with it.
+
+A script is its functions by name. Statements and expressions are tuples that begin with a word for what they are, as Instance and `evaluated`
+have them. A pedigree or a path is a tuple of ranks, and so is an Id. A fault is a pair of its pedigree and its text.
+"""
+from typing import NamedTuple
+
+WORD = 2**64
+PRIME = 2**64 - 59
+OPEN_CALLS = 256
+
+
+class Function(NamedTuple):
+    params: list  # pairs of a name and its kind, which is "int" or "id"
+    body: list
+    result: tuple
+    kind: str
+
+
+class Event(NamedTuple):
+    kind: str
+    pedigree: tuple
+    # the path of its instance, which is a front of the pedigree
+    instance: tuple
+    value: object = None
+
+
+class Node:
+    """What an instance or a loop shows in the open tree: its events and children in order, the strands that it came to, and how it ended."""
+
+    def __init__(self, path, is_loop=False):
+        self.path, self.is_loop = path, is_loop
+        self.items, self.strands = [], set()
+        self.value = self.own_fault = self.child_fault = None
+        # the least fault of it and of all below it, and the steps that an instance took
+        self.fault, self.steps = None, 0
+
+    def children(self):
+        return [it for it in self.items if isinstance(it, Node)]
+
+    def events(self):
+        return [it for it in self.items if isinstance(it, Event)]
+
+    def least_fault(self):
+        return min([it.fault for it in self.children() if it.fault] + [it for it in (self.own_fault,) if it], default=None)
+
+
+# Draws
+
+
+def word(seed, i):
+    """Word i of the SplitMix64 sequence of a seed, from 1 on."""
+    z = (seed + i * 0x9E3779B97F4A7C15) % WORD
+    z = (z ^ (z >> 30)) * 0xBF58476D1CE4E5B9 % WORD
+    z = (z ^ (z >> 27)) * 0x94D049BB133111EB % WORD
+    return z ^ (z >> 31)
+
+
+def dotmix(coefficients, pedigree, rounds):
+    z = sum(c * (rank + 1) for c, rank in zip(coefficients, pedigree)) % PRIME
+    for _ in range(rounds):
+        z = (2 * z * z + z) % WORD
+        z = z >> 32 | z % 2**32 << 32
+    return z
+
+
+# Values
+
+
+class OwnFault(Exception):
+    """A fault of the instance's own, with its text."""
+
+
+class ChildFault(Exception):
+    """The fault of a child by which an instance ends at a sync or a loop."""
+
+
+class TooLarge(Exception):
+    """More steps than a script may take here."""
+
+
+def wrapped(n):
+    return (n + WORD // 2) % WORD - WORD // 2
+
+
+def quotient(a, b):
+    if b == 0:
+        raise OwnFault("division by zero")
+    size = abs(a) // abs(b)
+    return size if (a < 0) == (b < 0) else -size
+
+
+def checked_index(items, index):
+    if not 0 <= index < len(items):
+        raise OwnFault("index out of range")
+    return index
+
+
+OPERATIONS = {
+    "+": lambda a, b: wrapped(a + b),
+    "-": lambda a, b: wrapped(a - b),
+    "*": lambda a, b: wrapped(a * b),
+    "/": lambda a, b: wrapped(quotient(a, b)),
+    "%": lambda a, b: wrapped(a - b * quotient(a, b)),
+    "==": lambda a, b: int(a == b),
+    "!=": lambda a, b: int(a != b),
+    "<": lambda a, b: int(a < b),
+    "<=": lambda a, b: int(a <= b),
+    ">": lambda a, b: int(a > b),
+    ">=": lambda a, b: int(a >= b),
+    "same": lambda a, b: int(a == b),
+    # tuples are compared as pedigrees are: rank by rank, a proper prefix first
+    "older": lambda a, b: int(a < b),
+}
+
+
+def evaluated(variables, e):
+    kind = e[0]
+    if kind == "number":
+        return e[1]
+    if kind == "name":
+        return variables[e[1]]
+    if kind == "item":
+        items = variables[e[1]]
+        return items[checked_index(items, evaluated(variables, e[2]))]
+    if kind == "negative":
+        return wrapped(-evaluated(variables, e[1]))
+    a = evaluated(variables, e[1])
+    if kind == "chain":
+        for sign, operand in e[2]:
+            a = OPERATIONS[sign](a, evaluated(variables, operand))
+        return a
+    return OPERATIONS[kind](a, evaluated(variables, e[2]))
+
+
+# The open tree
+
+
+def has_spawn(body):
+    for kind, *rest in body:
+        if kind in ("let", "set") and rest[1][0] == "spawn":
+            return True
+        if any(isinstance(it, list) and has_spawn(it) for it in rest if kind in ("if", "while", "scope")):
+            return True
+    return False
+
+
+class Plan:
+    """A script, its coefficients and its limits. `most` is how many steps all of its instances may take together."""
+
+    def __init__(self, functions, coefficients, rounds, depth, budget, most):
+        self.functions, self.coefficients, self.rounds = functions, coefficients, rounds
+        self.depth, self.budget, self.left = depth, budget, most
+        self.spawning = {name for name, it in functions.items() if has_spawn(it.body)}
+
+    def tree(self):
+        return instance_node(self, "main", [], ())
+
+
+def instance_node(plan, name, args, path):
+    node = Node(path)
+    instance = Instance(plan, node)
+    try:
+        node.value = instance.function(name, args)
+    except OwnFault as fault:
+        node.own_fault = (instance.here(), str(fault))
+    except ChildFault as fault:
+        node.child_fault = fault.args[0]
+    node.fault, node.steps = node.least_fault(), plan.budget - instance.steps
+    return node
+
+
+def loop_node(plan, name, first, rest, path, count):
+    node = Node(path, is_loop=True)
+    node.items = [instance_node(plan, name, [first + k, *rest], (*path, k)) for k in range(count)]
+    node.fault = node.least_fault()
+    return node
+
+
+class Frame:
+    """A function that was begun: its variables, and the faults of the children that it spawned since its last sync."""
+
+    def __init__(self, variables):
+        self.variables, self.faults = variables, []
+
+
+class Instance:
+    """Runs a function. A child is run at once, and where it faults its parent goes on until the sync that waits for it."""
+
+    def __init__(self, plan, node):
+        self.plan, self.node = plan, node
+        self.path, self.rank, self.steps, self.calls = node.path, 0, plan.budget, 0
+        self.begin_strand()
+
+    def here(self):
+        return (*self.path, self.rank)
+
+    def begin_strand(self):
+        self.node.strands.add(self.here())
+
+    def rise(self):
+        self.rank += 1
+        self.begin_strand()
+
+    def show(self, kind, value=None):
+        self.node.items.append(Event(kind, self.here(), self.node.path, value))
+
+    def pay(self, n=1):
+        if n > self.steps:
+            raise OwnFault("budget spent")
+        self.steps -= n
+        self.plan.left -= n
+        if self.plan.left < 0:
+            raise TooLarge
+
+    def need_depth(self, ranks):
+        if len(self.path) + ranks > self.plan.depth:
+            raise OwnFault("depth")
+
+    def function(self, name, args):
+        function = self.plan.functions[name]
+        frame = Frame({param: arg for (param, _), arg in zip(function.params, args)})
+        self.block(frame, function.body)
+        self.pay()
+        if name in self.plan.spawning:
+            self.sync(frame)
+        return evaluated(frame.variables, function.result)
+
+    def sync(self, frame):
+        self.show("sync")
+        if frame.faults:
+            raise ChildFault(min(frame.faults))
+        self.rise()
+
+    def block(self, frame, body):
+        for kind, *rest in body:
+            self.pay()
+            getattr(self, "do_" + kind)(frame, *rest)
+
+    def do_let(self, frame, name, right):
+        self.do_set(frame, name, right)
+
+    def do_set(self, frame, name, right):
+        value = getattr(self, "right_" + right[0])(frame, *right[1:])
+        if name is not None:
+            frame.variables[name] = value
+
+    def right_value(self, frame, e):
+        return evaluated(frame.variables, e)
+
+    def right_draw(self, _):
+        number = dotmix(self.plan.coefficients, self.here(), self.plan.rounds)
+        self.show("draw", number)
+        self.rise()
+        return wrapped(number)
+
+    def right_new(self, _):
+        made = self.here()
+        self.show("new")
+        self.rise()
+        return made
+
+    def right_call(self, frame, name, args):
+        args = [evaluated(frame.variables, e) for e in args]
+        if self.calls == OPEN_CALLS:
+            raise OwnFault("calls")
+        self.calls += 1
+        value = self.function(name, args)
+        self.calls -= 1
+        return value
+
+    def right_spawn(self, frame, name, args):
+        args = [evaluated(frame.variables, e) for e in args]
+        self.need_depth(2)
+        self.show("spawn")
+        child = instance_node(self.plan, name, args, self.here())
+        self.node.items.append(child)
+        if child.fault:
+            frame.faults.append(child.fault)
+        self.rise()
+
+        # nobody reads what a child that faulted left here: its parent ends at the sync
+        return child.value
+
+    def do_array(self, frame, name, length):
+        frame.variables[name] = [0] * length
+
+    def do_store(self, frame, name, index, e):
+        items = frame.variables[name]
+        k = checked_index(items, evaluated(frame.variables, index))
+        items[k] = evaluated(frame.variables, e)
+
+    def do_print(self, frame, e):
+        self.show("print", evaluated(frame.variables, e))
+
+    def do_sync(self, frame):
+        self.sync(frame)
+
+    def do_if(self, frame, condition, then, other):
+        self.block(frame, then if evaluated(frame.variables, condition) else other)
+
+    def do_while(self, frame, condition, body):
+        while evaluated(frame.variables, condition):
+            self.block(frame, body)
+            self.pay()
+
+    def do_scope(self, frame, body):
+        self.need_depth(2)
+        outside = self.path, self.rank
+        self.path, self.rank = self.here(), 0
+        self.begin_strand()
+        self.block(frame, body)
+        self.sync(frame)
+        self.path, self.rank = outside
+        self.rise()
+
+    def do_pfor(self, frame, low, high, target, name, rest):
+        low, high = evaluated(frame.variables, low), evaluated(frame.variables, high)
+        rest = [evaluated(frame.variables, e) for e in rest]
+        count = max(high - low, 0)
+        self.pay(count)
+        if target is not None and len(frame.variables[target]) < count:
+            raise OwnFault("index out of range")
+        if count > 0:
+            self.need_depth(3)
+        self.show("loop")
+        loop = loop_node(self.plan, name, low, rest, self.here(), count)
+        self.node.items.append(loop)
+        if loop.fault:
+            raise ChildFault(loop.fault)
+        if target is not None:
+            frame.variables[target][:count] = [it.value for it in loop.items]
+        self.rise()
+
+
+# What is printed
+
+
+def dotted(ranks):
+    return ".".join(map(str, ranks))
+
+
+def printed(value):
+    return dotted(value) if isinstance(value, tuple) else str(value)
+
+
+def line(event, show):
+    """An event's line under a show, which is `plain`, `log`, or `strand` for that of a replay; None where it has none."""
+    if event.kind == "print":
+        return printed(event.value)
+    if show == "plain" or show == "log" and event.kind not in ("draw", "new"):
+        return None
+    return f"{event.kind} {dotted(event.pedigree)}" + (f" = {event.value}" if event.kind == "draw" else "")
+
+
+def lines(events, fault, show):
+    texts = [line(it, show) for it in events]
+    texts.append(f"fault {dotted(fault[0])}: {fault[1]}" if fault else None)
+    return "".join(it + "\n" for it in texts if it is not None)
+
+
+def elision(node, events):
+    """Adds the events of the serial elision of an instance or loop, and gives the fault that ends it."""
+    for it in node.items:
+        if isinstance(it, Event):
+            events.append(it)
+        elif fault := elision(it, events):
+            return fault
+    return node.own_fault
+
+
+def begins_with(ranks, front):
+    return ranks[: len(front)] == front
+
+
+def end_of(node):
+    """The pedigree of the sync or loop at which an instance ended by a child's fault."""
+    return node.events()[-1].pedigree
+
+
+def replayed(root, pedigree):
+    """The status, the output and the error output of a replay."""
+    node = root
+    while way := [it for it in node.children() if len(it.path) < len(pedigree) and begins_with(pedigree, it.path)]:
+        node = way[0]
+    if node.child_fault and end_of(node) < pedigree and not begins_with(pedigree, end_of(node)):
+        return 7, "", f"blocked by fault {dotted(node.child_fault[0])}\n"
+    if pedigree not in node.strands:
+        return 7, "", f"no strand {dotted(pedigree)}\n"
+    fault = node.own_fault if node.own_fault and node.own_fault[0] == pedigree else None
+    return int(fault is not None), lines([it for it in node.events() if it.pedigree == pedigree], fault, "strand"), ""
+
+
+# Work and span
+
+
+def joins(events):
+    """For the path of each spawned child and each loop: its parent's path, and for a child the place of the sync that joins it."""
+    found = {}
+    for place, it in enumerate(events):
+        if it.kind == "loop":
+            found[it.pedigree] = it.instance, None
+        elif it.kind == "spawn":
+            syncs = (k for k in range(place, len(events)) if events[k].kind == "sync" and events[k].instance == it.instance)
+            found[it.pedigree] = it.instance, next(syncs, len(events))
+    return found
+
+
+def longest_chain(events):
+    """How many events the longest chain has, in which each one is in series before the next."""
+    found = joins(events)
+    fronts = [[it.instance[:n] for n in range(len(it.instance) + 1)] for it in events]
+    lies_in = [[(path, *found[path]) for path in paths if path in found] for paths in fronts]
+
+    def is_joined(path, parent, sync, place):
+        later = events[place].instance
+        return begins_with(later, parent) and (not begins_with(later, path) if sync is None else sync < place)
+
+    def in_series(a, b):
+        return begins_with(events[b].instance, events[a].instance) or any(is_joined(*it, b) for it in lies_in[a])
+
+    lengths = []
+    for b in range(len(events)):
+        lengths.append(1 + max((lengths[a] for a in range(b) if in_series(a, b)), default=0))
+    return max(lengths, default=0)
