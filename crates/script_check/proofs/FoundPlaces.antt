@@ -1,6 +1,9 @@
 pub mod Parts
 pub mod Collected
 pub mod Named
+pub mod Every
+pub mod Called
+pub mod Callees
 pub mod Picked
 pub mod Rising
 pub mod Known

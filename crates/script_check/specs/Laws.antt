@@ -1,4 +1,4 @@
--- Laws of the pending sets, of the fault that is told, and of the table of places. Each is the contract of a function of the module `laws`.
+-- Laws of the pending sets, of the fault that is told, and of the tables of places and of callees. Each is the contract of a function of the module `laws`.
 use Rattle.std.specs.Prelude.{◌≡◌, ℕ, ◌<◌, ◌≤◌, ◌⊎◌, true, List, [], length, All}
 use Rattle.script_grammar.specs.declared.tree.Stmt.{Stmt}
 use Rattle.script_grammar.specs.declared.tree.Script.{Script}
@@ -29,7 +29,8 @@ abbrev pub FaultIsFirst : Type 0
 FaultIsFirst =
     (script : Script) (number at : ℕ) → CheckFault script number at → All (λ v. (at < v.at) ⊎ ((at ≡ v.at) × (number ≤ v.number))) (violations script)
 
--- The table that is made of a valid script of a text has the place of each variable that the script names.
+-- The tables that are made of a valid script of a text have the place of each variable that the script names, and the number of each function
+-- that it calls.
 abbrev pub PlacesAreFound : Type 0
 PlacesAreFound = (script : Script) → IsOfText script → IsValid script → finds_all (table_of_places script.functions) script.functions ≡ true
 

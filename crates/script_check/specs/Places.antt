@@ -81,6 +81,39 @@ named_in_block sts = joined (map named_in_statement sts)
 abbrev pub named_in_function : Function → List Name
 named_in_function f = named_in_block f.body ++ named_in f.result
 
+-- The functions that a script calls, by the names that it calls them by, in the order of the text.
+
+abbrev pub called_in_right : Right → List Name
+called_in_right (right.Value e) = []
+called_in_right (right.Draw at) = []
+called_in_right (right.New at) = []
+called_in_right (right.Call at c) = c.name ∷ []
+called_in_right (right.Spawn at c) = c.name ∷ []
+
+-- one statement, with what those inside it call in their places
+abbrev pub called_in_act : Act-F (List Name) (List Name) → List Name
+called_in_act (act.Let x r) = called_in_right r
+called_in_act (act.Array x n) = []
+called_in_act (act.Set x r) = called_in_right r
+called_in_act (act.Store x i e) = []
+called_in_act (act.Spawn c) = c.name ∷ []
+called_in_act (act.Call c) = c.name ∷ []
+called_in_act act.Sync = []
+called_in_act (act.Print e) = []
+called_in_act (act.If e a b) = joined a ++ joined b
+called_in_act (act.While e a) = joined a
+called_in_act (act.Pfor x lo hi target c) = c.name ∷ []
+called_in_act (act.Scope a) = joined a
+
+abbrev pub called_in_statement : Stmt → List Name
+called_in_statement = fold-Stmt (List Name) (List Name) called_in_act (λ s. s.act)
+
+abbrev pub called_in_block : List Stmt → List Name
+called_in_block sts = joined (map called_in_statement sts)
+
+abbrev pub called_in : List Function → List Name
+called_in functions = joined (map (λ f. called_in_block f.body) functions)
+
 -- The variables of a function
 
 -- a variable's place
@@ -141,57 +174,46 @@ module _ (is : Name → Bool) where
   abbrev pub every_in_all : List Expr → Bool
   every_in_all es = all_true (map every_in es)
 
-  abbrev pub every_in_right : Right → Bool
-  every_in_right (right.Value e) = every_in e
-  every_in_right (right.Draw at) = true
-  every_in_right (right.New at) = true
-  every_in_right (right.Call at c) = every_in_all c.args
-  every_in_right (right.Spawn at c) = every_in_all c.args
-
   abbrev pub every_in_target : Option Name → Bool
   every_in_target None = true
   every_in_target (Some x) = is x
 
-  -- one statement, with what is told of those inside it in their places
-  abbrev pub every_in_act : Act-F Bool Bool → Bool
-  every_in_act (act.Let x r) = is x && every_in_right r
-  every_in_act (act.Array x n) = is x
-  every_in_act (act.Set x r) = is x && every_in_right r
-  every_in_act (act.Store x i e) = is x && (every_in i && every_in e)
-  every_in_act (act.Spawn c) = every_in_all c.args
-  every_in_act (act.Call c) = every_in_all c.args
-  every_in_act act.Sync = true
-  every_in_act (act.Print e) = every_in e
-  every_in_act (act.If e a b) = every_in e && (all_true a && all_true b)
-  every_in_act (act.While e a) = every_in e && all_true a
-  every_in_act (act.Pfor x lo hi target c) = every_in lo && (every_in hi && (every_in_target target && every_in_all c.args))
-  every_in_act (act.Scope a) = all_true a
+  -- and each name of a function that is called there is such a one
+  module _ (calls : Name → Bool) where
+    abbrev pub every_in_right : Right → Bool
+    every_in_right (right.Value e) = every_in e
+    every_in_right (right.Draw at) = true
+    every_in_right (right.New at) = true
+    every_in_right (right.Call at c) = calls c.name && every_in_all c.args
+    every_in_right (right.Spawn at c) = calls c.name && every_in_all c.args
 
-  abbrev pub every_in_statement : Stmt → Bool
-  every_in_statement = fold-Stmt Bool Bool every_in_act (λ s. s.act)
+    -- one statement, with what is told of those inside it in their places
+    abbrev pub every_in_act : Act-F Bool Bool → Bool
+    every_in_act (act.Let x r) = is x && every_in_right r
+    every_in_act (act.Array x n) = is x
+    every_in_act (act.Set x r) = is x && every_in_right r
+    every_in_act (act.Store x i e) = is x && (every_in i && every_in e)
+    every_in_act (act.Spawn c) = calls c.name && every_in_all c.args
+    every_in_act (act.Call c) = calls c.name && every_in_all c.args
+    every_in_act act.Sync = true
+    every_in_act (act.Print e) = every_in e
+    every_in_act (act.If e a b) = every_in e && (all_true a && all_true b)
+    every_in_act (act.While e a) = every_in e && all_true a
+    every_in_act (act.Pfor x lo hi target c) = every_in lo && (every_in hi && (every_in_target target && (calls c.name && every_in_all c.args)))
+    every_in_act (act.Scope a) = all_true a
 
-  abbrev pub every_in_block : List Stmt → Bool
-  every_in_block sts = all_true (map every_in_statement sts)
+    abbrev pub every_in_statement : Stmt → Bool
+    every_in_statement = fold-Stmt Bool Bool every_in_act (λ s. s.act)
+
+    abbrev pub every_in_block : List Stmt → Bool
+    every_in_block sts = all_true (map every_in_statement sts)
 
 -- each parameter's place is its place: no two have one name
 abbrev pub stand_from : ℕ → List (List ℕ) → List Param → Bool
 stand_from i names [] = true
 stand_from i names (q ∷ params) = agree (Some i) (place_in names q.name.bytes) && stand_from (suc i) names params
 
--- the table has the place of each variable that a function names
-abbrev pub finds_in : List ℕ → Function → Bool
-finds_in table f =
-    let names = variable_names f in
-    stand_from 0 names f.params && (every_in_block (has_place table names) f.body && every_in (has_place table names) f.result)
-
-abbrev pub finds_all : List ℕ → List Function → Bool
-finds_all table functions = all_true (map (finds_in table) functions)
-
--- the names of the variables of each function
-abbrev pub each_names : List Function → List (List (List ℕ))
-each_names = map variable_names
-
--- The table that is made: one function after another, and in each one name after another
+-- A table that is made, one name after another
 
 -- a place at an offset after the table's end
 abbrev pub with_place : List ℕ → ℕ → ℕ → List ℕ
@@ -200,6 +222,32 @@ with_place table at place = (table ++ replicate (at - length table) 0) ++ place 
 abbrev pub with_places : List (List ℕ) → List ℕ → List Name → List ℕ
 with_places names table [] = table
 with_places names table (x ∷ xs) = with_places names (with_place table x.at (unwrap_or (place_in names x.bytes) 0)) xs
+
+-- The table of callees: it has, at the offset of the name by which a function is called, the function's number
+
+abbrev pub function_names : List Function → List (List ℕ)
+function_names = map (λ f. f.name.bytes)
+
+abbrev pub table_of_callees : List Function → List ℕ
+table_of_callees functions = with_places (function_names functions) [] (called_in functions)
+
+abbrev pub finds_callee : List Function → Name → Bool
+finds_callee functions = has_place (table_of_callees functions) (function_names functions)
+
+-- A function's text is found: the table has the place of each variable that it names, and that of callees the number of each function that it calls.
+abbrev pub finds_in : List ℕ → List Function → Function → Bool
+finds_in table functions f =
+    let names = variable_names f in
+    stand_from 0 names f.params && (every_in_block (has_place table names) (finds_callee functions) f.body && every_in (has_place table names) f.result)
+
+abbrev pub finds_all : List ℕ → List Function → Bool
+finds_all table functions = all_true (map (finds_in table functions) functions)
+
+-- the names of the variables of each function
+abbrev pub each_names : List Function → List (List (List ℕ))
+each_names = map variable_names
+
+-- The table of places: one function after another
 
 abbrev pub with_functions : List ℕ → List Function → List ℕ
 with_functions table [] = table

@@ -19,7 +19,7 @@ use Rattle.script_check.specs.Functions.{first_named}
 use Rattle.script_check.specs.Names.{Names}
 use Rattle.script_check.specs.Rules.{Declared}
 use Rattle.script_check.specs.Statements.{judge, judge_all, known_each, after}
-use Rattle.script_check.specs.Places.{each_names, finds_all, has_place, place_in}
+use Rattle.script_check.specs.Places.{each_names, finds_all, has_place, place_in, table_of_callees, table_of_places}
 use Rattle.script_grammar.specs.declared.tree.Name.{Name}
 
 -- the table has the index of the first function of each name
@@ -129,10 +129,12 @@ state_after_all functions ss state =
     }
 
 -- what a checked script keeps
-pub record IsChecked (script : Script) (first : Table ℕ) (spawns : List Bool) (names : List (List (List ℕ))) (places : List ℕ) : Type 0 where
+pub record IsChecked (script : Script) (first : Table ℕ) (spawns : List Bool) (names : List (List (List ℕ))) (places callees : List ℕ) : Type 0 where
   pub valid : IsValid script
   pub text : IsOfText script
   pub index : IsIndex script.functions first
   pub spawn : spawns ≡ each_spawns script.functions
   pub variables : names ≡ each_names script.functions
+  pub placed : places ≡ table_of_places script.functions
+  pub called : callees ≡ table_of_callees script.functions
   pub found : finds_all places script.functions ≡ true

@@ -1,83 +1,107 @@
-// Which function each call of a script means, by the place of the name. Nothing rests on it: a guess is tested where it is used.
+// Which function each call of a script means, by the offset of the name.
+
+ghost use Rattle.std.specs.Prelude.{◌≡◌, ◌≤◌, ◌++◌, ◌∷◌, [], IfOk, OnOk, length};
+ghost use Rattle.script_check.specs.Places.{called_in, called_in_block, called_in_right, called_in_statement, function_names, table_of_callees, with_places};
+ghost use Rattle.script_check.specs.Tables.{table_of};
+ghost use Rattle.script_check.specs.Walk.{IsIndex};
 
 use crate::memory::Memory;
 use crate::names::NameTable;
-use script_grammar::{Act, CallText, Function, Items, Right, Stmt};
+use crate::places::put;
+use script_grammar::{Act, Function, Items, Name, Right, Stmt};
 use std::alloc::Global;
 
-/// A guess at the function that is called at this place of the text.
-#[inline(always)]
-pub(crate) fn guess_at(callees: &[u16], at: u32) -> u32 {
-    match callees.get(at as usize) {
-        Some(number) => u32::from(*number),
-        None => 0,
-    }
-}
-
-/// For each place where a function is called, up to the last one, the index of that function.
+/// The table of callees: it has, at the offset of each name by which a function is called, the index of the first function of that name.
 pub(crate) fn callees(
     alloc: Global,
     first: &NameTable<u32>,
     functions: &[Function],
-) -> Result<Items<u16>, Memory> {
-    let mut found = Vec::new(alloc);
-    for f in functions {
-        note_each(&mut found, first, f.body.as_slice())?;
-    }
-    Ok(Items(found))
+) -> Result<Items<u16>, Memory>
+    requires index { IsIndex functions.now (table_of first.now.map) }
+    requires few { length functions.now ≤ 1024 }
+    ensures { IfOk result (λ table. table ≡ table_of_callees functions.now) }
+{
+    let called = called_in(alloc, functions)?;
+    let mut table = Vec::new(alloc);
+    put_each(&mut table, first, functions, called.as_slice())?;
+    Ok(Items(table))
 }
 
-#[cycle(callees)]
-fn note_each(
-    found: &mut Vec<u16>,
+/// The index of the function of each of these names.
+fn put_each(
+    table: &mut Vec<u16>,
     first: &NameTable<u32>,
-    statements: &[Stmt],
-) -> Result<(), Memory> {
-    for statement in statements {
-        note(found, first, statement)?;
+    functions: &[Function],
+    called: &[Name],
+) -> Result<(), Memory>
+    requires index { IsIndex functions.now (table_of first.now.map) }
+    requires few { length functions.now ≤ 1024 }
+    ensures { OnOk result (table.new.items ≡ with_places (function_names functions.now) table.old.items called.now) }
+{
+    for name in called {
+        let number = first.get(name.bytes.as_slice()).unwrap_or(0);
+        put(table, name.at as usize, number as u16)?;
     }
     Ok(())
 }
 
-#[cycle(callees)]
-fn note(found: &mut Vec<u16>, first: &NameTable<u32>, statement: &Stmt) -> Result<(), Memory> {
+/// The names by which a script calls functions, in the order of the text.
+fn called_in(alloc: Global, functions: &[Function]) -> Result<Items<Name>, Memory>
+    ensures { IfOk result (λ called. called ≡ called_in functions.now) }
+{
+    let mut called = Vec::new(alloc);
+    for f in functions {
+        in_block(&mut called, f.body.as_slice())?;
+    }
+    Ok(Items(called))
+}
+
+#[cycle(called)]
+fn in_block(called: &mut Vec<Name>, statements: &[Stmt]) -> Result<(), Memory>
+    ensures { OnOk result (called.new.items ≡ called.old.items ++ called_in_block statements.now) }
+{
+    for statement in statements {
+        in_statement(called, statement)?;
+    }
+    Ok(())
+}
+
+#[cycle(called)]
+fn in_statement(called: &mut Vec<Name>, statement: &Stmt) -> Result<(), Memory>
+    ensures { OnOk result (called.new.items ≡ called.old.items ++ called_in_statement statement.now) }
+{
     match &statement.act {
-        Act::Let(_, r) | Act::Set(_, r) => note_right(found, first, r),
-        Act::Spawn(c) | Act::Call(c) => note_call(found, first, c),
+        Act::Let(_, r) | Act::Set(_, r) => in_right(called, r),
+        Act::Spawn(c) | Act::Call(c) => note(called, &c.name),
         Act::Pfor {
             var: _,
             lo: _,
             hi: _,
             target: _,
             call,
-        } => note_call(found, first, call),
+        } => note(called, &call.name),
         Act::If(_, yes, no) => {
-            note_each(found, first, yes.as_slice())?;
-            note_each(found, first, no.as_slice())
+            in_block(called, yes.as_slice())?;
+            in_block(called, no.as_slice())?;
+            Ok(())
         }
-        Act::While(_, body) | Act::Scope(body) => note_each(found, first, body.as_slice()),
-        _ => Ok(()),
+        Act::While(_, body) | Act::Scope(body) => in_block(called, body.as_slice()),
+        Act::Array(_, _) | Act::Store(_, _, _) | Act::Sync | Act::Print(_) => Ok(()),
     }
 }
 
-fn note_right(found: &mut Vec<u16>, first: &NameTable<u32>, right: &Right) -> Result<(), Memory> {
+fn in_right(called: &mut Vec<Name>, right: &Right) -> Result<(), Memory>
+    ensures { OnOk result (called.new.items ≡ called.old.items ++ called_in_right right.now) }
+{
     match right {
-        Right::Call(_, c) | Right::Spawn(_, c) => note_call(found, first, c),
-        _ => Ok(()),
+        Right::Call(_, c) | Right::Spawn(_, c) => note(called, &c.name),
+        Right::Value(_) | Right::Draw(_) | Right::New(_) => Ok(()),
     }
 }
 
-fn note_call(found: &mut Vec<u16>, first: &NameTable<u32>, call: &CallText) -> Result<(), Memory> {
-    let Some(number) = first.get(call.name.bytes.as_slice()) else {
-        return Ok(());
-    };
-    let Ok(number) = u16::try_from(number) else {
-        return Ok(());
-    };
-    let at = call.name.at as usize;
-    if at >= found.len() {
-        found.resize(at + 1, 0)?;
-    }
-    found[at] = number;
+fn note(called: &mut Vec<Name>, name: &Name) -> Result<(), Memory>
+    ensures { OnOk result (called.new.items ≡ called.old.items ++ name.now ∷ []) }
+{
+    called.push(name.copy())?;
     Ok(())
 }

@@ -3,14 +3,14 @@
 ghost use Rattle.std.specs.Prelude.{◌≡◌, ◌≢◌, ◌<◌, ℕ, ◌++◌, true, Some, Err, IfOk, IfSome, OnOk, length, option_copied, option_map, slice_get};
 ghost use Rattle.script_grammar.specs.Text.{IsOfText};
 ghost use Rattle.script_check.specs.Functions.{first_named, function_named, main_name};
-ghost use Rattle.script_check.specs.Places.{finds_all, variable_names};
+ghost use Rattle.script_check.specs.Places.{finds_all, finds_callee, table_of_places, variable_names};
 ghost use Rattle.script_check.specs.Spawns.{spawns_in};
 ghost use Rattle.script_check.specs.Tables.{table_of};
 ghost use Rattle.script_check.specs.Valid.{IsValid, CheckFault, all_function_violations, main_violations};
 ghost use Rattle.script_check.specs.Violations.{noted};
 ghost use Rattle.script_check.specs.Walk.{IsChecked, IsIndex};
 
-use crate::callees::{callees, guess_at};
+use crate::callees::callees;
 use crate::error::CheckError;
 use crate::findings::{Findings, Violation};
 use crate::function::{judge_function, judge_main};
@@ -19,6 +19,7 @@ use crate::memory::Memory;
 use crate::names::NameTable;
 use crate::places::places;
 use crate::texts::each_spawns;
+use script_grammar::laws::functions_are_few;
 use script_grammar::{Items, Name, NameText, Script};
 use std::alloc::Global;
 use std::marker::Model;
@@ -37,7 +38,7 @@ struct CheckedScript {
     first: NameTable<u32>,
     /// Whether the word `spawn` stands in the text of each function.
     spawns: Items<bool>,
-    /// For each place of the text a guess at the function that is called there. It is right where the function has the name.
+    /// For each place of the text where a function is called its index.
     callees: Items<u16>,
     /// The names of the variables of each function.
     names: Items<Items<NameText>>,
@@ -60,7 +61,7 @@ impl Model for Checked {
 
     ghost view = { λ c. (arc_value c.kept).script };
 
-    ghost invariant = { λ c. let k = arc_value c.kept in IsChecked k.script (table_of k.first.map) k.spawns k.names k.places };
+    ghost invariant = { λ c. let k = arc_value c.kept in IsChecked k.script (table_of k.first.map) k.spawns k.names k.places k.callees };
 }
 
 /// Checks a script that a text is of. `Ok` comes exactly for valid scripts, apart from want of memory; else the error tells the
@@ -87,6 +88,7 @@ fn kept(alloc: Global, script: Script, first: NameTable<u32>) -> Result<Checked,
     requires index { IsIndex script.functions (table_of first.map) }
     ensures { IfOk result (λ checked. checked ≡ script) }
 {
+    functions_are_few();
     let functions = script.functions.as_slice();
     let spawns = each_spawns(alloc, functions)?;
     let callees = callees(alloc, &first, functions)?;
@@ -106,7 +108,7 @@ fn kept(alloc: Global, script: Script, first: NameTable<u32>) -> Result<Checked,
 
 /// The checked script of what a check found out.
 fn checked_of(alloc: Global, kept: CheckedScript) -> Result<Checked, Memory>
-    requires { IsChecked kept.script (table_of kept.first.map) kept.spawns kept.names kept.places }
+    requires { IsChecked kept.script (table_of kept.first.map) kept.spawns kept.names kept.places kept.callees }
     ensures { IfOk result (λ checked. checked ≡ kept.script) }
 {
     Ok(Checked {
@@ -162,20 +164,21 @@ impl Checked {
         self.kept.first.get(b"main").unwrap_or(0)
     }
 
-    /// The index of the first function of this name. There is none exactly where no function has it. Where a name of the script is
-    /// called, it is found at once.
-    #[inline(always)]
+    /// The index of the first function of this name. There is none exactly where no function has it.
     pub fn function_of(&self, name: &Name) -> Option<u32>
         ensures function { result ≡ first_named self.now.functions name.now.bytes }
         ensures within { IfSome result (λ i. i < length self.now.functions) }
     {
-        let kept: &CheckedScript = &self.kept;
-        let guess = guess_at(kept.callees.as_slice(), name.at);
-        match kept.script.functions.as_slice().get(guess as usize) {
-            // no two functions have one name
-            Some(f) if f.name.bytes.same(&name.bytes) => Some(guess),
-            _ => kept.first.get(name.bytes.as_slice()),
-        }
+        self.kept.first.get(name.bytes.as_slice())
+    }
+
+    /// The index of the function that is called by this name of the text. No name is compared: it stands in a table, by the name's offset.
+    #[inline(always)]
+    pub fn callee(&self, name: &Name) -> u32
+        requires { finds_callee self.now.functions name.now ≡ true }
+        ensures { Some result ≡ first_named self.now.functions name.now.bytes }
+    {
+        u32::from(self.kept.callees.as_slice()[name.at as usize])
     }
 
     /// Whether the word `spawn` stands in the text of the function at this place, if there is one.
@@ -198,7 +201,8 @@ impl Checked {
     /// For each place of the text where a variable is named its place, which is its place among the names of its function's variables.
     #[inline(always)]
     pub fn places(&self) -> &[u16]
-        ensures { finds_all result.now self.now.functions ≡ true }
+        ensures table { result.now ≡ table_of_places self.now.functions }
+        ensures found { finds_all result.now self.now.functions ≡ true }
     {
         self.kept.places.as_slice()
     }

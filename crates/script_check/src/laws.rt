@@ -22,7 +22,8 @@ pub fn fault_is_first()
     ensures { FaultIsFirst }
 {}
 
-/// In a valid script of a text each variable that is named has its place in the table, so that no such script is refused for want of one.
+/// In a valid script of a text each variable that is named has its place in the table of places, and each function that is called its
+/// number in that of callees.
 pub fn places_are_found()
     ensures { PlacesAreFound }
 {}

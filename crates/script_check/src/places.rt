@@ -58,7 +58,7 @@ fn put_each(table: &mut Vec<u16>, variables: &Variables, named: &[Name]) -> Resu
 }
 
 /// A place after the table's end, with zeros before it up to there.
-fn put(table: &mut Vec<u16>, at: usize, place: u16) -> Result<(), Memory>
+pub(crate) fn put(table: &mut Vec<u16>, at: usize, place: u16) -> Result<(), Memory>
     ensures { OnOk result (table.new.items ≡ with_place table.old.items at place) }
 {
     while table.len() < at {

@@ -1,6 +1,6 @@
 ghost use Rattle.std.specs.Prelude.{◌≡◌, ◌≤◌, true, length, IfOk, option_copied, option_map, slice_get};
 ghost use Rattle.std.specs.Arc.{arc_value};
-ghost use Rattle.script_check.specs.Places.{finds_all, variable_names};
+ghost use Rattle.script_check.specs.Places.{finds_all, finds_callee, table_of_places, variable_names};
 ghost use Rattle.script_check.specs.Spawns.{spawns_in};
 ghost use Rattle.serial_meaning.specs.Plan.{IsPlan, functions_of};
 ghost use Rattle.serial_meaning.specs.Functions.{number_of};
@@ -121,21 +121,19 @@ impl Plan {
     /// For each place of the text where a variable is named its place, which is its place among the names of its function's variables.
     #[inline(always)]
     pub fn places(&self) -> &[u16]
-        ensures { finds_all result.now (functions_of self.now) ≡ true }
+        ensures table { result.now ≡ table_of_places (functions_of self.now) }
+        ensures found { finds_all result.now (functions_of self.now) ≡ true }
     {
         self.checked.places()
     }
 
-    /// The place of the first function of this name, or the number of functions where there is none. A name of the text is found
-    /// at once.
+    /// The place of the function that is called by this name of the text. No name is compared.
     #[inline(always)]
     pub fn callee(&self, name: &Name) -> u32
+        requires { finds_callee (functions_of self.now) name.now ≡ true }
         ensures { result ≡ number_of (functions_of self.now) name.now.bytes }
     {
-        match self.checked.function_of(name) {
-            Some(number) => number,
-            None => self.functions().len() as u32,
-        }
+        self.checked.callee(name)
     }
 
     /// The origin of a whole run: `main` at the empty path.

@@ -13,7 +13,8 @@ use Rattle.strand_meaning.specs.Answers.{answer_evaluations}
 use Rattle.strand_meaning.specs.Cuts.{IsByFaultOf, ended_after}
 use Rattle.strand_meaning.specs.Trace.{AwaitedChild, Trace, heard_all}
 use Rattle.strand_meaning.specs.Machine as machine
-use Rattle.strand_meaning.specs.Sound.{IsTask, TargetIsThere}
+use Rattle.strand_meaning.specs.Found.{FindsDestination, functions_at, functions_left}
+use Rattle.strand_meaning.specs.Sound.{IsTask}
 use Rattle.strand_meaning.specs.Task as meaning
 use Rattle.strand_meaning.specs.Task.{Splits, Runs, Over, takes_all, all_values}
 use Rattle.strand_machine.specs.Family.{FamilyView}
@@ -47,22 +48,16 @@ Stands plan stage = (path : List ℕ) × StandsAt plan path stage
 abbrev pub Works : PlanView → Work → Type 0
 Works plan work = (o : Origin) × WorksAt plan o work
 
--- The variable into which the values of a child at this place go, if it is a loop, is there in the instance of a stage, and in that of what
--- remains of a task.
-abbrev pub StageHasTarget : machine.Destination → meaning.InstanceState → Type 0
-StageHasTarget place (meaning.Running m) = TargetIsThere m.top.env place
-StageHasTarget place (meaning.AtSync m) = TargetIsThere m.top.env place
-StageHasTarget place (meaning.AtLoop m) = TargetIsThere m.top.env place
-StageHasTarget place (meaning.Ended e) = Unit {0}
+-- The variable into which the value of a child at this place goes is found, in the instance of a stage and in that of what remains of a task.
+abbrev pub StageFinds : PlanView → machine.Destination → meaning.InstanceState → Type 0
+StageFinds plan place stage = FindsDestination plan (functions_at stage) place
 
-abbrev pub HasTarget : machine.Destination → meaning.Work → Type 0
-HasTarget place (Splits left) = Unit {0}
-HasTarget place (Runs stage) = StageHasTarget place stage
-HasTarget place (Over v gone_on) = Unit {0}
+abbrev pub WorkFinds : PlanView → machine.Destination → meaning.Work → Type 0
+WorkFinds plan place w = FindsDestination plan (functions_left w) place
 
-abbrev pub HasTargets : List AfterChild → meaning.Work → Type 0
-HasTargets [] w = Unit {0}
-HasTargets (b ∷ bs) w = HasTarget (destination_of b.place) w × HasTargets bs w
+abbrev pub WorkFindsAll : PlanView → List AfterChild → meaning.Work → Type 0
+WorkFindsAll plan [] w = Unit {0}
+WorkFindsAll plan (b ∷ bs) w = WorkFinds plan (destination_of b.place) w × WorkFindsAll plan bs w
 
 -- By its meaning the stage after it is the one before it, changed so, and an instance in it is still one of the plan.
 pub record BecomesStage (change : meaning.InstanceState → meaning.InstanceState) (before after : InstanceState) : Type 0 where

@@ -3,11 +3,12 @@ ghost use Rattle.std.specs.Prelude.{◌≡◌, ◌∷◌, ◌++◌, ◌||◌, []
 ghost use Rattle.serial_meaning.specs.Eval.{first_of};
 ghost use Rattle.serial_meaning.specs.Plan.{PlanView};
 ghost use Rattle.strand_meaning.specs.Cuts.{or_ends};
+ghost use Rattle.strand_meaning.specs.Found.{FindsAt, functions_in};
 ghost use Rattle.strand_meaning.specs.Machine.{Spawned, Looped, Half};
 ghost use Rattle.strand_meaning.specs.Trace.{AwaitedChild, heard};
 ghost use Rattle.strand_meaning.specs.Task.{takes, changed, answered, more_values};
 ghost use Rattle.strand_moves.specs.Machines.{IsInstance, machine_of, path_of};
-ghost use Rattle.strand_machine.specs.Merge.{BecomesStage, BecomesWork, HasTarget, KeepsRest, StageHasTarget, Stands, TakesAnswers, Works, end_of, ending_of, merge_of, with_stage};
+ghost use Rattle.strand_machine.specs.Merge.{BecomesStage, BecomesWork, KeepsRest, StageFinds, Stands, TakesAnswers, WorkFinds, Works, end_of, ending_of, merge_of, with_stage};
 ghost use Rattle.strand_machine.specs.Parts.{destination_of, awaited_child};
 ghost use Rattle.strand_machine.specs.Stops.{is_cut};
 ghost use Rattle.strand_machine.specs.Tasks.{stage_of, work_of};
@@ -18,7 +19,7 @@ use crate::parts::Parts;
 use crate::replace::set;
 use crate::trace::{AfterChild, Trace};
 use crate::work::{InstanceState, Work};
-use script_grammar::{Items, Name};
+use script_grammar::Items;
 use serial_meaning::{Answer, Fault, Out, Outcome, Plan, Value};
 use std::alloc::Global;
 use strand_moves::Instance;
@@ -70,7 +71,8 @@ fn merge_spawned(
     target: &Option<Target>,
     outcome: Outcome,
 )
-    requires { IsInstance plan.now instance.old }
+    requires sound { IsInstance plan.now instance.old }
+    requires found { FindsAt plan.now height target.now (functions_in (machine_of plan.now instance.old)) }
     ensures machine { (p : PlanView) → machine_of p instance.new
         ≡ changed height (answered target.now (ending_of outcome)) (machine_of p instance.old) }
     ensures path { path_of instance.new ≡ path_of instance.old }
@@ -97,7 +99,8 @@ fn spawned(
     target: &Option<Target>,
     outcome: Outcome,
 )
-    requires { Stands plan.now stage.old }
+    requires stands { Stands plan.now stage.old }
+    requires found { StageFinds plan.now (Spawned height target.now) (stage_of plan.now stage.old) }
     ensures { BecomesStage (takes (Spawned height target.now) (ending_of outcome)) stage.old stage.new }
 {
     match stage {
@@ -115,11 +118,11 @@ fn filled(
     stage: &mut InstanceState,
     alloc: Global,
     plan: &Plan,
-    target: &Option<Name>,
+    target: &Option<Target>,
     values: &Items<Value>,
 )
     requires stands { Stands plan.now stage.old }
-    requires target { StageHasTarget (Looped target.now) (stage_of plan.now stage.old) }
+    requires found { StageFinds plan.now (Looped target.now) (stage_of plan.now stage.old) }
     ensures { BecomesStage (takes (Looped target.now) (Ok values.now)) stage.old stage.new }
 {
     let into = target.as_ref();
@@ -139,11 +142,11 @@ fn looped(
     stage: &mut InstanceState,
     alloc: Global,
     plan: &Plan,
-    target: &Option<Name>,
+    target: &Option<Target>,
     outcome: Outcome,
 ) -> Result<(), Memory>
     requires stands { Stands plan.now stage.old }
-    requires target { StageHasTarget (Looped target.now) (stage_of plan.now stage.old) }
+    requires found { StageFinds plan.now (Looped target.now) (stage_of plan.now stage.old) }
     ensures { OnOk result (BecomesStage (takes (Looped target.now) (ending_of outcome)) stage.old stage.new) }
 {
     match ending(alloc, outcome)? {
@@ -162,7 +165,7 @@ fn merge_stage(
     outcome: Outcome,
 ) -> Result<(), Memory>
     requires stands { Stands plan.now stage.old }
-    requires target { StageHasTarget (destination_of place) (stage_of plan.now stage.old) }
+    requires found { StageFinds plan.now (destination_of place) (stage_of plan.now stage.old) }
     ensures { OnOk result (BecomesStage (takes (destination_of place) (ending_of outcome)) stage.old stage.new) }
 {
     match place {
@@ -187,7 +190,7 @@ fn merge_work(
     outcome: Outcome,
 ) -> Result<(), Memory>
     requires works { Works plan.now work.old }
-    requires target { HasTarget (destination_of place) (work_of plan.now work.old) }
+    requires found { WorkFinds plan.now (destination_of place) (work_of plan.now work.old) }
     ensures { OnOk result (BecomesWork (with_stage (takes (destination_of place) (ending_of outcome))) work.old work.new) }
 {
     match work {
@@ -291,7 +294,7 @@ fn merge_value(
     outcome: Outcome,
 ) -> Result<(), Memory>
     requires works { Works plan.now work.old }
-    requires target { HasTarget (destination_of place) (work_of plan.now work.old) }
+    requires found { WorkFinds plan.now (destination_of place) (work_of plan.now work.old) }
     ensures values { OnOk result (values.new ≡ more_values (destination_of place) (ending_of outcome) values.old) }
     ensures work { OnOk result (BecomesWork (with_stage (takes (destination_of place) (ending_of outcome))) work.old work.new) }
 {
@@ -311,7 +314,7 @@ pub(crate) fn merge_answer(
 ) -> Result<(), Memory>
     requires handed { parts.old.body.trace.handed ≡ [] }
     requires works { Works parts.old.body.family.plan parts.old.work }
-    requires target { HasTarget (destination_of after.place) (work_of parts.old.body.family.plan parts.old.work) }
+    requires found { WorkFinds parts.old.body.family.plan (destination_of after.place) (work_of parts.old.body.family.plan parts.old.work) }
     ensures takes { OnOk result (TakesAnswers (awaited_child answer.origin after ∷ []) (answer ∷ []) (merge_of parts.old heard.old) (merge_of parts.new heard.new)) }
     ensures rest { OnOk result (KeepsRest parts.old parts.new) }
 {

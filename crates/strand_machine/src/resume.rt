@@ -1,9 +1,8 @@
 // How a task goes on from a wait.
-ghost use Rattle.std.specs.Prelude.{◌≡◌, ◌-◌, List, [], true, false, length, drop, IfOk, OnOk};
-ghost use Rattle.serial_meaning.specs.Plan.{PlanView};
+ghost use Rattle.std.specs.Prelude.{◌≡◌, ◌-◌, [], true, false, length, drop, IfOk, OnOk};
 ghost use Rattle.strand_meaning.specs.Task.{resumed, resumed_work};
 ghost use Rattle.strand_machine.specs.Family.{tags, origins, AwaitsCount};
-ghost use Rattle.strand_machine.specs.Merge.{BecomesStage, BecomesWork, EndsShort, HasTakenAnswers, HasTargets, IsShort, KeepsRest, TakesAnswers, Works, end_of, merge_of};
+ghost use Rattle.strand_machine.specs.Merge.{BecomesStage, BecomesWork, EndsShort, HasTakenAnswers, IsShort, KeepsRest, TakesAnswers, WorkFindsAll, Works, end_of, merge_of};
 ghost use Rattle.strand_machine.specs.Parts.{awaited, awaited_children};
 ghost use Rattle.strand_meaning.specs.Cuts.{AreAnswersOf};
 ghost use Rattle.strand_machine.specs.Made.{resumed_as};
@@ -100,7 +99,7 @@ fn merge_all(
     requires many { length answers ≡ length after.items }
     requires handed { parts.old.body.trace.handed ≡ [] }
     requires works { Works parts.old.body.family.plan parts.old.work }
-    requires targets { HasTargets after.items (work_of parts.old.body.family.plan parts.old.work) }
+    requires found { WorkFindsAll parts.old.body.family.plan after.items (work_of parts.old.body.family.plan parts.old.work) }
     ensures takes { OnOk result (TakesAnswers (awaited_children (origins (answer_tags answers)) after.items) answers (merge_of parts.old heard.old) (merge_of parts.new heard.new)) }
     ensures rest { OnOk result (KeepsRest parts.old parts.new) }
     ensures none { IfOk result (λ left. left ≡ []) }
@@ -166,6 +165,8 @@ pub(crate) fn go_on(
     laws::answers_keep_tasks();
     laws::answers_are_evaluations();
     laws::answers_end();
+    // Read for the proof: the plan's table has the place of each variable that its functions name.
+    let _places = parts.body.family.plan().places();
     let after = parts.body.trace.take_children(alloc);
     let mut heard = Heard {
         cut: false,

@@ -7,3 +7,4 @@ pub mod Computed
 pub mod Unfilled
 pub mod ClearPlans
 pub mod ElisionsStrands
+pub mod FoundTargets

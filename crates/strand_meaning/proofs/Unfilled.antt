@@ -5,5 +5,4 @@ pub mod Changed
 pub mod Clears
 pub mod Moves
 pub mod Taken
-pub mod Targets
 pub mod SoundMoves

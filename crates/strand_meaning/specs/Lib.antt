@@ -14,3 +14,4 @@ pub mod StrandExamples
 pub mod StrandLaws
 pub mod Strands
 pub mod Task
+pub mod Found

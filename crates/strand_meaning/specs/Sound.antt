@@ -1,10 +1,9 @@
 -- What holds of a task at all times.
-use Rattle.std.specs.Prelude.{◌≡◌, ◌≤◌, ◌<◌, ℕ, ◌+◌, Bool, true, false, ◌||◌, ◌⊎◌, nat_eq, List, [], ◌∷◌, ◌++◌, Option, None, Ok, Err, IfSome, IsSome, Contains, length, if◌then◌else◌}
+use Rattle.std.specs.Prelude.{◌≡◌, ◌≤◌, ◌<◌, ℕ, ◌+◌, Bool, true, false, ◌||◌, ◌⊎◌, nat_eq, List, [], ◌∷◌, ◌++◌, Option, None, Ok, Err, Contains, length, if◌then◌else◌}
 use Rattle.loop_range.specs.Range.{Range}
 use Rattle.script_grammar.specs.declared.tree.Name.{Name}
 use Rattle.serial_meaning.specs.Runs.{done, after_items, ◌then◌}
 use Rattle.serial_meaning.specs.Names.{Names}
-use Rattle.serial_meaning.specs.Values.{Env, slot_of}
 use Rattle.serial_meaning.specs.Functions.{function_at, any_spawns}
 use Rattle.serial_meaning.specs.Plan.{PlanView, functions_of}
 use Rattle.serial_meaning.specs.Eval.{path_of, eval}
@@ -17,6 +16,7 @@ use Rattle.serial_meaning.specs.declared.origin.Origin.TheVariants.{Instance, Lo
 use Rattle.strand_meaning.specs.Clear.{IsApart, IsClear, IsClearPlan, target_names}
 use Rattle.strand_meaning.specs.Machine.{Destination, Spawned, Looped, Half, Level, Frame, spawns_in}
 use Rattle.strand_meaning.specs.Trace.{AwaitedChild}
+use Rattle.strand_meaning.specs.Found.{FindsTargets, IsFoundPlan, functions_left}
 use Rattle.strand_meaning.specs.Pending.{ArePending, ArePendingStill, IsCall, IsSync, IsPfor}
 use Rattle.strand_meaning.specs.Task.{InstanceState, Running, AtSync, AtLoop, Ended, Work, Splits, Runs, Over, Task, own_instance}
 use Rattle.strand_meaning.specs.Rest.{GaveValues, children_of, rest_open, finish}
@@ -90,16 +90,6 @@ abbrev pub AreHalves : List AwaitedChild → Type 0
 AreHalves [] = Unit {0}
 AreHalves (p ∷ ps) = IsHalf p.place × AreHalves ps
 
--- the variable that a loop's values go to is there
-abbrev pub TargetIsThere : Env → Destination → Type 0
-TargetIsThere env (Spawned owner target) = Unit {0}
-TargetIsThere env (Looped target) = IfSome target (λ x. IsSome (slot_of env x.bytes))
-TargetIsThere env Half = Unit {0}
-
-abbrev pub TargetsAreThere : Env → List AwaitedChild → Type 0
-TargetsAreThere env [] = Unit {0}
-TargetsAreThere env (p ∷ ps) = TargetIsThere env p.place × TargetsAreThere env ps
-
 -- A frame at a sync has nothing unfilled once it goes on, and knows of no fault.
 abbrev pub after_sync : Frame → Frame
 after_sync a = record a { faulted = None }
@@ -107,7 +97,7 @@ after_sync a = record a { faulted = None }
 abbrev pub IsSoundStage : PlanView → List AwaitedChild → InstanceState → Type 0
 IsSoundStage plan parts (Running m) = AreDestinations (length m.below) parts × IsSound plan parts (length m.below) m.top × AreSound plan parts m.top.target m.below
 IsSoundStage plan parts (AtSync m) = AreDestinations (length m.below) parts × IsSound plan [] (length m.below) (after_sync m.top) × AreSound plan parts m.top.target m.below
-IsSoundStage plan parts (AtLoop m) = IsSound plan parts (length m.below) m.top × AreSound plan parts m.top.target m.below × TargetsAreThere m.top.env parts
+IsSoundStage plan parts (AtLoop m) = IsSound plan parts (length m.below) m.top × AreSound plan parts m.top.target m.below
 IsSoundStage plan parts (Ended (Ok v)) = AreHalves parts
 IsSoundStage plan parts (Ended (Err (Own f))) = (height : ℕ) × AreDestinations height parts
 IsSoundStage plan parts (Ended (Err (ChildFaulted f))) = parts ≡ []
@@ -218,7 +208,8 @@ abbrev pub AreShownBy : PlanView → Origin → List AwaitedChild → List Event
 AreShownBy plan o front events [] = Unit {0}
 AreShownBy plan o front events (p ∷ ps) = IsShownAs p.place plan o front events p.child × AreShownBy plan o (front ++ p ∷ []) p.after ps
 
--- The invariant: to finish a task gives the evaluation of its origin; and what is unfilled of it is pending, where it stands.
+-- The invariant: to finish a task gives the evaluation of its origin; what is unfilled of it is pending, where it stands; and the variables to
+-- which its children's values go are found, where the plan's functions are.
 pub record IsTask (t : Task) : Type 0 where
   pub finishes : finish t ≡ eval t.plan t.origin
   pub known : IsOriginOf t.plan t.origin
@@ -227,3 +218,4 @@ pub record IsTask (t : Task) : Type 0 where
   pub shown : t.trace.fault ≡ None → AreShownBy t.plan t.origin [] t.trace.prefix t.trace.handed
   pub work : IsSoundWork t.plan t.origin t.trace.handed t.work
   pub pending : UnfilledArePendingIn t.plan t.trace.handed t.work
+  pub found : IsFoundPlan t.plan → FindsTargets t.plan (functions_left t.work) t.trace.handed

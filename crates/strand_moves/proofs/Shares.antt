@@ -1,4 +1,4 @@
--- An instance, and what a move shows, may go to another thread and be read by several at once. Where a target stands only contracts
+-- An instance, and what a move shows, may go to another thread and be read by several at once. The text of a target only contracts
 -- know, and the search for these facts ends before that, so they are put together by hand from those that the toolchain writes.
 use denote.Builtin.{u32, u64, bool}
 use denote.Param.Send.{IsSend, IsSync, view_send, view_sync, sendable}
@@ -9,7 +9,6 @@ use Rattle.dotmix.proofs.trail.Trail.TheSendSync as trail_shared
 use Rattle.ped_path.proofs.ped.Ped.TheSendSync as ped_shared
 use Rattle.ped_path.proofs.pedigree.Pedigree.TheSendSync as pedigree_shared
 use Rattle.script_grammar.proofs.boxed.Boxed.TheSendSync as boxed_shared
-use Rattle.script_grammar.proofs.name_text.NameText.TheSendSync as text_shared
 use Rattle.serial_meaning.proofs.event.Event.TheSendSync as event_shared
 use Rattle.serial_meaning.proofs.event.Fault.TheSendSync as fault_shared
 use Rattle.serial_meaning.proofs.value.Value.TheSendSync as value_shared
@@ -19,7 +18,6 @@ use Rattle.strand_values.specs.contracts.target.Target as target
 use Rattle.strand_values.specs.contracts.target.Target.TheInside as target_inside
 use Rattle.strand_moves.proofs.cursor.Cursor.TheSendSync as cursor_shared
 use Rattle.strand_moves.proofs.effects.Child.TheSendSync as child_shared
-use Rattle.strand_moves.proofs.effects.LoopedChild.TheSendSync as looped_shared
 use Rattle.strand_moves.proofs.frame.Level.TheSendSync as level_shared
 use Rattle.strand_moves.specs.contracts.effects.Effects as effects
 use Rattle.strand_moves.specs.contracts.effects.LoopedChild as looped
@@ -42,7 +40,7 @@ bool_sends : IsSend bool
 bool_sends = search sendable
 
 target_inside_sends : IsSend target_inside.the_row
-target_inside_sends = declared_send target_inside.the_type (text_shared.the_send, (search crosses, tt))
+target_inside_sends = declared_send target_inside.the_type (number_sends, (search crosses, tt))
 
 pub target_sends : IsSend target.the_row
 target_sends = view_send target_inside.the_row _ _ _ _ target_inside_sends
@@ -56,6 +54,9 @@ fault_sends = variants_send (option.enum fault.the_row) (tt, ((fault_shared.the_
 spawned_sends : IsSend spawned.the_row
 spawned_sends = declared_send spawned.the_type (child_shared.the_send, (number_sends, (maybe_target_sends, tt)))
 
+looped_sends : IsSend looped.the_row
+looped_sends = declared_send looped.the_type (child_shared.the_send, (maybe_target_sends, tt))
+
 effects_sends : IsSend effects.the_row
 effects_sends = variants_send effects.enum (
   tt,
@@ -67,7 +68,7 @@ effects_sends = variants_send effects.enum (
         (pedigree_shared.the_send, tt),
         (
           (event_shared.the_send, (boxed_shared.the_send spawned.the_row spawned_sends, tt)),
-          ((event_shared.the_send, tt), ((event_shared.the_send, (boxed_shared.the_send looped.the_row looped_shared.the_send, tt)), tt)),
+          ((event_shared.the_send, tt), ((event_shared.the_send, (boxed_shared.the_send looped.the_row looped_sends, tt)), tt)),
         ),
       ),
     ),
@@ -99,7 +100,7 @@ bool_syncs : IsSync bool
 bool_syncs = search sendable
 
 target_inside_syncs : IsSync target_inside.the_row
-target_inside_syncs = declared_sync target_inside.the_type (text_shared.the_sync, (search crosses, tt))
+target_inside_syncs = declared_sync target_inside.the_type (number_syncs, (search crosses, tt))
 
 pub target_syncs : IsSync target.the_row
 target_syncs = view_sync target_inside.the_row _ _ _ _ target_inside_syncs
@@ -113,6 +114,9 @@ fault_syncs = variants_sync (option.enum fault.the_row) (tt, ((fault_shared.the_
 spawned_syncs : IsSync spawned.the_row
 spawned_syncs = declared_sync spawned.the_type (child_shared.the_sync, (number_syncs, (maybe_target_syncs, tt)))
 
+looped_syncs : IsSync looped.the_row
+looped_syncs = declared_sync looped.the_type (child_shared.the_sync, (maybe_target_syncs, tt))
+
 effects_syncs : IsSync effects.the_row
 effects_syncs = variants_sync effects.enum (
   tt,
@@ -124,7 +128,7 @@ effects_syncs = variants_sync effects.enum (
         (pedigree_shared.the_sync, tt),
         (
           (event_shared.the_sync, (boxed_shared.the_sync spawned.the_row spawned_syncs, tt)),
-          ((event_shared.the_sync, tt), ((event_shared.the_sync, (boxed_shared.the_sync looped.the_row looped_shared.the_sync, tt)), tt)),
+          ((event_shared.the_sync, tt), ((event_shared.the_sync, (boxed_shared.the_sync looped.the_row looped_syncs, tt)), tt)),
         ),
       ),
     ),

@@ -1,6 +1,6 @@
--- Where the variables that statements name are found.
+-- Where the variables that statements name are found, and the functions that they call.
 use Rattle.std.specs.Prelude.{◌≡◌, ℕ, Bool, true, List, Option}
-use Rattle.script_check.specs.Places.{every_in_all, every_in_right, every_in_statement, every_in_target, finds_all, has_place}
+use Rattle.script_check.specs.Places.{every_in_all, every_in_right, every_in_statement, every_in_target, finds_all, finds_callee, has_place, table_of_places}
 use Rattle.script_grammar.specs.declared.tree.CallText.{CallText}
 use Rattle.script_grammar.specs.declared.tree.Expr.{Expr}
 use Rattle.script_grammar.specs.declared.tree.Name.{Name}
@@ -9,31 +9,45 @@ use Rattle.script_grammar.specs.declared.tree.Stmt.{Stmt}
 use Rattle.serial_meaning.specs.Plan.{PlanView, functions_of}
 use Rattle.strand_values.specs.Environments.{EnvironmentView, FindsExpression, FindsArguments}
 
--- the table has the place of each variable that a function of the plan names
-abbrev pub ArePlaces : List ℕ → PlanView → Type 0
-ArePlaces places plan = finds_all places (functions_of plan) ≡ true
+-- the plan's table of places, which has the place of each variable that a function of the plan names
+pub record ArePlaces (places : List ℕ) (plan : PlanView) : Type 0 where
+  pub table : places ≡ table_of_places (functions_of plan)
+  pub found : finds_all places (functions_of plan) ≡ true
 
--- and those of each that is named here
-abbrev pub FindsStatement : List ℕ → EnvironmentView → Stmt → Type 0
-FindsStatement places env st = every_in_statement (has_place places env.names) st ≡ true
+-- the plan's table of callees has the function that is called by this name
+abbrev pub FindsCallee : PlanView → Name → Type 0
+FindsCallee plan x = finds_callee (functions_of plan) x ≡ true
 
-abbrev pub FindsRight : List ℕ → EnvironmentView → Right → Type 0
-FindsRight places env r = every_in_right (has_place places env.names) r ≡ true
+-- and the tables have each variable that is named here, and each function that is called
+abbrev pub FindsStatement : PlanView → List ℕ → EnvironmentView → Stmt → Type 0
+FindsStatement plan places env st = every_in_statement (has_place places env.names) (finds_callee (functions_of plan)) st ≡ true
+
+abbrev pub FindsRight : PlanView → List ℕ → EnvironmentView → Right → Type 0
+FindsRight plan places env r = every_in_right (has_place places env.names) (finds_callee (functions_of plan)) r ≡ true
 
 abbrev pub FindsTarget : List ℕ → EnvironmentView → Option Name → Type 0
 FindsTarget places env target = every_in_target (has_place places env.names) target ≡ true
 
--- Each variable that a spawn names is such a one.
-pub record EveryInSpawn (is : Name → Bool) (to : Option Name) (c : CallText) : Type 0 where
+-- The table has each variable that is named here, whatever is called.
+abbrev pub FindsVariables : List ℕ → EnvironmentView → Stmt → Type 0
+FindsVariables places env st = (calls : Name → Bool) × (every_in_statement (has_place places env.names) calls st ≡ true)
+
+abbrev pub FindsRightVariables : List ℕ → EnvironmentView → Right → Type 0
+FindsRightVariables places env r = (calls : Name → Bool) × (every_in_right (has_place places env.names) calls r ≡ true)
+
+-- Each variable that a spawn names is such a one, and so is what it calls.
+pub record EveryInSpawn (is calls : Name → Bool) (to : Option Name) (c : CallText) : Type 0 where
   pub target : every_in_target is to ≡ true
+  pub called : calls c.name ≡ true
   pub args : every_in_all is c.args ≡ true
 
-abbrev pub FindsSpawn : List ℕ → EnvironmentView → Option Name → CallText → Type 0
-FindsSpawn places env to c = EveryInSpawn (has_place places env.names) to c
+abbrev pub FindsSpawn : PlanView → List ℕ → EnvironmentView → Option Name → CallText → Type 0
+FindsSpawn plan places env to c = EveryInSpawn (has_place places env.names) (finds_callee (functions_of plan)) to c
 
 -- and each that a parallel loop names
-pub record FindsLoop (places : List ℕ) (env : EnvironmentView) (lo hi : Expr) (to : Option Name) (c : CallText) : Type 0 where
+pub record FindsLoop (plan : PlanView) (places : List ℕ) (env : EnvironmentView) (lo hi : Expr) (to : Option Name) (c : CallText) : Type 0 where
   pub first : FindsExpression places env lo
   pub end : FindsExpression places env hi
   pub target : FindsTarget places env to
+  pub called : FindsCallee plan c.name
   pub args : FindsArguments places env c.args

@@ -1,10 +1,10 @@
 -- What an instance is in the words of the strand's meaning.
-use Rattle.std.specs.Prelude.{◌≡◌, ℕ, ◌+◌, ◌<◌, ◌^◌, Bool, true, false, List, [], ◌∷◌, ◌++◌, Option, Some, None, IfSome, IsSome, map, reverse, length, All, if◌then◌else◌}
+use Rattle.std.specs.Prelude.{◌≡◌, ℕ, ◌+◌, ◌<◌, ◌^◌, Bool, true, false, List, [], ◌∷◌, ◌++◌, Option, Some, None, map, reverse, length, All, if◌then◌else◌}
 use Rattle.dotmix.specs.Trails.{FitsGamma}
 use Rattle.script_grammar.specs.declared.tree.Function.{Function}
 use Rattle.script_grammar.specs.declared.tree.Name.{Name}
 use Rattle.script_grammar.specs.declared.tree.Stmt.{Stmt}
-use Rattle.script_check.specs.Places.{place_in, variable_names}
+use Rattle.script_check.specs.Places.{table_of_places, variable_names}
 use Rattle.serial_meaning.specs.Functions.{function_at}
 use Rattle.serial_meaning.specs.Plan.{PlanView, functions_of}
 use Rattle.strand_meaning.specs.Machine as meaning
@@ -12,6 +12,7 @@ use Rattle.strand_moves.specs.declared.frame.Frame.{Frame}
 use Rattle.strand_moves.specs.declared.frame.Level.{Level}
 use Rattle.strand_moves.specs.declared.running.Running.{Running}
 use Rattle.strand_moves.specs.Cursors.{left_of, scope_after}
+use Rattle.strand_moves.specs.Found.{FindsTarget}
 
 abbrev pub body_in : Option Function → List Stmt
 body_in None = []
@@ -106,18 +107,18 @@ pub record IsNamed (plan : PlanView) (a : Frame) : Type 0 where
   pub of_plan : function_at (functions_of plan) a.function ≡ Some function
   pub names : a.env.names ≡ variable_names function
 
--- What a call's value goes to is a variable of the caller's function, if there is a target.
-abbrev pub IsNamedIn : Frame → Option Name → Type 0
-IsNamedIn caller target = IfSome target (λ x. IsSome (place_in caller.env.names x.bytes))
+-- The table has the place of what a call's value goes to among the caller's variables, if there is a target.
+abbrev pub IsNamedIn : PlanView → Frame → Option Name → Type 0
+IsNamedIn plan caller target = FindsTarget (table_of_places (functions_of plan)) caller.env target
 
 -- the same of a frame with this target and of each below it, by the frames below, the innermost first
-abbrev pub TargetsAreNamed : Option Name → List Frame → Type 0
-TargetsAreNamed target [] = Unit {0}
-TargetsAreNamed target (caller ∷ below) = IsNamedIn caller target × TargetsAreNamed caller.target below
+abbrev pub TargetsAreNamed : PlanView → Option Name → List Frame → Type 0
+TargetsAreNamed plan target [] = Unit {0}
+TargetsAreNamed plan target (caller ∷ below) = IsNamedIn plan caller target × TargetsAreNamed plan caller.target below
 
 pub record AreNamed (plan : PlanView) (i : Running) : Type 0 where
   pub each : All (IsNamed plan) (i.top ∷ i.below.items)
-  pub targets : TargetsAreNamed i.top.target (reverse i.below.items)
+  pub targets : TargetsAreNamed plan i.top.target (reverse i.below.items)
 
 -- No move changes whose variables they are.
 abbrev pub KeepsNames : PlanView → Running → Running → Type 0

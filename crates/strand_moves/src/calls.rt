@@ -10,9 +10,9 @@ ghost use Rattle.strand_values.specs.declared.halt.Halt.TheVariants.{Fault};
 ghost use Rattle.strand_meaning.specs.Machine.{here_of, return_move, spawns_in, with_scalar};
 ghost use Rattle.strand_values.specs.Gives.{Gives};
 ghost use Rattle.strand_values.specs.Environments.{FindsArguments, with_variables};
-ghost use Rattle.strand_moves.specs.Found.{ArePlaces, FindsTarget};
+ghost use Rattle.strand_moves.specs.Found.{ArePlaces, FindsCallee, FindsTarget};
 ghost use Rattle.strand_moves.specs.Acts.{Acts, BeginsOne, Costs, IsCallee, StaysUnlessMemory, result_of};
-ghost use Rattle.strand_moves.specs.Running.{AreNamed, IsNamed, IsNamedIn, IsStrand, KeepsNames, machine_of, path_of, present_of};
+ghost use Rattle.strand_moves.specs.Running.{AreNamed, IsNamed, IsStrand, KeepsNames, machine_of, path_of, present_of};
 ghost use Rattle.strand_moves.specs.Moves.{Makes, MovesTrail, call_to, present_pedigree};
 ghost use Rattle.strand_moves.specs.Quick.{StaysThere, quiet, emitted_if_any};
 
@@ -42,6 +42,7 @@ impl Running {
     ) -> Result<(), Halt>
         requires goes_on { self.old.leaving ≡ false }
         requires places { ArePlaces places.now plan.now }
+        requires called { FindsCallee plan.now call.now.name }
         requires args { FindsArguments places.now self.old.top.env call.now.args }
         requires target { FindsTarget places.now self.old.top.env (option_copied target) }
         ensures shows { (st : Stmt) → Acts plan.now st (call_to (option_copied target.entry) call.now) self.old self.new (quiet result) }
@@ -52,10 +53,10 @@ impl Running {
         ensures named { KeepsNames plan.now self.old self.new }
     {
         let number = plan.callee(&call.name);
-        match function_in(plan, number) {
-            Some(function) => self.enter(alloc, plan, places, number, function, target, call),
-            None => self.skip(alloc, plan, places, target, call),
-        }
+        let Some(function) = function_in(plan, number) else {
+            unreachable!()
+        };
+        self.enter(alloc, plan, places, number, function, target, call)
     }
 
     /// A call of this function.
@@ -95,35 +96,6 @@ impl Running {
         Ok(())
     }
 
-    /// A call of a function that there isn't, whose value is 0.
-    fn skip(
-        &mut self,
-        alloc: Global,
-        plan: &Plan,
-        places: &[u16],
-        target: Option<&Name>,
-        call: &CallText,
-    ) -> Result<(), Halt>
-        requires args { FindsArguments places.now self.old.top.env call.now.args }
-        requires target { FindsTarget places.now self.old.top.env (option_copied target) }
-        requires none { function_at (functions_of plan.now) (number_of (functions_of plan.now) call.now.name.bytes) ≡ None }
-        ensures shows { (st : Stmt) → Acts plan.now st (call_to (option_copied target.entry) call.now) self.old self.new (quiet result) }
-        ensures same { (kind : FaultKind) → result ≡ Err (Fault kind) → self.new ≡ self.old }
-        ensures stays { StaysUnlessMemory self.old self.new (quiet result) }
-        ensures few { Costs self.old self.new }
-        ensures begins { OnOk result (BeginsOne self.old self.new) }
-        ensures named { KeepsNames plan.now self.old self.new }
-    {
-        drop(self.top.env.values(alloc, places, call.args.as_slice())?);
-        if self.below.len() >= MOST_CALLS {
-            return Err(Halt::Fault(FaultKind::Calls));
-        }
-        if let Some(x) = target {
-            self.top.env.set_scalar(places, x, Value::Int(0));
-        }
-        Ok(())
-    }
-
     /// Begins a function with these variables over the innermost frame.
     fn open(
         &mut self,
@@ -155,16 +127,12 @@ impl Running {
 
     /// Gives a variable of the innermost frame a value, if there is one.
     #[inline(always)]
-    pub(crate) fn receive(&mut self, plan: &Plan, target: Option<&Target>, value: Value)
-        requires named { IsNamed plan.now self.old.top }
-        requires target { IsNamedIn self.old.top (option_copied target) }
+    pub(crate) fn receive(&mut self, places: &[u16], target: Option<&Target>, value: Value)
+        requires { FindsTarget places.now self.old.top.env (option_copied target) }
         ensures { self.new ≡ record self.old { top = record self.old.top { env = with_variables self.old.top.env (with_scalar (option_copied target.entry) value self.old.top.env.variables) } } }
     {
         if let Some(x) = target {
-            let Some(names) = plan.names(self.top.function) else {
-                unreachable!()
-            };
-            self.top.env.receive(names, x, value);
+            self.top.env.receive(places, x, value);
         }
     }
 
@@ -273,7 +241,7 @@ impl Running {
             unreachable!()
         };
         let callee = mem::replace(&mut self.top, caller);
-        self.receive(plan, callee.target.as_ref(), value);
+        self.receive(plan.places(), callee.target.as_ref(), value);
         Ok(())
     }
 }

@@ -27,7 +27,7 @@ ghost use Rattle.strand_moves.specs.declared.effects.Effects.TheVariants as effe
 
 use crate::calls::function_in;
 use crate::effects::{Child, Effects, LoopedChild, MoveResult, SpawnedChild, Spawning};
-use crate::frame::{copy_of, target_of};
+use crate::frame::target_of;
 use crate::memory::Memory;
 use crate::narrow::narrowed;
 use crate::running::Running;
@@ -51,7 +51,7 @@ impl Running {
         call: &CallText,
     ) -> Result<Spawning, Halt>
         requires strand { IsStrand plan.now self.old }
-        requires finds { FindsSpawn places.now self.old.top.env (option_copied target) call.now }
+        requires finds { FindsSpawn plan.now places.now self.old.top.env (option_copied target) call.now }
         ensures shows { (st : Stmt) → Acts plan.now st (spawn_to (option_copied target.entry) call.now) self.old self.new (handed result) }
         ensures same { (kind : FaultKind) → result ≡ Err (Fault kind) → self.new ≡ self.old }
         ensures child { IfOk result (λ s. IsTrailOf plan.now s.spawned.child.origin s.spawned.child.trail) }
@@ -148,7 +148,7 @@ impl Running {
     ) -> Result<MoveResult, Halt>
         requires strand { IsStrand plan.now self.old }
         requires steps { self.old.steps < 2 ^ 32 }
-        requires finds { FindsLoop places.now self.old.top.env lo.now hi.now target.now call.now }
+        requires finds { FindsLoop plan.now places.now self.old.top.env lo.now hi.now target.now call.now }
         ensures shows { (st : Stmt) (var : _) → Acts plan.now st (act.Pfor var lo.now hi.now target.now call.now) self.old self.new result }
         ensures child { IfOk result (MovesTrail plan.now) }
         ensures stays { Stays self.old self.new }
@@ -241,7 +241,7 @@ impl Running {
         ensures few { Costs self.old self.new }
         ensures named { (plan : PlanView) → KeepsNames plan self.old self.new }
     {
-        let into = copy_of(target.as_ref());
+        let into = target_of(target.as_ref());
         let looped = boxed(
             alloc,
             LoopedChild {
@@ -297,7 +297,7 @@ impl Running {
 /// The variable and the call of a spawn, and nothing of another statement.
 fn spawn_in<'a>(statement: &'a Stmt) -> Option<(Option<&'a Name>, &'a CallText)>
     ensures does { IfSome result (λ text. DoesAs statement.now (option_copied text.0) text.1.now) }
-    ensures every { (is : Name → Bool) → every_in_statement is statement.now ≡ true → IfSome result (λ text. EveryInSpawn is (option_copied text.0) text.1.now) }
+    ensures every { (is calls : Name → Bool) → every_in_statement is calls statement.now ≡ true → IfSome result (λ text. EveryInSpawn is calls (option_copied text.0) text.1.now) }
 {
     match &statement.act {
         Act::Spawn(c) => Some((None, c)),

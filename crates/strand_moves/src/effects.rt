@@ -1,6 +1,6 @@
 use dotmix::Trail;
 use ped_path::{Ped, Pedigree};
-use script_grammar::{Boxed, Name};
+use script_grammar::Boxed;
 use serial_meaning::{Event, Fault, Origin, Value};
 use strand_values::Target;
 
@@ -32,7 +32,7 @@ pub struct Spawning {
 #[derive(Drop)]
 pub struct LoopedChild {
     pub child: Child,
-    pub target: Option<Name>,
+    pub target: Option<Target>,
 }
 
 /// What a move shows, in order: an event, if any, and then a child or a wait; or where a scope begins or has ended.

@@ -100,16 +100,6 @@ pub(crate) fn body(plan: &Plan, function: u32) -> &[Stmt]
     }
 }
 
-/// A copy of a name, if there is one.
-pub(crate) fn copy_of(name: Option<&Name>) -> Option<Name>
-    ensures { result ≡ option_copied name.entry }
-{
-    match name {
-        Some(name) => Some(name.copy()),
-        None => None,
-    }
-}
-
 /// The variable of this name, if there is one.
 pub(crate) fn target_of(name: Option<&Name>) -> Option<Target>
     ensures { result ≡ option_copied name.entry }

@@ -1,11 +1,11 @@
 // Instances.
 
-ghost use Rattle.std.specs.Prelude.{◌≡◌, ◌<◌, [], ◌∷◌, Some, Ok, Err, IfOk, IfSome, IsSome, length};
+ghost use Rattle.std.specs.Prelude.{◌≡◌, ◌<◌, [], ◌∷◌, Some, Ok, Err, IfOk, length};
 ghost use Rattle.std.specs.Option.{option_copied};
 ghost use Rattle.dotmix.specs.Trails.{FitsGamma};
 ghost use Rattle.serial_meaning.specs.Plan.{PlanView, functions_of};
-ghost use Rattle.serial_meaning.specs.Values.{slot_of};
 ghost use Rattle.strand_meaning.specs.Machine.{Stands, begun, move};
+ghost use Rattle.strand_meaning.specs.Found.{FindsAt, FindsInnermost, functions_in};
 ghost use Rattle.strand_meaning.specs.Task.{answered, changed, with_values};
 
 use crate::effects::{MoveResult, Spawning};
@@ -14,7 +14,7 @@ use crate::frame::Frame;
 use crate::memory::Memory;
 use crate::running::Running;
 use dotmix::Trail;
-use script_grammar::{Name, Stmt};
+use script_grammar::Stmt;
 use serial_meaning::{Fault, Plan, Value};
 use std::alloc::Global;
 use strand_values::Target;
@@ -141,7 +141,8 @@ impl Instance {
 
     /// Takes the value of a child of the frame with `height` others below it. A variable that isn't there doesn't come to be.
     pub fn take_value(&mut self, plan: &Plan, height: usize, target: Option<&Target>, value: Value)
-        requires { IsInstance plan.now self.old }
+        requires sound { IsInstance plan.now self.old }
+        requires found { FindsAt plan.now height (option_copied target) (functions_in (machine_of plan.now self.old)) }
         ensures machine { (p : PlanView) → machine_of p self.new ≡ changed height (answered (option_copied target.entry) (Ok (value ∷ []))) (machine_of p self.old) }
         ensures path { path_of self.new ≡ path_of self.old }
         ensures sound { (p : PlanView) → IsInstance p self.old → IsInstance p self.new }
@@ -149,16 +150,16 @@ impl Instance {
         self.running.take_value(plan, height, target, value);
     }
 
-    /// Takes the values of a loop of the innermost frame, in which its target is there.
+    /// Takes the values of a loop of the innermost frame.
     pub fn take_values(
         &mut self,
         alloc: Global,
         plan: &Plan,
-        target: Option<&Name>,
+        target: Option<&Target>,
         values: &[Value],
     )
         requires sound { IsInstance plan.now self.old }
-        requires there { IfSome (option_copied target) (λ x. IsSome (slot_of (machine_of plan.now self.old).top.env x.bytes)) }
+        requires found { FindsInnermost plan.now (option_copied target) (functions_in (machine_of plan.now self.old)) }
         ensures machine { (p : PlanView) → machine_of p self.new ≡ with_values (option_copied target.entry) values.now (machine_of p self.old) }
         ensures path { path_of self.new ≡ path_of self.old }
         ensures sound { (p : PlanView) → IsInstance p self.old → IsInstance p self.new }

@@ -1,7 +1,7 @@
 //! One move of an instance of a running script.
 //!
 //! What a move is, is defined in `strand_meaning`; the contracts here are its words. An instance is a stack of frames over the
-//! plan's tree: nothing of the tree is copied but the names of targets.
+//! plan's tree: nothing of the tree is copied.
 #![tactic(auto)]
 
 mod answers;

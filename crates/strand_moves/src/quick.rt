@@ -7,7 +7,7 @@ ghost use Rattle.script_grammar.specs.declared.tree.Act.TheOpen as act;
 ghost use Rattle.script_grammar.specs.declared.tree.Stmt.{Stmt, out-Stmt};
 ghost use Rattle.serial_meaning.specs.Plan.{PlanView};
 ghost use Rattle.strand_values.specs.Environments.{FindsName};
-ghost use Rattle.strand_moves.specs.Found.{ArePlaces, FindsRight, FindsStatement};
+ghost use Rattle.strand_moves.specs.Found.{ArePlaces, FindsRight, FindsRightVariables, FindsStatement, FindsVariables};
 ghost use Rattle.strand_moves.specs.Acts.{Costs, Stays};
 ghost use Rattle.strand_moves.specs.Cursors.{left_of};
 ghost use Rattle.strand_moves.specs.Running.{IsInstance, IsStrand, KeepsNames, statements_of};
@@ -175,7 +175,7 @@ impl Running {
         requires goes_on { self.old.leaving ≡ false }
         requires paid { self.old.steps + 1 < 2 ^ 64 }
         requires places { ArePlaces places.now plan.now }
-        requires finds { FindsStatement places.now self.old.top.env statement.now }
+        requires finds { FindsStatement plan.now places.now self.old.top.env statement.now }
         ensures gone { IfOk result (λ form. HasGone S.after plan.now statement.now self.old sink.old self.new sink.new form) }
         ensures named { KeepsNames plan.now self.old self.new }
     {
@@ -231,7 +231,7 @@ impl Running {
         places: &[u16],
         statement: &Stmt,
     ) -> Result<bool, Memory>
-        requires { FindsStatement places.now self.old.top.env statement.now }
+        requires { FindsVariables places.now self.old.top.env statement.now }
         ensures did { IfOk result (IsQuiet statement.now self.old self.new) }
         ensures there { StaysThere self.old self.new }
         ensures cursor { is_fork (out-Act (out-Stmt statement.now).act) ≡ false → self.new.top.cursor ≡ self.old.top.cursor }
@@ -254,7 +254,7 @@ impl Running {
     #[inline(always)]
     fn quiet_right(&mut self, places: &[u16], x: &Name, r: &Right) -> Result<bool, Memory>
         requires name { FindsName places.now self.old.top.env x.now }
-        requires right { FindsRight places.now self.old.top.env r.now }
+        requires right { FindsRightVariables places.now self.old.top.env r.now }
         ensures did { (st : Stmt) → IfOk result (IsDone st (act.Set x.now r.now) self.old self.new) }
         ensures there { StaysThere self.old self.new }
         ensures cursor { self.new.top.cursor ≡ self.old.top.cursor }
@@ -284,7 +284,7 @@ impl Running {
         sink: &mut S,
     ) -> Result<bool, Memory>
         requires strand { IsStrand plan.now self.old }
-        requires finds { FindsStatement places.now self.old.top.env statement.now }
+        requires finds { FindsStatement plan.now places.now self.old.top.env statement.now }
         ensures did { IfOk result (HasEmitted S.after plan.now statement.now (out-Act (out-Stmt statement.now).act) self.old sink.old self.new sink.new) }
         ensures there { StaysThere self.old self.new }
         ensures cursor { self.new.top.cursor ≡ self.old.top.cursor }
@@ -337,7 +337,7 @@ impl Running {
     ) -> Result<bool, Memory>
         requires goes_on { self.old.leaving ≡ false }
         requires places { ArePlaces places.now plan.now }
-        requires finds { FindsStatement places.now self.old.top.env statement.now }
+        requires finds { FindsStatement plan.now places.now self.old.top.env statement.now }
         ensures did { IfOk result (HasCalled plan.now statement.now (out-Act (out-Stmt statement.now).act) self.old self.new) }
         ensures few { Costs self.old self.new }
         ensures named { KeepsNames plan.now self.old self.new }
@@ -362,7 +362,7 @@ impl Running {
         requires goes_on { self.old.leaving ≡ false }
         requires places { ArePlaces places.now plan.now }
         requires name { FindsName places.now self.old.top.env x.now }
-        requires right { FindsRight places.now self.old.top.env r.now }
+        requires right { FindsRight plan.now places.now self.old.top.env r.now }
         ensures did { (st : Stmt) → IfOk result (HasCalled plan.now st (act.Set x.now r.now) self.old self.new) }
         ensures few { Costs self.old self.new }
         ensures named { KeepsNames plan.now self.old self.new }

@@ -37,7 +37,7 @@ impl Running {
         requires goes_on { self.old.leaving ≡ false }
         requires places { ArePlaces places.now plan.now }
         requires name { FindsName places.now self.old.top.env x.now }
-        requires right { FindsRight places.now self.old.top.env r.now }
+        requires right { FindsRight plan.now places.now self.old.top.env r.now }
         ensures shows { (st : Stmt) → Acts plan.now st (act.Set x.now r.now) self.old self.new result }
         ensures child { IfOk result (MovesTrail plan.now) }
         ensures stays { StaysUnlessMemory self.old self.new result }

@@ -38,7 +38,7 @@ impl Running {
         requires goes_on { self.old.leaving ≡ false }
         requires after { IsAfterStatement (statements_of plan.now self.old.top) self.old.top.cursor statement.now }
         requires places { ArePlaces places.now plan.now }
-        requires finds { FindsStatement places.now self.old.top.env statement.now }
+        requires finds { FindsStatement plan.now places.now self.old.top.env statement.now }
         ensures shows { let m = machine_of plan.now self.old in
             Makes (statement_move plan.now (path_of self.old) m statement.now m.top.left) (present_pedigree (present_of self.old) m) (machine_of plan.now self.new) result }
         ensures child { IfOk result (MovesTrail plan.now) }

@@ -27,7 +27,7 @@ use std::mem;
 use std::snapshot::Snapshot;
 
 /// The variables of a frame: an entry for each variable of its function. Contracts see them as the list of those that are there, by their
-/// names in the order in which they were made. No name is looked at when it runs, but where a value comes to a `Target`.
+/// names in the order in which they were made. No name is looked at when it runs.
 #[derive(Drop)]
 pub struct Environment {
     pub(crate) entries: Vec<Entry>,
@@ -194,27 +194,24 @@ impl Environment {
         self.put(places[name.at as usize] as usize, Entry::of(value));
     }
 
-    /// The same of the variable that a call's value goes to, which is one of the function's.
+    /// The same of the variable that a call's value goes to.
     #[inline(always)]
-    pub fn receive(&mut self, names: &Items<NameText>, target: &Target, value: Value)
-        requires names { names.now ≡ self.old.names }
-        requires known { IsSome (place_in self.old.names target.now.bytes) }
+    pub fn receive(&mut self, places: &[u16], target: &Target, value: Value)
+        requires { FindsName places.now self.old target.now }
         ensures { self.new ≡ with_variables self.old (with_slot self.old.variables target.now.bytes (Scalar value)) }
     {
-        let Some(place) = place_named(names.as_slice(), target.text()) else {
-            unreachable!()
-        };
-        self.put(place, Entry::of(value));
+        self.put(places[target.at() as usize] as usize, Entry::of(value));
     }
 
-    /// Gives a scalar that is there a new value. Where the name isn't there nothing changes.
+    /// Gives a scalar that is there a new value. Where the variable isn't there nothing changes.
     #[inline(always)]
-    pub fn replace_scalar(&mut self, names: &Items<NameText>, target: &Target, value: Value)
-        requires { names.now ≡ self.old.names }
+    pub fn replace_scalar(&mut self, places: &[u16], target: &Target, value: Value)
+        requires { FindsName places.now self.old target.now }
         ensures there { IsSome (slot_of self.old.variables target.now.bytes) → self.new ≡ with_variables self.old (with_slot self.old.variables target.now.bytes (Scalar value)) }
         ensures missing { IsNone (slot_of self.old.variables target.now.bytes) → self.new ≡ self.old }
     {
-        if let Some(place) = self.place_there(names, target.text()) {
+        let place = places[target.at() as usize] as usize;
+        if !self.entries[place].is_vacant() {
             self.put(place, Entry::of(value));
         }
     }
@@ -269,39 +266,14 @@ impl Environment {
         }
     }
 
-    /// Writes a loop's values over the first items of its target, if there is one. The target is there, and what is no array becomes one of no
-    /// items.
-    pub fn fill(
-        &mut self,
-        alloc: Global,
-        names: &Items<NameText>,
-        target: Option<&Name>,
-        values: &[Value],
-    )
-        requires names { names.now ≡ self.old.names }
-        requires there { IfSome (option_copied target) (λ x. IsSome (slot_of self.old.variables x.bytes)) }
+    /// Writes a loop's values over the first items of its target, if there is one. What is no array becomes one of no items.
+    pub fn fill(&mut self, alloc: Global, places: &[u16], target: Option<&Target>, values: &[Value])
+        requires { every_in_target (has_place places.now self.old.names) (option_copied target) ≡ true }
         ensures { self.new ≡ with_variables self.old (filled (option_copied target.entry) values.now self.old.variables) }
     {
-        if let Some(name) = target {
-            let Some(place) = self.place_there(names, &name.bytes) else {
-                unreachable!()
-            };
-            self.fill_entry(alloc, place, values);
+        if let Some(target) = target {
+            self.fill_entry(alloc, places[target.at() as usize] as usize, values);
         }
-    }
-
-    /// The place of the variable of this name, if it is there.
-    fn place_there(&self, names: &Items<NameText>, name: &NameText) -> Option<usize>
-        requires { names.now ≡ self.now.names }
-        ensures place { IfSome result (λ i. place_in self.now.names name.now ≡ Some i) }
-        ensures there { is_some result ≡ is_some (slot_of self.now.variables name.now) }
-    {
-        let entries = &self.entries;
-        let place = place_named(names.as_slice(), name)?;
-        if entries[place].is_vacant() {
-            return None;
-        }
-        Some(place)
     }
 
     /// Writes values over the first items of an array in the entry of a place. What is no array becomes one of no items.
@@ -343,11 +315,4 @@ fn with_filled(filled: Log<usize>, entry: &Entry, place: usize) -> Log<usize>
     } else {
         filled
     }
-}
-
-/// The place of the variable of this name.
-fn place_named(names: &[NameText], name: &NameText) -> Option<usize>
-    ensures { result ≡ place_in names.now name.now }
-{
-    names.iter().position(|other| other.same(name))
 }

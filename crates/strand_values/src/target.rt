@@ -4,12 +4,12 @@ use script_grammar::{Name, NameText};
 use std::marker::Model;
 use std::snapshot::Snapshot;
 
-/// The variable that a value goes to. Contracts see it as the `Name` that it is.
+/// The variable that a value goes to, by the offset of its name in the text. Contracts see it as the `Name` that it is.
 #[derive(Drop)]
 pub struct Target {
-    text: NameText,
-    /// Where it stands. Only contracts look there, so it takes no memory.
-    at: Snapshot<u32>,
+    at: u32,
+    /// The name's bytes. Only contracts look there, so they take no memory.
+    text: Snapshot<NameText>,
 }
 
 impl Model for Target {
@@ -17,23 +17,26 @@ impl Model for Target {
 
     ghost Value = { Name };
 
-    ghost view = { λ t. record { bytes = t.text; at = t.at.value } };
+    ghost view = { λ t. record { bytes = t.text.value; at = t.at } };
 }
 
 impl Target {
-    /// A copy of a name.
+    /// The variable of this name.
+    #[inline(always)]
     pub fn of(name: &Name) -> Target
         ensures { result ≡ name.now }
     {
         Target {
-            text: name.bytes.copy(),
-            at: Snapshot::of(&name.at),
+            at: name.at,
+            text: Snapshot::of(&name.bytes),
         }
     }
 
-    pub(crate) fn text(&self) -> &NameText
-        ensures { result.now ≡ self.now.bytes }
+    /// Where its name stands in the text.
+    #[inline(always)]
+    pub(crate) fn at(&self) -> u32
+        ensures { result ≡ self.now.at }
     {
-        &self.text
+        self.at
     }
 }

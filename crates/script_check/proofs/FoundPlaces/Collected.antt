@@ -1,7 +1,8 @@
 -- What is collected after some names, piece by piece, and what is told of each part.
 use Rattle.std.proofs.Common.{◌≡◌, ℕ, ◌+◌, ◌<◌, Bool, ◌&&◌, List, ◌++◌, length, map, drop, get_or, refl, sym, ap, ◌∙◌, append_assoc}
+use Rattle.std.specs.Prelude.{unwrap_or}
 use Rattle.script_grammar.specs.declared.tree.Name.{Name}
-use Rattle.script_check.specs.Places.{all_true, joined}
+use Rattle.script_check.specs.Places.{all_true, joined, place_in, with_place, with_places}
 use Rattle.script_check.proofs.Walk.Reading.{at_index}
 
 module _ {A : Type 0} where
@@ -26,3 +27,8 @@ one-part see xs i x all old new h is e n =
 pub all-at : {A : Type 0} (test : A → Bool) (xs : List A) (i : ℕ) (x : A) (b : Bool) → i < length xs → x ≡ get_or xs i x → test x ≡ b →
     all_true (map test (drop i xs)) ≡ (b && all_true (map test (drop (i + 1) xs)))
 all-at test xs i x b h is e = ap (λ l. all_true (map test l)) (at_index xs i x h is) ∙ ap (λ c. c && all_true (map test (drop (i + 1) xs))) e
+
+-- one name more that is put into a table
+pub one-placed : (names : List (List ℕ)) (xs : List Name) (i : ℕ) (x : Name) (table next : List ℕ) → i < length xs → x ≡ get_or xs i x → next ≡ with_place table x.at (unwrap_or (place_in names x.bytes) 0) →
+    with_places names table (drop i xs) ≡ with_places names next (drop (i + 1) xs)
+one-placed names xs i x table next h e is = ap (with_places names table) (at_index xs i x h e) ∙ ap (λ t. with_places names t (drop (i + 1) xs)) (sym is)

@@ -125,7 +125,7 @@ Stays j named where_it_is = (known : Declared) (p : Names) → j.violations wher
 abbrev InBlock : Stmt → Type 0
 InBlock s = (at : Context) → at.in_block ≡ true → Stays (judge s) (named_in_statement s) at
 
-abbrev told : Act-F Act Stmt → ℕ → Judged
+abbrev pub told : Act-F Act Stmt → ℕ → Judged
 told d at = judge_act (map-Act Act Stmt (ℕ → Judged) Judged judge_what judge d) at
 
 abbrev names_of : Act-F Act Stmt → List Name
@@ -141,7 +141,7 @@ all-stay (s ∷ ss) g at b known p h =
     let there = all-stay ss g.1 at b next ((judge s).after p) (nothing_right ((judge s).violations at known p) rest h) in
     (there.0 ∙ here.0, known-append known (named_in_statement s) (named_in_block ss) here.1 (subst (λ k. AllKnown k (named_in_block ss)) here.0 there.1))
 
-abbrev inside : Context → Context
+abbrev pub inside : Context → Context
 inside at = record at { in_block = true }
 
 plain-stays : (n : ℕ) (d : Act-F Act Stmt) → IsPlain d → Inside InBlock d → (at : Context) → Stays (told d n) (names_of d) at

@@ -1,9 +1,7 @@
 -- What holds of each name in a part of a script holds of the list of these names.
 use Rattle.std.proofs.Common.{◌≡◌, ℕ, Bool, true, false, ◌&&◌, List, [], ◌∷◌, ◌++◌, map, Option, Some, None, refl, sym, ap, subst, ◌∙◌}
+use Rattle.std.proofs.lemmas.Bool.{and_parts}
 use Rattle.script_grammar.specs.declared.tree.Name.{Name}
-use Rattle.script_grammar.specs.declared.tree.Function.{Function}
-use Rattle.script_grammar.specs.declared.tree.Right.{Right}
-use Rattle.script_grammar.specs.declared.tree.Right.TheVariants as right
 use Rattle.script_grammar.specs.declared.tree.Expr.{Expr, roll-Expr, map-Expr, ind-Expr, fold-roll-Expr}
 use Rattle.script_grammar.specs.declared.tree.Expr.TheOpen as node
 use Rattle.script_grammar.specs.declared.tree.Expr.TheOpen.{Expr-F}
@@ -11,12 +9,10 @@ use Rattle.script_grammar.specs.declared.tree.SumPart.{SumPart}
 use Rattle.script_grammar.specs.declared.tree.ProductPart.{ProductPart}
 use Rattle.script_grammar.specs.declared.tree.Stmt.{Stmt, fold-roll-Stmt}
 use Rattle.script_grammar.specs.declared.tree.Act.{Act, roll-Act, map-Act, fold-roll-Act}
-use Rattle.script_grammar.specs.declared.tree.Act.TheOpen as act
 use Rattle.script_grammar.specs.declared.tree.Act.TheOpen.{Act-F}
-use Rattle.script_grammar.specs.declared.tree.Act.TheFolds.{fold-Act}
-use Rattle.script_check.specs.Places.{joined, named_at, named_in, named_in_summand, named_in_factor, named_in_all, named_in_right, named_in_target, named_in_act, named_in_statement, named_in_block, named_in_function, all_true, every_at, every_in, every_in_summand, every_in_factor, every_in_all, every_in_right, every_in_target, every_in_act, every_in_statement, every_in_block}
+use Rattle.script_check.specs.Places.{joined, named_at, named_in, named_in_summand, named_in_factor, named_in_all, named_in_target, named_in_act, named_in_statement, all_true, every_at, every_in, every_in_summand, every_in_factor, every_in_all, every_in_target}
 use Rattle.script_check.proofs.FoundPlaces.Parts.{named_what, every-factor, every-summand, named-factor, named-summand}
-use Rattle.script_check.proofs.FewerPending.Induction.{Each, Inside, induct, induct_each, statement}
+use Rattle.script_check.proofs.FewerPending.Induction.{statement}
 
 abbrev pub each_is : (Name → Bool) → List Name → Bool
 each_is is xs = all_true (map is xs)
@@ -50,6 +46,12 @@ module _ (is : Name → Bool) where
 
   pub each-append-both : (xs ys : List Name) (b c : Bool) → each_is is xs ≡ b → each_is is ys ≡ c → each_is is (xs ++ ys) ≡ (b && c)
   each-append-both xs ys b c e f = each-append xs ys ∙ and-both (each_is is xs) (each_is is ys) b c e f
+
+  pub each-true : (xs ys : List Name) → each_is is xs ≡ true → each_is is ys ≡ true → each_is is (xs ++ ys) ≡ true
+  each-true xs ys h k = each-append xs ys ∙ true-both (each_is is xs) (each_is is ys) h k
+
+  pub each-parts : (xs ys : List Name) → each_is is (xs ++ ys) ≡ true → (each_is is xs ≡ true) × (each_is is ys ≡ true)
+  each-parts xs ys h = and_parts (each_is is xs) (each_is is ys) (sym (each-append xs ys) ∙ h)
 
   -- Expressions
 
@@ -114,62 +116,10 @@ module _ (is : Name → Bool) where
       summand-from : (p : SumPart) (e : Expr) → TreeSame e → e ≡ p.operand → each_is is (named_in_summand p) ≡ every_in_summand is p
       summand-from p e same h = rw (named-summand p, every-summand is p, ← h) same
 
-  all-same : (es : List Expr) → each_is is (named_in_all es) ≡ every_in_all is es
+  pub all-same : (es : List Expr) → each_is is (named_in_all es) ≡ every_in_all is es
   all-same [] = refl
   all-same (e ∷ es) = each-append-both (named_in e) (named_in_all es) (every_in is e) (every_in_all is es) (expr-same e) (all-same es)
 
-  right-same : (r : Right) → each_is is (named_in_right r) ≡ every_in_right is r
-  right-same (right.Value e) = expr-same e
-  right-same (right.Draw at) = refl
-  right-same (right.New at) = refl
-  right-same (right.Call at c) = all-same c.args
-  right-same (right.Spawn at c) = all-same c.args
-
-  target-same : (target : Option Name) → each_is is (named_in_target target) ≡ every_in_target is target
+  pub target-same : (target : Option Name) → each_is is (named_in_target target) ≡ every_in_target is target
   target-same None = refl
   target-same (Some x) = and-true (is x)
-
-  -- Statements
-
-  abbrev SameStmt : Stmt → Type 0
-  SameStmt s = each_is is (named_in_statement s) ≡ every_in_statement is s
-
-  abbrev every_what : Act → Bool
-  every_what = fold-Act Bool Bool (every_in_act is) (λ s. s.act)
-
-  every_open : (at : ℕ) (d : Act-F Act Stmt) → every_in_statement is (statement at d) ≡ every_in_act is (map-Act Act Stmt Bool Bool every_what (every_in_statement is) d)
-  every_open at d =
-      fold-roll-Stmt Bool Bool (every_in_act is) (λ s. s.act) (record { at = at; act = roll-Act d })
-      ∙ fold-roll-Act Bool Bool (every_in_act is) (λ s. s.act) d
-
-  block-same : (ss : List Stmt) → Each SameStmt ss → each_is is (named_in_block ss) ≡ every_in_block is ss
-  block-same [] h = refl
-  block-same (s ∷ ss) h = each-append-both (named_in_statement s) (named_in_block ss) (every_in_statement is s) (every_in_block is ss) h.0 (block-same ss h.1)
-
-  open-same : (d : Act-F Act Stmt) → Inside SameStmt d →
-      each_is is (named_in_act (map-Act Act Stmt (List Name) (List Name) named_what named_in_statement d)) ≡ every_in_act is (map-Act Act Stmt Bool Bool every_what (every_in_statement is) d)
-  open-same (act.Let x r) h = ap (λ b. is x && b) (right-same r)
-  open-same (act.Array x n) h = and-true (is x)
-  open-same (act.Set x r) h = ap (λ b. is x && b) (right-same r)
-  open-same (act.Store x i e) h = ap (λ b. is x && b) (each-append-both (named_in i) (named_in e) (every_in is i) (every_in is e) (expr-same i) (expr-same e))
-  open-same (act.Spawn c) h = all-same c.args
-  open-same (act.Call c) h = all-same c.args
-  open-same act.Sync h = refl
-  open-same (act.Print e) h = expr-same e
-  open-same (act.If e a b) h =
-      each-append-both (named_in e) (named_in_block a ++ named_in_block b) (every_in is e) (every_in_block is a && every_in_block is b) (expr-same e)
-      (each-append-both (named_in_block a) (named_in_block b) (every_in_block is a) (every_in_block is b) (block-same a h.0) (block-same b h.1))
-  open-same (act.While e a) h = each-append-both (named_in e) (named_in_block a) (every_in is e) (every_in_block is a) (expr-same e) (block-same a h)
-  open-same (act.Pfor x lo hi target c) h =
-      each-append-both (named_in lo) (named_in hi ++ (named_in_target target ++ named_in_all c.args)) (every_in is lo) (every_in is hi && (every_in_target is target && every_in_all is c.args)) (expr-same lo)
-      (each-append-both (named_in hi) (named_in_target target ++ named_in_all c.args) (every_in is hi) (every_in_target is target && every_in_all is c.args) (expr-same hi)
-      (each-append-both (named_in_target target) (named_in_all c.args) (every_in_target is target) (every_in_all is c.args) (target-same target) (all-same c.args)))
-  open-same (act.Scope a) h = block-same a h
-
-  stmt-same : (s : Stmt) → SameStmt s
-  stmt-same = induct SameStmt (λ at d h. ap (each_is is) (named_open at d) ∙ open-same d h ∙ sym (every_open at d))
-
-  pub function-same : (f : Function) → each_is is (named_in_function f) ≡ (every_in_block is f.body && every_in is f.result)
-  function-same f =
-      each-append-both (named_in_block f.body) (named_in f.result) (every_in_block is f.body) (every_in is f.result)
-      (block-same f.body (induct_each SameStmt stmt-same f.body)) (expr-same f.result)

@@ -26,16 +26,22 @@ pub data Picked : List Name → List Token → List Token → Type 0 where
   passed : {xs : List Name} {t : Token} {ts rest : List Token} → Picked xs ts rest → Picked xs (t ∷ ts) rest
   picked : {a : ℕ} {w : Word} {text : List ℕ} {xs : List Name} {ts rest : List Token} → Picked xs ts rest → Picked (name_at a text ∷ xs) (tok a w text ∷ ts) rest
 
-append : {xs ys : List Name} {ts mid rest : List Token} → Picked xs ts mid → Picked ys mid rest → Picked (xs ++ ys) ts rest
+pub append : {xs ys : List Name} {ts mid rest : List Token} → Picked xs ts mid → Picked ys mid rest → Picked (xs ++ ys) ts rest
 append no_more e = e
 append (passed d) e = passed (append d e)
 append (picked d) e = picked (append d e)
 
 -- one token more is passed at the end
-after : {xs : List Name} {t : Token} {ts rest : List Token} → Picked xs ts (t ∷ rest) → Picked xs ts rest
+pub after : {xs : List Name} {t : Token} {ts rest : List Token} → Picked xs ts (t ∷ rest) → Picked xs ts rest
 after {xs} {t} {ts} {rest} d = subst (λ l. Picked l ts rest) (append-nil xs) (append d (passed no_more))
 
-told : {xs ys : List Name} {ts rest : List Token} → xs ≡ ys → Picked ys ts rest → Picked xs ts rest
+-- what is picked may be passed
+pub unpicked : {xs : List Name} {ts rest : List Token} → Picked xs ts rest → Picked [] ts rest
+unpicked no_more = no_more
+unpicked (passed d) = passed (unpicked d)
+unpicked (picked d) = passed (unpicked d)
+
+pub told : {xs ys : List Name} {ts rest : List Token} → xs ≡ ys → Picked ys ts rest → Picked xs ts rest
 told {xs} {ys} {ts} {rest} e d = subst (λ l. Picked l ts rest) (sym e) d
 
 named-sum_of : (e : Expr) (ps : List SumPart) → named_in (sum_of e ps) ≡ named_in e ++ joined (map named_in_summand ps)
@@ -70,15 +76,15 @@ mutual
   in_terms no_terms = no_more
   in_terms (one_term k d e) = passed (append (told (named-summand _) (in_term d)) (in_terms e))
 
-  in_expr : {ts rest : List Token} {x : Expr} → IsExpr ts x rest → Picked (named_in x) ts rest
+  pub in_expr : {ts rest : List Token} {x : Expr} → IsExpr ts x rest → Picked (named_in x) ts rest
   in_expr (alone d) = in_sum d
   in_expr (compared d k e) = told (named-compare _ _ _) (append (after (in_sum d)) (in_sum e))
 
-in_more_args : {ts rest : List Token} {xs : List Expr} → IsMoreArgs ts xs rest → Picked (named_in_all xs) ts rest
+pub in_more_args : {ts rest : List Token} {xs : List Expr} → IsMoreArgs ts xs rest → Picked (named_in_all xs) ts rest
 in_more_args no_more_args = no_more
 in_more_args (one_more_arg d e) = passed (append (in_expr d) (in_more_args e))
 
-in_args : {ts rest : List Token} {xs : List Expr} → IsArgs ts xs rest → Picked (named_in_all xs) ts rest
+pub in_args : {ts rest : List Token} {xs : List Expr} → IsArgs ts xs rest → Picked (named_in_all xs) ts rest
 in_args no_args = no_more
 in_args (some_args d e) = append (in_expr d) (in_more_args e)
 
@@ -92,7 +98,7 @@ in_right right_new = passed no_more
 in_right (right_call d) = passed (in_call d)
 in_right (right_spawn d) = passed (in_call d)
 
-in_into : {ts rest : List Token} {target : Option Name} → IsInto ts target rest → Picked (named_in_target target) ts rest
+pub in_into : {ts rest : List Token} {target : Option Name} → IsInto ts target rest → Picked (named_in_target target) ts rest
 in_into no_into = no_more
 in_into an_into = passed (picked no_more)
 
@@ -136,11 +142,11 @@ in_more_params : {ts rest : List Token} {xs : List Param} → IsMoreParams ts xs
 in_more_params no_more_params = no_more
 in_more_params (one_more_param d e) = passed (append (in_param d) (in_more_params e))
 
-in_params : {ts rest : List Token} {xs : List Param} → IsParams ts xs rest → Picked [] ts rest
+pub in_params : {ts rest : List Token} {xs : List Param} → IsParams ts xs rest → Picked [] ts rest
 in_params no_params = no_more
 in_params (some_params d e) = append (in_param d) (in_more_params e)
 
-in_answer : {ts rest : List Token} {k : Kind} → IsAnswerKind ts k rest → Picked [] ts rest
+pub in_answer : {ts rest : List Token} {k : Kind} → IsAnswerKind ts k rest → Picked [] ts rest
 in_answer int_answer = no_more
 in_answer id_answer = passed (passed no_more)
 

@@ -24,7 +24,7 @@ use Rattle.script_check.specs.Expressions.{Reading, wanted, two_wanted, all_want
 use Rattle.script_check.specs.Statements.{arguments, call_of, read_right, wanted_as, loop_arguments, loop_call_of, taken_kind, target_use}
 use Rattle.script_check.proofs.FewerPending.Fewer.{nothing_left, nothing_right}
 use Rattle.script_check.proofs.FoundPlaces.Parts.{named-factor, named-summand}
-use Rattle.script_check.proofs.FoundPlaces.Named.{each_is, each-append, true-both}
+use Rattle.script_check.proofs.FoundPlaces.Named.{each_is, each-true, true-both}
 use Rattle.script_check.proofs.FoundPlaces.Known.{not-broken}
 
 -- each of these names is a known variable
@@ -32,9 +32,7 @@ abbrev pub AllKnown : Declared → List Name → Type 0
 AllKnown known xs = each_is (λ x. is_some (known.what x.bytes)) xs ≡ true
 
 pub known-append : (known : Declared) (xs ys : List Name) → AllKnown known xs → AllKnown known ys → AllKnown known (xs ++ ys)
-known-append known xs ys h k =
-    let is : Name → Bool = λ x. is_some (known.what x.bytes) in
-    each-append is xs ys ∙ true-both (each_is is xs) (each_is is ys) h k
+known-append known = each-true (λ x. is_some (known.what x.bytes))
 
 pub known-cons : (known : Declared) (x : Name) (xs : List Name) → is_some (known.what x.bytes) ≡ true → AllKnown known xs → AllKnown known (x ∷ xs)
 known-cons known x xs h k = true-both (is_some (known.what x.bytes)) (each_is (λ x. is_some (known.what x.bytes)) xs) h k

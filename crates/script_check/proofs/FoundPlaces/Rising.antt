@@ -1,4 +1,4 @@
--- In a text each variable stands after those that are named before it.
+-- In a text each variable stands after those that are named before it, and each called name after those that are called before it.
 use Rattle.std.proofs.Common.{ℕ, suc, ◌+◌, ◌≤◌, List, [], ◌∷◌, length, drop, map, arith}
 use Rattle.script_tokens.specs.declared.token.Lexeme.{Lexeme}
 use Rattle.script_tokens.specs.declared.lexing.LexEnd.TheVariants.{End}
@@ -7,9 +7,10 @@ use Rattle.script_tokens.specs.Version.{begins_at}
 use Rattle.script_tokens.proofs.LexingLemmas.{lexemes_in_order}
 use Rattle.script_grammar.specs.declared.tree.Name.{Name}
 use Rattle.script_grammar.specs.declared.tree.Script.{Script}
-use Rattle.script_grammar.specs.Grammar.{Token}
+use Rattle.script_grammar.specs.Grammar.{Token, IsFunctions}
 use Rattle.script_grammar.specs.Text.{IsOfText, tokens_of}
-use Rattle.script_check.specs.Places.{joined, named_in_function}
+use Rattle.script_check.specs.Places.{called_in, joined, named_in_function}
+use Rattle.script_check.proofs.FoundPlaces.Called.{functions-picked}
 use Rattle.script_check.proofs.FoundPlaces.Picked.{Picked, no_more, passed, picked, in_functions}
 
 -- they stand from the offset on, each after the one before it
@@ -39,11 +40,17 @@ picked-rise from no_more r = tt
 picked-rise from (passed {xs} {t} d) r = sooner from (suc t.at) xs (omega (arith, r.0)) (picked-rise (suc t.at) d r.1)
 picked-rise from (picked {a} d) r = (r.0, picked-rise (suc a) d r.1)
 
-pub script-rises : (script : Script) → IsOfText script → Rises 0 (joined (map named_in_function script.functions))
-script-rises script is =
+-- what is picked of a script's text
+text-rises : (script : Script) → IsOfText script → (names : List Name) → ((ts : List Token) → IsFunctions ts script.functions [] → Picked names ts []) → Rises 0 names
+text-rises script is names picks =
     let text = is.text in
     let from = begins_at script.version in
     let left = drop from is.bytes in
-    let names = joined (map named_in_function script.functions) in
     let order : InOrder from (from + length left) text.lexemes = lexemes_in_order script.version from left text.lexemes End text.cut.cut in
-    sooner 0 from names (omega arith) (picked-rise from (in_functions text.program.derives) (tokens-rise is.bytes from (from + length left) text.lexemes order))
+    sooner 0 from names (omega arith) (picked-rise from (picks (tokens_of is.bytes text.lexemes) text.program.derives) (tokens-rise is.bytes from (from + length left) text.lexemes order))
+
+pub script-rises : (script : Script) → IsOfText script → Rises 0 (joined (map named_in_function script.functions))
+script-rises script is = text-rises script is (joined (map named_in_function script.functions)) (λ ts d. in_functions d)
+
+pub calls-rise : (script : Script) → IsOfText script → Rises 0 (called_in script.functions)
+calls-rise script is = text-rises script is (called_in script.functions) (λ ts d. functions-picked d)

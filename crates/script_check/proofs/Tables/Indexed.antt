@@ -1,5 +1,5 @@
 -- The index of functions, one function after another.
-use Rattle.std.proofs.Common.{◌≡◌, ℕ, suc, ◌+◌, ◌<◌, Bool, true, false, cond, List, [], ◌∷◌, ◌++◌, length, take, drop, get_or, Option, Some, None, refl, sym, ap, subst, ◌∙◌, ⊎_elim, arith}
+use Rattle.std.proofs.Common.{◌≡◌, ℕ, suc, ◌+◌, ◌<◌, ◌≤◌, Bool, true, false, cond, List, [], ◌∷◌, ◌++◌, length, take, drop, get_or, Option, Some, None, refl, sym, ap, subst, ◌∙◌, ⊎_elim, arith}
 use Rattle.std.specs.Prelude.{is_some, option_map, unwrap_or, IfSome, if◌then◌else◌}
 use Rattle.std.specs.Str.{bytes_eq}
 use Rattle.std.specs.Cmp.Lexicographic.{bytes_decides}
@@ -106,6 +106,14 @@ named_within fs q o e = shown o (subst (Below (length fs)) (sym e) (below fs q))
     shown : (o : Option ℕ) → Below (length fs) o → IfSome o (λ i. i < length fs)
     shown None h = h
     shown (Some i) h = h
+
+-- where there is none it counts as the first
+pub number_within : (fs : List Function) (q : List ℕ) (n : ℕ) → n ≡ unwrap_or (first_named fs q) 0 → n ≤ length fs
+number_within fs q n e = shown (first_named fs q) (below fs q) e
+  where
+    shown : (o : Option ℕ) → Below (length fs) o → n ≡ unwrap_or o 0 → n ≤ length fs
+    shown None h e = omega (arith, e)
+    shown (Some i) h e = omega (arith, h, e)
 
 -- a script without violations has a main
 pub has_main : (script : Script) (o : Option ℕ) (n : ℕ) → violations script ≡ [] → o ≡ first_named script.functions main_name → n ≡ unwrap_or o 0 → Some n ≡ first_named script.functions main_name

@@ -22,6 +22,3 @@ number_is (f ∷ fs) name = pick (bytes_eq f.name.bytes name) (first_named fs na
 
 pub number_found : (fs : List Function) (name : List ℕ) (i : ℕ) → first_named fs name ≡ Some i → number_of fs name ≡ i
 number_found fs name i e = number_is fs name ∙ ap (number_or (length fs)) e
-
-pub number_missing : (fs : List Function) (name : List ℕ) → first_named fs name ≡ None → number_of fs name ≡ length fs
-number_missing fs name e = number_is fs name ∙ ap (number_or (length fs)) e

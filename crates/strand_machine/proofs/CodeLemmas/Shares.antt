@@ -2,8 +2,6 @@
 use denote.Param.Send.{IsSend, view_send, sendable}
 use denote.Param.SendFields.{declared_send, variants_send}
 use Rattle.script_grammar.proofs.items.Items.TheSendSync as items_shared
-use Rattle.script_grammar.proofs.tree.Name.TheSendSync as name_shared
-use Rattle.script_grammar.specs.contracts.tree.Name as name
 use Rattle.serial_meaning.proofs.CodeLemmas.Shares.{answer_sends}
 use Rattle.serial_meaning.proofs.answer.Outcome.TheSendSync as outcome_shared
 use Rattle.serial_meaning.proofs.event.Fault.TheSendSync as fault_shared
@@ -33,8 +31,7 @@ use Rattle.strand_machine.specs.contracts.work.Work as work
 use Rattle.strand_moves.proofs.Shares.{instance_sends, maybe_target_sends}
 
 place_sends : IsSend place.the_row
-place_sends = variants_send place.enum
-    ((search sendable, (maybe_target_sends, tt)), ((variants_send (option.enum name.the_row) (tt, ((name_shared.the_send, tt), tt)), tt), (tt, tt)))
+place_sends = variants_send place.enum ((search sendable, (maybe_target_sends, tt)), ((maybe_target_sends, tt), (tt, tt)))
 
 after_sends : IsSend after.the_row
 after_sends = declared_send after.the_type (place_sends, (out_shared.the_send, tt))

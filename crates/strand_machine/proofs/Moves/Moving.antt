@@ -347,7 +347,7 @@ module _ (b : Body) (i : RawInstance) where
       let l = h.leads in
       record {
         sound = record {
-          task = record { finishes = t.finishes; known = t.known; clear = t.clear; parts = t.parts; shown = t.shown; work = t.work; pending = t.pending };
+          task = record { finishes = t.finishes; known = t.known; clear = t.clear; parts = t.parts; shown = t.shown; work = t.work; pending = t.pending; found = t.found };
           family = h.sound.family;
           works = h.sound.works;
         };

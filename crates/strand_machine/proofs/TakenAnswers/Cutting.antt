@@ -18,7 +18,7 @@ use Rattle.strand_meaning.specs.Trace.{AwaitedChild, Trace, heard, heard_all, he
 use Rattle.strand_meaning.specs.Sound.{IsTask}
 use Rattle.strand_meaning.specs.Task.{takes, more_values}
 use Rattle.strand_machine.specs.Family.{FamilyView, tag, tags, origins}
-use Rattle.strand_machine.specs.Merge.{AreSaid, BecomesWork, EndsShort, HasTargets, IsShort, KeepsRest, Merge, Takes, TakesAnswers, Works, end_of, ended_of, ending_of, meanings, merge_of, trace_of, with_stage}
+use Rattle.strand_machine.specs.Merge.{AreSaid, BecomesWork, EndsShort, IsShort, KeepsRest, Merge, Takes, TakesAnswers, WorkFindsAll, Works, end_of, ended_of, ending_of, meanings, merge_of, trace_of, with_stage}
 use Rattle.strand_machine.specs.Parts.{awaited, awaited_child, awaited_children, destination_of}
 use Rattle.strand_machine.specs.declared.destination.Destination.{Destination}
 use Rattle.strand_machine.specs.declared.destination.Destination.TheVariants as place
@@ -32,7 +32,7 @@ use Rattle.strand_machine.specs.declared.work.Work.{Work}
 use Rattle.strand_machine.specs.declared.work.Work.TheVariants as work
 use Rattle.strand_machine.proofs.TakenAnswers.Answering.{eval-of, origins-tags}
 use Rattle.strand_machine.proofs.Moves.Handed.{awaited_parts}
-use Rattle.strand_machine.proofs.TakenAnswers.Targets.{targets-kept}
+use Rattle.strand_machine.proofs.TakenAnswers.Targets.{found-kept}
 use Rattle.strand_machine.proofs.TakenAnswers.Taking.{begins, same-stage, takes-then, takes-none}
 
 -- One child
@@ -177,12 +177,12 @@ pub works-then : (p q : Parts) (heard after : Heard) (ps : List AwaitedChild) (a
 works-then p q heard after ps answers kept h w =
     subst (λ (f : FamilyView). Works f.plan q.work) (sym (ap (λ (b : Body). b.family) kept.body)) (w.0, h.takes.work.works p.body.family.plan w.0 w.1)
 
--- the targets of the children that are left stay
-pub targets-then : (p q : Parts) (heard after : Heard) (child : AwaitedChild) (a : AnswerView) (bs : List AfterChild) → KeepsRest p q → TakesAnswers (child ∷ []) (a ∷ []) (merge_of p heard) (merge_of q after) →
-    HasTargets bs (work_of p.body.family.plan p.work) → HasTargets bs (work_of q.body.family.plan q.work)
-targets-then p q heard after child a bs kept h has =
-    subst (λ (f : FamilyView). HasTargets bs (work_of f.plan q.work)) (sym (ap (λ (b : Body). b.family) kept.body))
-    (targets-kept p.body.family.plan child.place (evaluation_of a.out a.outcome).ending p.work q.work bs h.takes.work has)
+-- the variables of the children that are left are found still
+pub found-then : (p q : Parts) (heard after : Heard) (child : AwaitedChild) (a : AnswerView) (bs : List AfterChild) → KeepsRest p q → TakesAnswers (child ∷ []) (a ∷ []) (merge_of p heard) (merge_of q after) →
+    WorkFindsAll p.body.family.plan bs (work_of p.body.family.plan p.work) → WorkFindsAll q.body.family.plan bs (work_of q.body.family.plan q.work)
+found-then p q heard after child a bs kept h found =
+    subst (λ (f : FamilyView). WorkFindsAll f.plan bs (work_of f.plan q.work)) (sym (ap (λ (b : Body). b.family) kept.body))
+    (found-kept p.body.family.plan child.place (evaluation_of a.out a.outcome).ending p.work q.work bs h.takes.work found)
 
 pub kept-body : (p q : Parts) → KeepsRest p q → q.body ≡ record p.body { trace = record q.body.trace { handed = [] }; values = q.body.values }
 kept-body p q k = k.body ∙ ap (λ (ps : List AwaitedChild). record p.body { trace = record q.body.trace { handed = ps }; values = q.body.values }) k.handed

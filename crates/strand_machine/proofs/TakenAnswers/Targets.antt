@@ -1,25 +1,20 @@
--- The variables into which the values of loops go are there while the answers of a task's children are taken.
-use Rattle.std.proofs.Common.{◌≡◌, List, [], ◌∷◌, Option, Result, Ok, Err, length, sym, subst, arith}
-use Rattle.std.specs.Prelude.{IfSome, IsSome}
+-- The variables into which the values of children go are found while a task takes its children's answers.
+use Rattle.std.proofs.Common.{◌≡◌, ℕ, Bool, true, false, nat_eq, List, [], ◌∷◌, map, Option, Result, Ok, Err, length, refl, sym, ap, subst, arith, if◌then◌else◌}
 use Rattle.script_grammar.specs.declared.tree.Name.{Name}
-use Rattle.serial_meaning.specs.Exec.{filled}
 use Rattle.serial_meaning.specs.Plan.{PlanView}
-use Rattle.serial_meaning.specs.Values.{Env, slot_of}
 use Rattle.serial_meaning.specs.declared.event.Fault.{Fault}
 use Rattle.serial_meaning.specs.declared.origin.Origin.{Origin}
 use Rattle.serial_meaning.specs.declared.value.Value.{Value}
+use Rattle.strand_meaning.specs.Found.{FindsTargets, FindsDestination, functions_in, functions_left}
 use Rattle.strand_meaning.specs.Machine as machine
-use Rattle.strand_meaning.specs.Machine.{Spawned, Looped, Half}
-use Rattle.strand_meaning.specs.Sound.{IsSoundStage, IsSoundWork, TargetIsThere, TargetsAreThere}
+use Rattle.strand_meaning.specs.Machine.{Spawned, Looped, Half, Frame, Machine}
 use Rattle.strand_meaning.specs.Task as meaning
-use Rattle.strand_meaning.specs.Task.{Splits, Runs, Over, answered, changed, takes}
-use Rattle.strand_meaning.proofs.Unfilled.Targets.{changed-kept, filled-kept, none-there, one-kept}
+use Rattle.strand_meaning.specs.Task.{Splits, Runs, Over, answered, changed, changed_at, takes}
 use Rattle.strand_moves.specs.Machines.{machine_of}
 use Rattle.strand_moves.specs.declared.instance.Instance.{Instance}
-use Rattle.strand_machine.specs.Merge.{BecomesWork, HasTarget, HasTargets, StageHasTarget, with_stage}
+use Rattle.strand_machine.specs.Merge.{BecomesWork, StageFinds, WorkFinds, WorkFindsAll, with_stage}
 use Rattle.strand_machine.specs.Parts.{awaited_children, destination_of}
 use Rattle.strand_machine.specs.Tasks.{stage_of, work_of}
-use Rattle.strand_machine.specs.declared.destination.Destination.{Destination}
 use Rattle.strand_machine.specs.declared.trace.AfterChild.{AfterChild}
 use Rattle.strand_machine.specs.declared.work.InstanceState.{InstanceState}
 use Rattle.strand_machine.specs.declared.work.InstanceState.TheVariants as stage
@@ -28,74 +23,89 @@ use Rattle.strand_machine.specs.declared.work.Work.TheVariants as work
 
 -- An instance
 
-module _ (plan : PlanView) (s : InstanceState) (i : Instance) (target t : Option Name) (to : t ≡ target) (h : StageHasTarget (Looped target) (stage_of plan s)) where
-  abbrev IsThere : Option Name → Type 0
-  IsThere o = IfSome o (λ x. IsSome (slot_of (machine_of plan i).top.env x.bytes))
+module _ (plan : PlanView) (s : InstanceState) (i : Instance) (place : machine.Destination) (h : StageFinds plan place (stage_of plan s)) where
+  abbrev IsFound : Type 0
+  IsFound = FindsDestination plan (functions_in (machine_of plan i)) place
 
-  pub goes-there : s ≡ stage.Running i → IsThere t
-  goes-there is = subst IsThere (sym to) (subst (λ (y : InstanceState). StageHasTarget (Looped target) (stage_of plan y)) is h)
+  pub goes-found : s ≡ stage.Running i → IsFound
+  goes-found is = subst (λ (y : InstanceState). StageFinds plan place (stage_of plan y)) is h
 
-  pub sync-there : s ≡ stage.AtSync i → IsThere t
-  sync-there is = subst IsThere (sym to) (subst (λ (y : InstanceState). StageHasTarget (Looped target) (stage_of plan y)) is h)
+  pub sync-found : s ≡ stage.AtSync i → IsFound
+  sync-found is = subst (λ (y : InstanceState). StageFinds plan place (stage_of plan y)) is h
 
-  pub loop-there : s ≡ stage.AtLoop i → IsThere t
-  loop-there is = subst IsThere (sym to) (subst (λ (y : InstanceState). StageHasTarget (Looped target) (stage_of plan y)) is h)
+  pub loop-found : s ≡ stage.AtLoop i → IsFound
+  loop-found is = subst (λ (y : InstanceState). StageFinds plan place (stage_of plan y)) is h
 
 -- the same by the child's place
-pub at-looped : (p : Destination) (target : Option Name) (s : meaning.InstanceState) → destination_of p ≡ Looped target → StageHasTarget (destination_of p) s → StageHasTarget (Looped target) s
-at-looped p target s e h = subst (λ (q : machine.Destination). StageHasTarget q s) e h
+pub found-at : (plan : PlanView) (p q : machine.Destination) (s : meaning.InstanceState) → p ≡ q → StageFinds plan p s → StageFinds plan q s
+found-at plan p q s e h = subst (λ (r : machine.Destination). StageFinds plan r s) e h
 
-pub target-of : (plan : PlanView) (q : machine.Destination) (w : Work) (s : InstanceState) → w ≡ work.Runs s → HasTarget q (work_of plan w) → StageHasTarget q (stage_of plan s)
-target-of plan q w s is h = subst (λ (x : Work). HasTarget q (work_of plan x)) is h
+pub target-of : (plan : PlanView) (q : machine.Destination) (w : Work) (s : InstanceState) → w ≡ work.Runs s → WorkFinds plan q (work_of plan w) → StageFinds plan q (stage_of plan s)
+target-of plan q w s is h = subst (λ (x : Work). WorkFinds plan q (work_of plan x)) is h
 
--- An answer leaves it there
+-- An answer changes no function of a frame
 
-module _ (place : machine.Destination) where
-  stage-keeps : (p : machine.Destination) (q : Result (List Value) Fault) (s : meaning.InstanceState) → StageHasTarget place s → StageHasTarget place (takes p q s)
-  stage-keeps (Spawned owner to) q (meaning.Running m) h = one-kept m.top.env (changed owner (answered to q) m).top.env (changed-kept owner to q m) place h
-  stage-keeps (Spawned owner to) q (meaning.AtSync m) h = one-kept m.top.env (changed owner (answered to q) m).top.env (changed-kept owner to q m) place h
-  stage-keeps (Spawned owner to) q (meaning.AtLoop m) h = one-kept m.top.env (changed owner (answered to q) m).top.env (changed-kept owner to q m) place h
-  stage-keeps (Spawned owner to) q (meaning.Ended e) h = tt
-  stage-keeps (Looped to) (Ok vs) (meaning.Running m) h = one-kept m.top.env (filled to vs m.top.env) (filled-kept to vs m.top.env) place h
-  stage-keeps (Looped to) (Ok vs) (meaning.AtSync m) h = one-kept m.top.env (filled to vs m.top.env) (filled-kept to vs m.top.env) place h
-  stage-keeps (Looped to) (Ok vs) (meaning.AtLoop m) h = one-kept m.top.env (filled to vs m.top.env) (filled-kept to vs m.top.env) place h
-  stage-keeps (Looped to) (Ok vs) (meaning.Ended e) h = tt
-  stage-keeps (Looped to) (Err f) s h = tt
+abbrev functions : List Frame → List ℕ
+functions frames = map (λ (a : Frame). a.function) frames
+
+answered-same : (to : Option Name) (q : Result (List Value) Fault) (a : Frame) → (answered to q a).function ≡ a.function
+answered-same to (Ok vs) a = refl
+answered-same to (Err f) a = refl
+
+module _ (owner : ℕ) (change : Frame → Frame) (same : (a : Frame) → (change a).function ≡ a.function) where
+  below-same : (below : List Frame) → functions (changed_at owner change below) ≡ functions below
+  below-same [] = refl
+  below-same (a ∷ below) = by_place (nat_eq owner (length below)) (below-same below)
+    where
+      by_place : (b : Bool) → functions (changed_at owner change below) ≡ functions below → functions (if b then change a ∷ below else a ∷ changed_at owner change below) ≡ functions (a ∷ below)
+      by_place true h = ap (λ (f : ℕ). f ∷ functions below) (same a)
+      by_place false h = ap (λ (fs : List ℕ). a.function ∷ fs) h
+
+  changed-same : (m : Machine) → functions_in (changed owner change m) ≡ functions_in m
+  changed-same m = by_place (nat_eq owner (length m.below))
+    where
+      by_place : (b : Bool) → functions_in (if b then record m { top = change m.top } else record m { below = changed_at owner change m.below }) ≡ functions_in m
+      by_place true = ap (λ (f : ℕ). f ∷ functions m.below) (same m.top)
+      by_place false = ap (λ (fs : List ℕ). m.top.function ∷ fs) (below-same m.below)
+
+module _ (plan : PlanView) (place : machine.Destination) where
+  -- where no frame remains nothing is asked
+  none-found : (p : machine.Destination) → FindsDestination plan [] p
+  none-found (Spawned owner to) = tt
+  none-found (Looped to) = tt
+  none-found Half = tt
+
+  changed-found : (owner : ℕ) (to : Option Name) (q : Result (List Value) Fault) (m : Machine) → FindsDestination plan (functions_in m) place → FindsDestination plan (functions_in (changed owner (answered to q) m)) place
+  changed-found owner to q m h = subst (λ (fs : List ℕ). FindsDestination plan fs place) (sym (changed-same owner (answered to q) (answered-same to q) m)) h
+
+  stage-keeps : (p : machine.Destination) (q : Result (List Value) Fault) (s : meaning.InstanceState) → StageFinds plan place s → StageFinds plan place (takes p q s)
+  stage-keeps (Spawned owner to) q (meaning.Running m) h = changed-found owner to q m h
+  stage-keeps (Spawned owner to) q (meaning.AtSync m) h = changed-found owner to q m h
+  stage-keeps (Spawned owner to) q (meaning.AtLoop m) h = changed-found owner to q m h
+  stage-keeps (Spawned owner to) q (meaning.Ended e) h = h
+  stage-keeps (Looped to) (Ok vs) (meaning.Running m) h = h
+  stage-keeps (Looped to) (Ok vs) (meaning.AtSync m) h = h
+  stage-keeps (Looped to) (Ok vs) (meaning.AtLoop m) h = h
+  stage-keeps (Looped to) (Ok vs) (meaning.Ended e) h = h
+  stage-keeps (Looped to) (Err f) s h = none-found place
   stage-keeps Half q s h = h
 
-  work-keeps : (p : machine.Destination) (q : Result (List Value) Fault) (w : meaning.Work) → HasTarget place w → HasTarget place (with_stage (takes p q) w)
-  work-keeps p q (Splits left) h = tt
+  work-keeps : (p : machine.Destination) (q : Result (List Value) Fault) (w : meaning.Work) → WorkFinds plan place w → WorkFinds plan place (with_stage (takes p q) w)
+  work-keeps p q (Splits left) h = h
   work-keeps p q (Runs s) h = stage-keeps p q s h
-  work-keeps p q (Over v gone_on) h = tt
+  work-keeps p q (Over v gone_on) h = h
 
-all-keep : (p : machine.Destination) (q : Result (List Value) Fault) (w : meaning.Work) (bs : List AfterChild) → HasTargets bs w → HasTargets bs (with_stage (takes p q) w)
-all-keep p q w [] h = tt
-all-keep p q w (b ∷ bs) h = (work-keeps (destination_of b.place) p q w h.0, all-keep p q w bs h.1)
+all-keep : (plan : PlanView) (p : machine.Destination) (q : Result (List Value) Fault) (w : meaning.Work) (bs : List AfterChild) → WorkFindsAll plan bs w → WorkFindsAll plan bs (with_stage (takes p q) w)
+all-keep plan p q w [] h = tt
+all-keep plan p q w (b ∷ bs) h = (work-keeps plan (destination_of b.place) p q w h.0, all-keep plan p q w bs h.1)
 
-pub targets-kept : (plan : PlanView) (p : machine.Destination) (q : Result (List Value) Fault) (before after : Work) (bs : List AfterChild) → BecomesWork (with_stage (takes p q)) before after → HasTargets bs (work_of plan before) → HasTargets bs (work_of plan after)
-targets-kept plan p q before after bs h has = subst (HasTargets bs) (sym (h.is plan)) (all-keep p q (work_of plan before) bs has)
+pub found-kept : (plan : PlanView) (p : machine.Destination) (q : Result (List Value) Fault) (before after : Work) (bs : List AfterChild) → BecomesWork (with_stage (takes p q)) before after →
+    WorkFindsAll plan bs (work_of plan before) → WorkFindsAll plan bs (work_of plan after)
+found-kept plan p q before after bs h found = subst (WorkFindsAll plan bs) (sym (h.is plan)) (all-keep plan p q (work_of plan before) bs found)
 
--- At first it is there
-
-module _ (w : meaning.Work) where
-  none-awaited : ((place : machine.Destination) → HasTarget place w) → (bs : List AfterChild) → HasTargets bs w
-  none-awaited each [] = tt
-  none-awaited each (b ∷ bs) = (each (destination_of b.place), none-awaited each bs)
-
-  all-awaited : (env : Env) → ((place : machine.Destination) → TargetIsThere env place → HasTarget place w) → (os : List Origin) (bs : List AfterChild) → length os ≡ length bs → TargetsAreThere env (awaited_children os bs) → HasTargets bs w
-  all-awaited env each [] [] same h = tt
-  all-awaited env each [] (b ∷ bs) same h = absurd (omega arith)
-  all-awaited env each (o ∷ os) [] same h = tt
-  all-awaited env each (o ∷ os) (b ∷ bs) same h = (each (destination_of b.place) h.0, all-awaited env each os bs (omega arith) h.1)
-
-module _ (plan : PlanView) (os : List Origin) (bs : List AfterChild) (same : length os ≡ length bs) where
-  stage-targets : (s : meaning.InstanceState) → IsSoundStage plan (awaited_children os bs) s → HasTargets bs (Runs s)
-  stage-targets (meaning.Running m) h = all-awaited (Runs (meaning.Running m)) m.top.env (λ place t. t) os bs same (none-there m.top.env (length m.below) (awaited_children os bs) h.0)
-  stage-targets (meaning.AtSync m) h = all-awaited (Runs (meaning.AtSync m)) m.top.env (λ place t. t) os bs same (none-there m.top.env (length m.below) (awaited_children os bs) h.0)
-  stage-targets (meaning.AtLoop m) h = all-awaited (Runs (meaning.AtLoop m)) m.top.env (λ place t. t) os bs same h.2
-  stage-targets (meaning.Ended e) h = none-awaited (Runs (meaning.Ended e)) (λ place. tt) bs
-
-  pub work-targets : (o : Origin) (w : meaning.Work) → IsSoundWork plan o (awaited_children os bs) w → HasTargets bs w
-  work-targets o (Splits left) h = none-awaited (Splits left) (λ place. tt) bs
-  work-targets o (Runs s) h = stage-targets s h.2
-  work-targets o (Over v gone_on) h = none-awaited (Over v gone_on) (λ place. tt) bs
+-- At first those of all children are found.
+pub all-found : (plan : PlanView) (w : meaning.Work) (os : List Origin) (bs : List AfterChild) → length os ≡ length bs → FindsTargets plan (functions_left w) (awaited_children os bs) → WorkFindsAll plan bs w
+all-found plan w [] [] same h = tt
+all-found plan w [] (b ∷ bs) same h = absurd (omega arith)
+all-found plan w (o ∷ os) [] same h = tt
+all-found plan w (o ∷ os) (b ∷ bs) same h = (h.0, all-found plan w os bs (omega arith) h.1)

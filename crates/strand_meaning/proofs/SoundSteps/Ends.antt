@@ -23,7 +23,9 @@ use Rattle.strand_meaning.specs.Trace.{AwaitedChild, Trace, add_child}
 use Rattle.strand_meaning.specs.Task.{InstanceState, Running, AtSync, AtLoop, Ended, Work, Splits, Runs, Over, Task, begun_stage, start, own_instance, Stops, Spawn, waits, ends, ends_unless, faults_after, gave, stage_step, first_half, begins_last, split_step, over_step, work_step, step}
 use Rattle.strand_meaning.specs.Rest.{children_of, rest_of_stage, rest_open, closed, prefix_run, parts_run, turns_left, all_with, work_run, finish}
 use Rattle.strand_meaning.specs.Sound.{IsHalf, AreHalves, IsPartAfter, IsSoundStage, IsSoFar, IsEndOf, IsLoop, IsLongLoop, FitsOrigin, AreParts, IsInstanceOrLoop, IsSoundWork, UnfilledArePendingIn, IsTask}
+use Rattle.strand_meaning.specs.Found.{FindsTargets, functions_left}
 use Rattle.strand_meaning.specs.Laws.{IsFaultOf, IsSoundStep}
+use Rattle.strand_meaning.proofs.FoundTargets.FoundParts.{found-nowhere, found-halves}
 use Rattle.strand_meaning.proofs.SoundSteps.Steps.{so_far-same, parts-append, ended-rest, halves-places, sound-going}
 use Rattle.strand_meaning.proofs.SoundSteps.Starts.{begun-whole, begun-sound, begun-pending, halves-rest}
 use Rattle.strand_meaning.proofs.SoundSteps.Closing.{closed-then, eval-closed}
@@ -90,12 +92,12 @@ halves-long plan o (p ∷ ps) h k = inr (from p.place h.0 k.0.fits)
 
 -- A task that stands in a wait, or that was advanced, gives the same.
 waits-sound : (t : Task) → IsTask t → IsSoundStep t (waits t)
-waits-sound t is = record { finishes = is.finishes; known = is.known; clear = is.clear; parts = is.parts; shown = is.shown; work = is.work; pending = is.pending }
+waits-sound t is = record { finishes = is.finishes; known = is.known; clear = is.clear; parts = is.parts; shown = is.shown; work = is.work; pending = is.pending; found = is.found }
 
 -- other work that gives the same
 with-work : (t : Task) → IsTask t → (work : Work) → ((vs : List Value) → work_run t.plan t.origin t.trace.handed t.work vs ≡ work_run t.plan t.origin t.trace.handed work vs) →
-    IsSoundWork t.plan t.origin t.trace.handed work → UnfilledArePendingIn t.plan t.trace.handed work → IsTask (record t { work = work; advanced = true })
-with-work t is work same sound pends = record {
+    IsSoundWork t.plan t.origin t.trace.handed work → UnfilledArePendingIn t.plan t.trace.handed work → FindsTargets t.plan (functions_left work) t.trace.handed → IsTask (record t { work = work; advanced = true })
+with-work t is work same sound pends finds = record {
   finishes = sym (so_far-same (eval t.plan) t.trace t.values (work_run t.plan t.origin t.trace.handed t.work) (work_run t.plan t.origin t.trace.handed work) same) ∙ is.finishes;
   known = is.known;
   clear = is.clear;
@@ -103,6 +105,7 @@ with-work t is work same sound pends = record {
   shown = is.shown;
   work = sound;
   pending = pends;
+  found = λ plan-found. finds;
 }
 
 module _ (t : Task) (is : IsTask t) where
@@ -125,7 +128,7 @@ module _ (t : Task) (is : IsTask t) where
           none (inl e) = e
           none (inr l) = let no : IsLongLoop (Instance function args path) = subst IsLongLoop h l in absurd no
       by_origin (Loop function rest first path range) h =
-          with-work t is (Over v false) same (subst IsLoop (sym h) (subst IsInstanceOrLoop h is-loop), halves) tt
+          with-work t is (Over v false) same (subst IsLoop (sym h) (subst IsInstanceOrLoop h is-loop), halves) tt (found-nowhere t.plan ps)
         where
           own : Origin
           own = own_instance t.origin
@@ -209,7 +212,7 @@ module _ (t : Task) (is : IsTask t) where
 
     -- the last one is begun
     last-left : left.hi - left.lo ≡ 1 → IsTask (record t { work = begins_last t.plan t.origin; advanced = true })
-    last-left h = with-work t is (begins_last t.plan t.origin) same sound (subst (UnfilledArePendingIn t.plan ps) (sym begins) (begun-pending t.plan function _ ps halves))
+    last-left h = with-work t is (begins_last t.plan t.origin) same sound (subst (UnfilledArePendingIn t.plan ps) (sym begins) (begun-pending t.plan function _ ps halves)) (found-halves t.plan (functions_left (begins_last t.plan t.origin)) ps halves)
       where
         own : Origin
         own = own_instance whole
@@ -276,6 +279,7 @@ module _ (t : Task) (is : IsTask t) where
         shown = λ none. shown-more t.plan t.origin [] t.trace.prefix ps (record { child = first_half t.origin left; place = Half; after = [] }) (is.shown none) (part none);
         work = (subst (λ (o : Origin). IsEndOf o (upper_half left)) (sym loop) upper, more ps halves);
         pending = tt;
+        found = λ plan-found. found-nowhere t.plan (add_child (first_half t.origin left) Half t.trace).handed;
       },
     )
       where
@@ -369,6 +373,7 @@ tasks_begin plan (Instance function args path) known clear =
       shown = λ none. tt;
       work = (tt, record { front = []; whole = whole }, begun-sound plan function args [] clear tt);
       pending = begun-pending plan function args [] tt;
+      found = λ plan-found. tt;
     }
 tasks_begin plan (Loop function rest first path range) known clear = record {
   finishes = then-done (turns (eval plan) function rest first path range.lo (range.hi - range.lo)) ∙ sym (eval-loop function rest first path plan range (loop-of-plan plan (Loop function rest first path range) known));
@@ -378,4 +383,5 @@ tasks_begin plan (Loop function rest first path range) known clear = record {
   shown = λ none. tt;
   work = ((omega arith, refl, λ h. h), tt);
   pending = tt;
+  found = λ plan-found. tt;
 }

@@ -17,6 +17,7 @@ use Rattle.strand_meaning.specs.Trace.{AwaitedChild, Trace, with_effects}
 use Rattle.strand_meaning.specs.Task.{InstanceState, Running, Ended, Work, Runs, Task, own_instance, stage_after, child_in, stops_at, passing, moved, resumed}
 use Rattle.strand_meaning.specs.Rest.{children_of, rest_of_stage, rest_open, closed, parts_run, prefix_run, work_run, all_with, finish}
 use Rattle.strand_meaning.specs.Sound.{IsDestination, AreDestinations, IsHalf, AreHalves, IsSoundStage, IsSoFar, AreParts, IsInstanceOrLoop, UnfilledArePending, IsTask}
+use Rattle.strand_meaning.specs.Found.{FindsTargets, IsFoundPlan, functions_at, functions_left}
 use Rattle.strand_meaning.specs.Laws.{IsSoundStep}
 use Rattle.strand_meaning.specs.Observation.{effect_items}
 use Rattle.strand_meaning.proofs.Unfilled.Shown.{effect_parts}
@@ -24,6 +25,8 @@ use Rattle.strand_meaning.proofs.Unfilled.Taken.{takes-taken, shown_with, open-m
 use Rattle.strand_meaning.proofs.Unfilled.SoundMoves.{sound-free, SoundEnd, sound-move}
 use Rattle.strand_meaning.proofs.UnfilledPending.PendingMoves.{PendingEnd, pending-move}
 use Rattle.strand_meaning.proofs.UnfilledPending.PendingAnswers.{alike-pending}
+use Rattle.strand_meaning.proofs.FoundTargets.FoundParts.{found-nowhere, found-alike}
+use Rattle.strand_meaning.proofs.FoundTargets.FoundMoves.{FoundEnd, found-move, functions-after}
 use Rattle.strand_meaning.proofs.UnfilledPending.Alike.{Alike, alike-effects, alike-takes, alike-parts, alike-stage}
 use Rattle.strand_meaning.proofs.SoundSteps.Depth.{loop-of-plan, same-answer}
 use Rattle.strand_meaning.proofs.SoundSteps.Own.{own-move}
@@ -141,8 +144,9 @@ module _ (t : Task) (is : IsTask t) (m : Machine) (own-known : IsOriginOf t.plan
 
   -- the task after the move
   next-task : (ts : List Effect) → Each NotHalf ts → Shows t.plan t.origin ts → (rest : Run Item NodeFault Value) → Leaves ts rest → (stage : InstanceState) →
-      rest ≡ rest_open t.plan kids path (ps ++ effect_parts ts) stage → IsSoundStage t.plan (ps ++ effect_parts ts) stage → UnfilledArePending t.plan (ps ++ effect_parts ts) stage → IsTask (passing t ts (Runs stage))
-  next-task ts own-effects shows rest leaves stage lands fits stands = record {
+      rest ≡ rest_open t.plan kids path (ps ++ effect_parts ts) stage → IsSoundStage t.plan (ps ++ effect_parts ts) stage → UnfilledArePending t.plan (ps ++ effect_parts ts) stage →
+      (IsFoundPlan t.plan → FindsTargets t.plan (functions_at stage) (ps ++ effect_parts ts)) → IsTask (passing t ts (Runs stage))
+  next-task ts own-effects shows rest leaves stage lands fits stands finds = record {
     finishes = finishes;
     known = is.known;
     clear = is.clear;
@@ -150,6 +154,7 @@ module _ (t : Task) (is : IsTask t) (m : Machine) (own-known : IsOriginOf t.plan
     shown = λ none. let before : t.trace.fault ≡ None = sym (effects-fault ts t.trace) ∙ none in shows t.trace before (is.shown before);
     work = (is-loop, record { front = far.front ++ effect_items ts; whole = further ts rest leaves ∙ ap (λ (r : Run Item NodeFault Value). after_items (far.front ++ effect_items ts) (r then all_of)) lands-here }, alike-stage t.plan alike stage fits);
     pending = alike-pending t.plan alike stage stands;
+    found = λ plan-found. found-alike t.plan (functions_at stage) alike (finds plan-found);
   }
     where
       after : List AwaitedChild
@@ -174,27 +179,28 @@ module _ (t : Task) (is : IsTask t) (m : Machine) (own-known : IsOriginOf t.plan
           ∙ ap (λ (w : Work). so_far (eval t.plan) t.trace t.values (work_run t.plan t.origin ps w)) (sym at)
           ∙ is.finishes
 
-  sound-moved : (ts : List Effect) (e : Result Reached Fault) → Each NotHalf ts → Shows t.plan t.origin ts → Leaves ts (shown_with t.plan kids path ps ts e) → SoundEnd t.plan ps ts e → PendingEnd t.plan ps ts e → IsSoundStep t (moved t ts e)
-  sound-moved ts (Ok (Stands k)) own-effects shows leaves fits stands = by_child (child_in ts) refl
+  sound-moved : (ts : List Effect) (e : Result Reached Fault) → Each NotHalf ts → Shows t.plan t.origin ts → Leaves ts (shown_with t.plan kids path ps ts e) → SoundEnd t.plan ps ts e → PendingEnd t.plan ps ts e → (IsFoundPlan t.plan → FoundEnd t.plan ps ts e) → IsSoundStep t (moved t ts e)
+  sound-moved ts (Ok (Stands k)) own-effects shows leaves fits stands finds = by_child (child_in ts) refl
     where
       next : Task
       next = passing t ts (Runs (stage_after ts k))
 
       is-next : IsTask next
       is-next = next-task ts own-effects shows (rest_open t.plan kids path (ps ++ effect_parts ts) (stage_after ts k)) leaves (stage_after ts k) refl fits stands
+          (λ plan-found. subst (λ (fs : List ℕ). FindsTargets t.plan fs (ps ++ effect_parts ts)) (sym (functions-after ts k)) (finds plan-found))
 
       by_child : (o : Option Origin) → child_in ts ≡ o → IsSoundStep t (stops_at o next)
       by_child None h = is-next
       by_child (Some c) h =
           let k = child-known t.plan t.origin ts c (known ts (rest_open t.plan kids path (ps ++ effect_parts ts) (stage_after ts k)) leaves) h in
           (k.0, is-next)
-  sound-moved ts (Ok (Gives v)) own-effects shows leaves fits stands =
-      next-task ts own-effects shows (done v) leaves (Ended (Ok v)) (sym (ended-rest t.plan kids path 0 (ps ++ effect_parts ts) (halves-places (ps ++ effect_parts ts) halves) (Ok v))) halves tt
+  sound-moved ts (Ok (Gives v)) own-effects shows leaves fits stands finds =
+      next-task ts own-effects shows (done v) leaves (Ended (Ok v)) (sym (ended-rest t.plan kids path 0 (ps ++ effect_parts ts) (halves-places (ps ++ effect_parts ts) halves) (Ok v))) halves tt (λ plan-found. found-nowhere t.plan (ps ++ effect_parts ts))
     where
       halves : AreHalves (ps ++ effect_parts ts)
       halves = subst AreHalves (sym (ap (λ (l : List AwaitedChild). ps ++ l) fits.0 ∙ append-nil ps)) fits.1
-  sound-moved ts (Err f) own-effects shows leaves fits stands =
-      next-task ts own-effects shows (stopped (Own f)) leaves (Ended (Err (Own f))) (sym (ended-rest t.plan kids path fits.1 (ps ++ effect_parts ts) places (Err (Own f)))) (fits.1, places) tt
+  sound-moved ts (Err f) own-effects shows leaves fits stands finds =
+      next-task ts own-effects shows (stopped (Own f)) leaves (Ended (Err (Own f))) (sym (ended-rest t.plan kids path fits.1 (ps ++ effect_parts ts) places (Err (Own f)))) (fits.1, places) tt (λ plan-found. found-nowhere t.plan (ps ++ effect_parts ts))
     where
       places : AreDestinations fits.1 (ps ++ effect_parts ts)
       places = subst (AreDestinations fits.1) (sym (ap (λ (l : List AwaitedChild). ps ++ l) fits.0 ∙ append-nil ps)) fits.2
@@ -205,3 +211,4 @@ module _ (t : Task) (is : IsTask t) (m : Machine) (own-known : IsOriginOf t.plan
       sound-moved r.items r.ending (own-move t.plan path m) (move-shows t.plan t.origin m)
       (open-move t.plan kids path (length m.below) ps sound.0 m (sound-free t.plan ps m sound) (none-known kids ps m sound.1.spawned sound.1.faulted) (λ h. (sound.1.leaving h).1))
       (sound-move t.plan path is.clear ps m sound) (pending-move t.plan path ps m sound pends)
+      (λ plan-found. found-move t.plan path ps m sound.0 (subst (λ (w : Work). FindsTargets t.plan (functions_left w) ps) at (is.found plan-found)) plan-found pends)

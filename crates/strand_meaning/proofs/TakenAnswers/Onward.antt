@@ -5,7 +5,6 @@ use Rattle.script_grammar.specs.declared.tree.Name.{Name}
 use Rattle.serial_meaning.specs.Runs.{Run, done, after_items, goes_on, ◌then◌}
 use Rattle.serial_meaning.specs.Plan.{PlanView}
 use Rattle.serial_meaning.specs.Eval.{Evaluation, path_of, eval}
-use Rattle.serial_meaning.specs.Exec.{filled}
 use Rattle.serial_meaning.specs.Open.{Item, NodeFault, Own, ChildFaulted}
 use Rattle.serial_meaning.specs.declared.value.Value.{Value}
 use Rattle.serial_meaning.specs.declared.event.Fault.{Fault}
@@ -15,12 +14,12 @@ use Rattle.strand_meaning.specs.Clear.{IsWithin, IsApart, target_names}
 use Rattle.strand_meaning.specs.Machine.{Destination, Spawned, Looped, Half, Frame, Machine}
 use Rattle.strand_meaning.specs.Trace.{AwaitedChild, Trace, heard_unless, heard, heard_all}
 use Rattle.strand_meaning.specs.Task.{InstanceState, Running, AtSync, AtLoop, Ended, Work, Splits, Runs, Over, Task, own_instance, changed, changed_at, answered, takes, takes_all, joins, resumed, resumed_work, more_values, all_values, on}
+use Rattle.strand_meaning.specs.Found.{FindsTargets, functions_left}
 use Rattle.strand_meaning.specs.Rest.{children_of, evaluations, rest_of_stage, rest_open, closed, prefix_end, prefix_run, parts_run, all_with, work_run, finish}
 use Rattle.strand_meaning.specs.Sound.{unfilled_by, unfilled, is_by, any_by, IsSound, AreSound, IsDestination, AreDestinations, IsHalf, after_sync, IsSoundStage, AreParts, IsSoundWork, AreShownBy, UnfilledArePendingIn, IsTask}
 use Rattle.strand_meaning.proofs.SoundSteps.Closing.{after-then}
 use Rattle.strand_meaning.proofs.Unfilled.Changed.{length-changed}
 use Rattle.strand_meaning.proofs.Unfilled.Clears.{clear-within}
-use Rattle.strand_meaning.proofs.Unfilled.Targets.{all-kept, changed-kept, filled-kept}
 use Rattle.strand_meaning.proofs.UnfilledPending.PendingAnswers.{answers-pending}
 use Rattle.strand_meaning.proofs.SoundSteps.Steps.{so_far-same}
 
@@ -223,14 +222,14 @@ module _ (plan : PlanView) (p : AwaitedChild) (ps : List AwaitedChild) (q : Resu
       let k = changed-machine plan p ps owner to q e (λ height a. IsSound plan [] height (after_sync a)) (λ height a h t. sync-kept height a to t) m s.1 s.2 in
       inl (places-owner (length m.below) ps (length (changed owner (answered to q) m).below) (same-height owner to m) s.0.1, k.0, k.1)
   takes-spawned owner to e (AtLoop m) s =
-      let k = top-changed owner to e m s.0 s.1 in inl (k.0, k.1, all-kept m.top.env (changed owner (answered to q) m).top.env (changed-kept owner to q m) ps s.2.1)
+      let k = top-changed owner to e m s.0 s.1 in inl (k.0, k.1)
   takes-spawned owner to e (Ended (Ok v)) s = inl s.1
   takes-spawned owner to e (Ended (Err x)) s = inr (x, refl)
 
   takes-half : (stage : InstanceState) → IsSoundStage plan (p ∷ ps) stage → Taking plan ps stage
   takes-half (Running m) s = inl (s.0.1, less-sound plan p ps (length m.below) m.top s.1, less-below plan p ps m.top.target m.below s.2)
   takes-half (AtSync m) s = inl (s.0.1, s.1, less-below plan p ps m.top.target m.below s.2)
-  takes-half (AtLoop m) s = inl (less-sound plan p ps (length m.below) m.top s.0, less-below plan p ps m.top.target m.below s.1, s.2.1)
+  takes-half (AtLoop m) s = inl (less-sound plan p ps (length m.below) m.top s.0, less-below plan p ps m.top.target m.below s.1)
   takes-half (Ended (Ok v)) s = inl s.1
   takes-half (Ended (Err x)) s = inr (x, refl)
 
@@ -243,7 +242,6 @@ module _ (plan : PlanView) (p : AwaitedChild) (ps : List AwaitedChild) (q : Resu
       inl (
         record { clear = l.clear; spawned = l.spawned; faulted = l.faulted; in_text = l.in_text; left_in_text = l.left_in_text; levels = l.levels; leaving = l.leaving; returning = l.returning },
         less-below plan p ps m.top.target m.below s.1,
-        all-kept m.top.env (filled to vs m.top.env) (filled-kept to vs m.top.env) ps s.2.1,
       )
   takes-looped to e (Ok vs) (Ended (Ok v)) s = let no : IsHalf (Looped to) = subst IsHalf e s.0 in absurd no
   takes-looped to e (Ok vs) (Ended (Err x)) s = inr (x, refl)
@@ -342,6 +340,7 @@ module _ (t : Task) (is : IsTask t) where
     shown = λ none. subst (AreShownBy t.plan t.origin [] trace-on.prefix) (sym none-handed) tt;
     work = subst (λ (qs : List AwaitedChild). IsSoundWork t.plan t.origin qs (resumed_work ps answers t.work)) (sym none-handed) (work-sound t.work is.work);
     pending = subst (λ (qs : List AwaitedChild). UnfilledArePendingIn t.plan qs (resumed_work ps answers t.work)) (sym none-handed) (work-pending t.work is.pending);
+    found = λ plan-found. subst (FindsTargets t.plan (functions_left (resumed_work ps answers t.work))) (sym none-handed) tt;
   }
 
 -- A task that takes its children's evaluations stays sound.

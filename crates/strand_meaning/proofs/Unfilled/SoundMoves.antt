@@ -39,7 +39,6 @@ use Rattle.strand_meaning.specs.Sound.{unfilled, is_by, any_by, AreSoundLevels, 
 use Rattle.strand_meaning.proofs.Unfilled.Shown.{effect_parts, same-number}
 use Rattle.strand_meaning.proofs.Unfilled.Keeps.{first-contained, later-contained}
 use Rattle.strand_meaning.specs.Laws.{changed_run}
-use Rattle.strand_meaning.proofs.Unfilled.Targets.{loop-there}
 use Rattle.strand_meaning.proofs.Unfilled.Taken.{take-move, shape_of, IsFreePlace, AreFree}
 use Rattle.strand_meaning.proofs.Unfilled.Clears.{within-itself, none-contained, nothing-within, clear-within, clear-append, next-apart, unfilled-append, or-assoc, any-append, or-false, neither, none-unfilled, none-above, target-unfilled}
 
@@ -447,7 +446,6 @@ module _ (plan : PlanView) (path : List ℕ) (clear-plan : IsClearPlan plan) (pa
         by_size false = (
           sound-as plan parts (parts ++ more) height (with_left m left next).top (same-unfilled height parts more refl) (same-any height parts more refl) (top-sound left next ends refl clear text-more),
           sound-more plan parts more height (λ j h. refl) m.top.target m.below (omega arith) sound.2,
-          loop-there target m.top.env height parts sound.0 (record { child = o; place = place; after = [] }) refl,
         )
 
   first-within : (x : List ℕ) (names : Names) → IsApart (x ∷ names) pending → IsApart (x ∷ []) pending

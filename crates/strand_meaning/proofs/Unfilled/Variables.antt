@@ -32,7 +32,7 @@ with-with (v ∷ vs) x a b = from (bytes_eq v.name x) refl (with-with vs x a b)
     from true e ih = rw e refl
     from false e ih = rw e (ap (λ r. v ∷ r) ih)
 
-pub slot-with : (env : Env) (x : List _) (a : Slot) → slot_of (with_slot env x a) x ≡ Some a
+slot-with : (env : Env) (x : List _) (a : Slot) → slot_of (with_slot env x a) x ≡ Some a
 slot-with [] x a = rw (is-itself x) refl
 slot-with (v ∷ vs) x a = from (bytes_eq v.name x) refl (slot-with vs x a)
   where

@@ -2,7 +2,6 @@
 use Rattle.std.proofs.Common.{◌≡◌, ℕ, ◌||◌, List, [], ◌∷◌, ◌++◌, Option, Ok, Err, length, refl, sym, ap, append_assoc, append-nil, subst}
 use Rattle.serial_meaning.specs.Plan.{PlanView}
 use Rattle.serial_meaning.specs.Names.{Names}
-use Rattle.serial_meaning.specs.Values.{Env}
 use Rattle.serial_meaning.specs.Eval.{Evaluation}
 use Rattle.serial_meaning.specs.Open.{Own, ChildFaulted}
 use Rattle.serial_meaning.specs.declared.event.Event.{Event}
@@ -13,7 +12,7 @@ use Rattle.strand_meaning.specs.Machine.{Destination, Effect, Opens, Closes, Emi
 use Rattle.strand_meaning.specs.Trace.{AwaitedChild, Trace, after_last, emit, emit_at, add_child, with_effects}
 use Rattle.strand_meaning.specs.Task.{InstanceState, Running, AtSync, AtLoop, Ended, takes, takes_all}
 use Rattle.strand_meaning.specs.Rest.{evaluations}
-use Rattle.strand_meaning.specs.Sound.{unfilled_by, unfilled, is_by, any_by, AreSound, AreDestinations, AreHalves, TargetsAreThere, IsSoundStage, AreParts}
+use Rattle.strand_meaning.specs.Sound.{unfilled_by, unfilled, is_by, any_by, AreSound, AreDestinations, AreHalves, IsSoundStage, AreParts}
 use Rattle.strand_meaning.proofs.Unfilled.Shown.{effect_parts}
 use Rattle.strand_meaning.proofs.Unfilled.SoundMoves.{sound-as}
 
@@ -92,16 +91,12 @@ alike-below plan {ps} {qs} a target (caller ∷ below) s = (
   alike-below plan a caller.target below s.2,
 )
 
-alike-there : (env : Env) {ps qs : List AwaitedChild} → Alike ps qs → TargetsAreThere env ps → TargetsAreThere env qs
-alike-there env End h = tt
-alike-there env (Next o place before after a) h = (h.0, alike-there env a h.1)
-
 pub alike-stage : (plan : PlanView) {ps qs : List AwaitedChild} → Alike ps qs → (stage : InstanceState) → IsSoundStage plan ps stage → IsSoundStage plan qs stage
 alike-stage plan {ps} {qs} a (Running m) s =
     let height = length m.below in (alike-places height a s.0, sound-as plan ps qs height m.top (alike-unfilled height a) (alike-any height a) s.1, alike-below plan a m.top.target m.below s.2)
 alike-stage plan {ps} {qs} a (AtSync m) s = (alike-places (length m.below) a s.0, s.1, alike-below plan a m.top.target m.below s.2)
 alike-stage plan {ps} {qs} a (AtLoop m) s =
-    let height = length m.below in (sound-as plan ps qs height m.top (alike-unfilled height a) (alike-any height a) s.0, alike-below plan a m.top.target m.below s.1, alike-there m.top.env a s.2)
+    let height = length m.below in (sound-as plan ps qs height m.top (alike-unfilled height a) (alike-any height a) s.0, alike-below plan a m.top.target m.below s.1)
 alike-stage plan a (Ended (Ok v)) s = alike-halves a s
 alike-stage plan a (Ended (Err (Own f))) s = (s.0, alike-places s.0 a s.1)
 alike-stage plan a (Ended (Err (ChildFaulted f))) s = alike-none a s

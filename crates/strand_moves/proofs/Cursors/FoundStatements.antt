@@ -1,16 +1,16 @@
--- The statements among which a frame's cursor stands are its function's, so that the table has the place of each variable that they name.
-use Rattle.std.proofs.Common.{◌≡◌, ℕ, zero, suc, ◌-◌, Bool, true, ◌&&◌, List, [], ◌∷◌, Option, Some, None, map, reverse, slice_get, refl, sym, ap, subst, ◌∙◌}
+-- The statements among which a frame's cursor stands are its function's, so that the tables have each variable that they name and each function that they call.
+use Rattle.std.proofs.Common.{◌≡◌, ℕ, ◌-◌, Bool, true, ◌&&◌, List, [], ◌∷◌, Option, Some, None, reverse, slice_get, refl, ap, ◌∙◌}
 use Rattle.std.proofs.lemmas.Bool.{and_parts}
 use Rattle.std.proofs.lemmas.List.Elements.{All-head}
 use Rattle.script_grammar.specs.declared.tree.Name.{Name}
 use Rattle.script_grammar.specs.declared.tree.Function.{Function}
-use Rattle.script_grammar.specs.declared.tree.Stmt.{Stmt, out-Stmt, fold_out-Stmt}
-use Rattle.script_grammar.specs.declared.tree.Act.{Act, out-Act, map-Act, fold_out-Act}
-use Rattle.script_grammar.specs.declared.tree.Act.TheFolds.{fold-Act}
+use Rattle.script_grammar.specs.declared.tree.Stmt.{Stmt, out-Stmt}
+use Rattle.script_grammar.specs.declared.tree.Act.{Act, out-Act}
 use Rattle.script_grammar.specs.declared.tree.Act.TheOpen as act
 use Rattle.script_grammar.specs.declared.tree.Act.TheOpen.{Act-F}
-use Rattle.script_check.specs.Places.{all_true, every_in, every_in_act, every_in_block, every_in_statement, finds_in, has_place, stand_from, variable_names}
+use Rattle.script_check.specs.Places.{every_in, every_in_block, every_in_statement, finds_callee, finds_in, has_place, stand_from, variable_names}
 use Rattle.serial_meaning.specs.Plan.{PlanView, functions_of}
+use Rattle.strand_meaning.proofs.FoundTargets.LeftStatements.{one-of, opened, opened-found}
 use Rattle.strand_moves.specs.declared.cursor.Branch.{Branch}
 use Rattle.strand_moves.specs.declared.cursor.Branch.TheVariants as branch
 use Rattle.strand_moves.specs.declared.cursor.Entered.{Entered}
@@ -21,27 +21,8 @@ use Rattle.strand_moves.specs.Cursors.{IsAfterStatement, block_in, block_of, bra
 use Rattle.strand_moves.specs.Found.{ArePlaces, FindsStatement}
 use Rattle.strand_moves.specs.Running.{AreNamed, IsNamed, block_inside, body_in, body_of, statements_of}
 
--- of a list all are true
-pub one-of : {X : Type 0} (test : X → Bool) (xs : List X) (i : ℕ) (x : X) → all_true (map test xs) ≡ true → slice_get xs i ≡ Some x → test x ≡ true
-one-of test [] i x h e = absurd (cc)
-one-of test (y ∷ xs) zero x h e = let same : y ≡ x = cc in subst (λ z. test z ≡ true) same (and_parts (test y) (all_true (map test xs)) h).0
-one-of test (y ∷ xs) (suc i) x h e = one-of test xs i x (and_parts (test y) (all_true (map test xs)) h).1 e
-
-module _ (is : Name → Bool) where
-  abbrev in_act : Act → Bool
-  in_act = fold-Act Bool Bool (every_in_act is) (λ s. s.act)
-
-  abbrev pub opened : Act-F Act Stmt → Bool
-  opened a = every_in_act is (map-Act Act Stmt Bool Bool in_act (every_in_statement is) a)
-
-  every-out : (st : Stmt) → every_in_statement is st ≡ opened (out-Act (out-Stmt st).act)
-  every-out st = fold_out-Stmt Bool Bool (every_in_act is) (λ s. s.act) st ∙ fold_out-Act Bool Bool (every_in_act is) (λ s. s.act) (out-Stmt st).act
-
-  -- a statement by its act
-  pub opened-found : (st : Stmt) (a : Act-F Act Stmt) → out-Act (out-Stmt st).act ≡ a → every_in_statement is st ≡ true → opened a ≡ true
-  opened-found st a e h = sym (every-out st ∙ ap opened e) ∙ h
-
-  branch-found : (a : Act-F Act Stmt) (p : Branch) → opened a ≡ true → every_in_block is (branch_of a p) ≡ true
+module _ (is calls : Name → Bool) where
+  branch-found : (a : Act-F Act Stmt) (p : Branch) → opened is calls a ≡ true → every_in_block is calls (branch_of a p) ≡ true
   branch-found (act.Let x r) p h = refl
   branch-found (act.Array x n) p h = refl
   branch-found (act.Set x r) p h = refl
@@ -51,17 +32,17 @@ module _ (is : Name → Bool) where
   branch-found act.Sync p h = refl
   branch-found (act.Print e) p h = refl
   branch-found (act.If e first second) branch.Yes h =
-      let both = and_parts (every_in is e) (every_in_block is first && every_in_block is second) h in (and_parts (every_in_block is first) (every_in_block is second) both.1).0
+      let both = and_parts (every_in is e) (every_in_block is calls first && every_in_block is calls second) h in (and_parts (every_in_block is calls first) (every_in_block is calls second) both.1).0
   branch-found (act.If e first second) branch.No h =
-      let both = and_parts (every_in is e) (every_in_block is first && every_in_block is second) h in (and_parts (every_in_block is first) (every_in_block is second) both.1).1
+      let both = and_parts (every_in is e) (every_in_block is calls first && every_in_block is calls second) h in (and_parts (every_in_block is calls first) (every_in_block is calls second) both.1).1
   branch-found (act.If e first second) branch.LoopBody h = refl
   branch-found (act.While e body) branch.Yes h = refl
   branch-found (act.While e body) branch.No h = refl
-  branch-found (act.While e body) branch.LoopBody h = (and_parts (every_in is e) (every_in_block is body) h).1
+  branch-found (act.While e body) branch.LoopBody h = (and_parts (every_in is e) (every_in_block is calls body) h).1
   branch-found (act.Pfor x lo hi target c) p h = refl
   branch-found (act.Scope block) p h = refl
 
-  scope-found : (a : Act-F Act Stmt) → opened a ≡ true → every_in_block is (scope_of a) ≡ true
+  scope-found : (a : Act-F Act Stmt) → opened is calls a ≡ true → every_in_block is calls (scope_of a) ≡ true
   scope-found (act.Let x r) h = refl
   scope-found (act.Array x n) h = refl
   scope-found (act.Set x r) h = refl
@@ -75,58 +56,61 @@ module _ (is : Name → Bool) where
   scope-found (act.Pfor x lo hi target c) h = refl
   scope-found (act.Scope block) h = h
 
-  entered : (block : List Stmt) (e : Entered) → every_in_block is block ≡ true → every_in_block is (block_in block e) ≡ true
+  entered : (block : List Stmt) (e : Entered) → every_in_block is calls block ≡ true → every_in_block is calls (block_in block e) ≡ true
   entered block e h = by (slice_get block (place_before e.branch e.back)) refl
     where
-      by : (o : Option Stmt) → slice_get block (place_before e.branch e.back) ≡ o → every_in_block is (branch_at o e.branch) ≡ true
+      by : (o : Option Stmt) → slice_get block (place_before e.branch e.back) ≡ o → every_in_block is calls (branch_at o e.branch) ≡ true
       by None i = refl
       by (Some st) i =
-          branch-found (out-Act (out-Stmt st).act) e.branch (opened-found st (out-Act (out-Stmt st).act) refl (one-of (every_in_statement is) block (place_before e.branch e.back) st h i))
+          branch-found (out-Act (out-Stmt st).act) e.branch (opened-found is calls st (out-Act (out-Stmt st).act) refl (one-of (every_in_statement is calls) block (place_before e.branch e.back) st h i))
 
-  block-found : (block : List Stmt) (es : List Entered) → every_in_block is block ≡ true → every_in_block is (block_of block es) ≡ true
+  block-found : (block : List Stmt) (es : List Entered) → every_in_block is calls block ≡ true → every_in_block is calls (block_of block es) ≡ true
   block-found block [] h = h
   block-found block (e ∷ es) h = block-found (block_in block e) es (entered block e h)
 
-  inside-found : (body : List Stmt) (ls : List Level) → every_in_block is body ≡ true → every_in_block is (block_inside body ls) ≡ true
+  inside-found : (body : List Stmt) (ls : List Level) → every_in_block is calls body ≡ true → every_in_block is calls (block_inside body ls) ≡ true
   inside-found body [] h = h
   inside-found body (l ∷ ls) h = by (inside-found body ls h) (slice_get there (l.cursor.next - 1)) refl
     where
       there : List Stmt
       there = block_of (block_inside body ls) l.cursor.entered.items
 
-      by : every_in_block is (block_inside body ls) ≡ true → (o : Option Stmt) → slice_get there (l.cursor.next - 1) ≡ o → every_in_block is (scope_at o) ≡ true
+      by : every_in_block is calls (block_inside body ls) ≡ true → (o : Option Stmt) → slice_get there (l.cursor.next - 1) ≡ o → every_in_block is calls (scope_at o) ≡ true
       by all None i = refl
       by all (Some st) i =
-          let found = one-of (every_in_statement is) there (l.cursor.next - 1) st (block-found (block_inside body ls) l.cursor.entered.items all) i in
-          scope-found (out-Act (out-Stmt st).act) (opened-found st (out-Act (out-Stmt st).act) refl found)
+          let found = one-of (every_in_statement is calls) there (l.cursor.next - 1) st (block-found (block_inside body ls) l.cursor.entered.items all) i in
+          scope-found (out-Act (out-Stmt st).act) (opened-found is calls st (out-Act (out-Stmt st).act) refl found)
 
 -- the statement after which a frame's cursor stands
 module _ (plan : PlanView) (places : List ℕ) (a : Frame) (all : ArePlaces places plan) (named : IsNamed plan a) where
   abbrev has_own : Name → Bool
   has_own = has_place places a.env.names
 
+  abbrev has_callee : Name → Bool
+  has_callee = finds_callee (functions_of plan)
+
   abbrev own_names : List (List ℕ)
   own_names = variable_names named.function
 
-  own : every_in_block (has_place places own_names) named.function.body ≡ true
+  own : every_in_block (has_place places own_names) has_callee named.function.body ≡ true
   own =
-      let found = one-of (finds_in places) (functions_of plan) a.function named.function all named.of_plan in
-      let body = every_in_block (has_place places own_names) named.function.body in
+      let found = one-of (finds_in places (functions_of plan)) (functions_of plan) a.function named.function all.found named.of_plan in
+      let body = every_in_block (has_place places own_names) has_callee named.function.body in
       let value = every_in (has_place places own_names) named.function.result in
       (and_parts body value (and_parts (stand_from 0 own_names named.function.params) (body && value) found).1).0
 
-  body-found : every_in_block has_own (body_of plan a.function) ≡ true
+  body-found : every_in_block has_own has_callee (body_of plan a.function) ≡ true
   body-found =
-      ap (λ (o : Option Function). every_in_block has_own (body_in o)) named.of_plan
-      ∙ ap (λ (ns : List (List ℕ)). every_in_block (has_place places ns) named.function.body) named.names
+      ap (λ (o : Option Function). every_in_block has_own has_callee (body_in o)) named.of_plan
+      ∙ ap (λ (ns : List (List ℕ)). every_in_block (has_place places ns) has_callee named.function.body) named.names
       ∙ own
 
-  pub statement-found : (st : Stmt) → IsAfterStatement (statements_of plan a) a.cursor st → FindsStatement places a.env st
+  pub statement-found : (st : Stmt) → IsAfterStatement (statements_of plan a) a.cursor st → FindsStatement plan places a.env st
   statement-found st after =
-      one-of (every_in_statement has_own) (block_of (statements_of plan a) a.cursor.entered.items) (a.cursor.next - 1) st
-      (block-found has_own (statements_of plan a) a.cursor.entered.items (inside-found has_own (body_of plan a.function) (reverse a.levels.items) body-found))
+      one-of (every_in_statement has_own has_callee) (block_of (statements_of plan a) a.cursor.entered.items) (a.cursor.next - 1) st
+      (block-found has_own has_callee (statements_of plan a) a.cursor.entered.items (inside-found has_own has_callee (body_of plan a.function) (reverse a.levels.items) body-found))
       after.there
 
 -- the same of an instance's innermost frame
-pub next-found : (plan : PlanView) (places : List ℕ) (i : Running) → ArePlaces places plan → AreNamed plan i → (st : Stmt) → IsAfterStatement (statements_of plan i.top) i.top.cursor st → FindsStatement places i.top.env st
+pub next-found : (plan : PlanView) (places : List ℕ) (i : Running) → ArePlaces places plan → AreNamed plan i → (st : Stmt) → IsAfterStatement (statements_of plan i.top) i.top.cursor st → FindsStatement plan places i.top.env st
 next-found plan places i all named st after = statement-found plan places i.top all (All-head (IsNamed plan) i.top i.below.items named.each) st after

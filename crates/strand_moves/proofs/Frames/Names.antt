@@ -1,48 +1,51 @@
 -- Frames whose variables are those of their functions.
-use Rattle.std.proofs.Common.{◌≡◌, ℕ, zero, suc, ◌<◌, true, Bool, ◌&&◌, List, [], ◌∷◌, ◌++◌, Option, Some, None, All, map, option_map, get_or, slice_get, length, reverse, set, refl, sym, ap, subst, ◌∙◌}
-use Rattle.std.specs.Prelude.{IfSome, IsSome}
-use Rattle.std.proofs.lemmas.Bool.{and_parts, false≢true}
+use Rattle.std.proofs.Common.{◌≡◌, ℕ, zero, suc, ◌<◌, true, Bool, ◌&&◌, List, [], ◌∷◌, ◌++◌, Option, Some, None, All, map, option_map, get_or, length, reverse, set, refl, sym, ap, subst, ◌∙◌}
+use Rattle.std.proofs.lemmas.Bool.{and_parts}
 use Rattle.std.proofs.lemmas.List.{get_or_default, map-append, reverse-append}
 use Rattle.std.proofs.lemmas.List.Elements.{All-cons, All-get_or, All-head, All-pop, All-push, All-same, All-set, All-tail}
-use Rattle.script_check.specs.Places.{agree, every_in, every_in_block, finds_in, has_place, place_in, stand_from, variable_names}
+use Rattle.script_check.specs.Places.{every_in, every_in_block, every_in_target, finds_callee, finds_in, has_place, stand_from, table_of_places, variable_names}
 use Rattle.script_grammar.specs.declared.tree.Function.{Function}
 use Rattle.script_grammar.specs.declared.tree.Name.{Name}
 use Rattle.serial_meaning.specs.Functions.{function_at}
 use Rattle.serial_meaning.specs.Plan.{PlanView, functions_of}
+use Rattle.strand_meaning.specs.Found.{FindsTargetIn, variables_in}
 use Rattle.strand_values.specs.Environments.{FindsExpression}
 use Rattle.strand_moves.specs.declared.frame.Frame.{Frame}
 use Rattle.strand_moves.specs.declared.running.Running.{Running}
 use Rattle.strand_moves.specs.Found.{ArePlaces, FindsTarget}
 use Rattle.strand_moves.specs.Running.{AreNamed, IsNamed, IsNamedIn, KeepsNames, TargetsAreNamed}
-use Rattle.strand_moves.proofs.Cursors.FoundStatements.{one-of}
+use Rattle.strand_meaning.proofs.FoundTargets.LeftStatements.{one-of}
 use Rattle.strand_moves.proofs.Statements.Naming.{same-named}
 
 -- Targets
 
-module _ (places : List ℕ) (caller : Frame) where
-  both-there : (i j : Option ℕ) → agree i j ≡ true → IsSome j
-  both-there None j h = absurd (false≢true h)
-  both-there (Some i) None h = absurd (false≢true h)
-  both-there (Some i) (Some j) h = refl
+module _ (plan : PlanView) where
+  abbrev table : List ℕ
+  table = table_of_places (functions_of plan)
 
   -- a target that is found is named
-  pub target-named : (target : Option Name) → FindsTarget places caller.env target → IsNamedIn caller target
-  target-named None h = tt
-  target-named (Some x) h = both-there (slice_get places x.at) (place_in caller.env.names x.bytes) h
+  pub target-named : (places : List ℕ) (caller : Frame) (target : Option Name) → ArePlaces places plan → FindsTarget places caller.env target → IsNamedIn plan caller target
+  target-named places caller target all h = subst (λ (t : List ℕ). FindsTarget t caller.env target) all.table h
+
+  -- what is found in a function is found in its frames
+  pub target-found : (a : Frame) (target : Option Name) → IsNamed plan a → FindsTargetIn plan target a.function → FindsTarget table a.env target
+  target-found a target is h =
+      let names : variables_in (function_at (functions_of plan) a.function) ≡ a.env.names = ap variables_in is.of_plan ∙ sym is.names in
+      subst (λ (ns : List (List ℕ)). every_in_target (has_place table ns) target ≡ true) names h
 
 -- what targets are told of a frame
 abbrev tie : Frame → Option Name × List (List ℕ)
 tie a = (a.target, a.env.names)
 
-ties-same : (target : Option Name) (xs ys : List Frame) → map tie xs ≡ map tie ys → TargetsAreNamed target xs → TargetsAreNamed target ys
-ties-same target [] [] e h = tt
-ties-same target [] (y ∷ ys) e h = absurd (cc)
-ties-same target (x ∷ xs) [] e h = absurd (cc)
-ties-same target (x ∷ xs) (y ∷ ys) e h =
+ties-same : (plan : PlanView) (target : Option Name) (xs ys : List Frame) → map tie xs ≡ map tie ys → TargetsAreNamed plan target xs → TargetsAreNamed plan target ys
+ties-same plan target [] [] e h = tt
+ties-same plan target [] (y ∷ ys) e h = absurd (cc)
+ties-same plan target (x ∷ xs) [] e h = absurd (cc)
+ties-same plan target (x ∷ xs) (y ∷ ys) e h =
     let first : tie x ≡ tie y = cc in
     let rest : map tie xs ≡ map tie ys = cc in (
-      subst (λ (ns : List (List ℕ)). IfSome target (λ z. IsSome (place_in ns z.bytes))) (ap (λ (t : Option Name × List (List ℕ)). t.1) first) h.0,
-      ties-same y.target xs ys rest (subst (λ (t : Option Name). TargetsAreNamed t xs) (ap (λ (t : Option Name × List (List ℕ)). t.0) first) h.1),
+      subst (λ (ns : List (List ℕ)). every_in_target (has_place (table plan) ns) target ≡ true) (ap (λ (t : Option Name × List (List ℕ)). t.1) first) h.0,
+      ties-same plan y.target xs ys rest (subst (λ (t : Option Name). TargetsAreNamed plan t xs) (ap (λ (t : Option Name × List (List ℕ)). t.0) first) h.1),
     )
 
 set-tie : (xs : List Frame) (h : ℕ) (a : Frame) → tie a ≡ tie (get_or xs h a) → map tie (set xs h a) ≡ map tie xs
@@ -87,19 +90,19 @@ module _ (plan : PlanView) where
               All-cons (IsNamed plan) new.top new.below.items (subst (IsNamed plan) (sym top) (innermost-named i all))
               (All-same (IsNamed plan) new.below.items (set i.below.items h a) below (All-set (IsNamed plan) i.below.items h a is (All-tail (IsNamed plan) i.top i.below.items all.each)));
           targets =
-              subst (λ (t : Frame). TargetsAreNamed t.target (reverse new.below.items)) (sym top)
-              (ties-same i.top.target (reverse i.below.items) (reverse new.below.items)
+              subst (λ (t : Frame). TargetsAreNamed plan t.target (reverse new.below.items)) (sym top)
+              (ties-same plan i.top.target (reverse i.below.items) (reverse new.below.items)
               (turned-ties i.below.items new.below.items (sym (ap (map tie) below ∙ set-tie i.below.items h a its-tie))) all.targets);
         }
 
   -- one frame more
-  pub named-begun : (old new : Running) → new.below.items ≡ old.below.items ++ old.top ∷ [] → IsNamed plan new.top → IsNamedIn old.top new.top.target → KeepsNames plan old new
+  pub named-begun : (old new : Running) → new.below.items ≡ old.below.items ++ old.top ∷ [] → IsNamed plan new.top → IsNamedIn plan old.top new.top.target → KeepsNames plan old new
   named-begun old new below is target h =
       record {
         each =
             All-cons (IsNamed plan) new.top new.below.items is
             (All-same (IsNamed plan) new.below.items (old.below.items ++ old.top ∷ []) below (All-push (IsNamed plan) old.below.items old.top (All-tail (IsNamed plan) old.top old.below.items h.each) (innermost-named old h)));
-        targets = subst (TargetsAreNamed new.top.target) (sym (ap reverse below ∙ reverse-append old.below.items (old.top ∷ []))) (target, h.targets);
+        targets = subst (TargetsAreNamed plan new.top.target) (sym (ap reverse below ∙ reverse-append old.below.items (old.top ∷ []))) (target, h.targets);
       }
 
   -- those below one that ends
@@ -107,14 +110,14 @@ module _ (plan : PlanView) where
     below-named : All (IsNamed plan) rest × IsNamed plan caller
     below-named = All-pop (IsNamed plan) i.below.items rest (Some caller) there (All-tail (IsNamed plan) i.top i.below.items h.each)
 
-    pub caller-named : IsNamed plan caller
+    caller-named : IsNamed plan caller
     caller-named = below-named.1
 
-    targets-below : IsNamedIn caller i.top.target × TargetsAreNamed caller.target (reverse rest)
-    targets-below = subst (TargetsAreNamed i.top.target) (ap reverse there ∙ reverse-append rest (caller ∷ [])) h.targets
+    targets-below : IsNamedIn plan caller i.top.target × TargetsAreNamed plan caller.target (reverse rest)
+    targets-below = subst (TargetsAreNamed plan i.top.target) (ap reverse there ∙ reverse-append rest (caller ∷ [])) h.targets
 
     -- its value goes to a variable of the caller's, if to any
-    pub value-named : IsNamedIn caller i.top.target
+    pub value-named : IsNamedIn plan caller i.top.target
     value-named = targets-below.0
 
     pub named-ended : (new : Running) → new.top.function ≡ caller.function → new.top.target ≡ caller.target → new.top.env.names ≡ caller.env.names → new.below.items ≡ rest → AreNamed plan new
@@ -123,20 +126,9 @@ module _ (plan : PlanView) where
           each =
               All-cons (IsNamed plan) new.top new.below.items (same-named plan caller new.top function names caller-named) (All-same (IsNamed plan) new.below.items rest below below-named.0);
           targets =
-              subst (λ (t : Option Name). TargetsAreNamed t (reverse new.below.items)) (sym target)
-              (subst (λ (frames : List Frame). TargetsAreNamed caller.target (reverse frames)) (sym below) targets-below.1);
+              subst (λ (t : Option Name). TargetsAreNamed plan t (reverse new.below.items)) (sym target)
+              (subst (λ (frames : List Frame). TargetsAreNamed plan caller.target (reverse frames)) (sym below) targets-below.1);
         }
-
--- by the names that a plan has for a frame's function
-module _ (plan : PlanView) (a : Frame) (is : IsNamed plan a) where
-  known-names : option_map variable_names (function_at (functions_of plan) a.function) ≡ Some a.env.names
-  known-names = ap (option_map variable_names) is.of_plan ∙ ap Some (sym is.names)
-
-  pub names-are : (names : List (List ℕ)) → Some names ≡ option_map variable_names (function_at (functions_of plan) a.function) → names ≡ a.env.names
-  names-are names h = let same : Some names ≡ Some a.env.names = h ∙ known-names in cc
-
-  pub names-there : None ≡ option_map variable_names (function_at (functions_of plan) a.function) → ⊥
-  names-there h = let no = h ∙ known-names in absurd (cc)
 
 -- a function of a plan
 module _ (plan : PlanView) (number : ℕ) (f : Function) (there : function_at (functions_of plan) number ≡ Some f) where
@@ -147,17 +139,20 @@ module _ (plan : PlanView) (number : ℕ) (f : Function) (there : function_at (f
   own-names-there h = let no = h ∙ ap (option_map variable_names) there in absurd (cc)
 
   module _ (places : List ℕ) (all : ArePlaces places plan) where
+    abbrev body : Bool
+    body = every_in_block (has_place places (variable_names f)) (finds_callee (functions_of plan)) f.body
+
     abbrev text : Bool
-    text = every_in_block (has_place places (variable_names f)) f.body && every_in (has_place places (variable_names f)) f.result
+    text = body && every_in (has_place places (variable_names f)) f.result
 
     parts : (stand_from 0 (variable_names f) f.params ≡ true) × (text ≡ true)
-    parts = and_parts (stand_from 0 (variable_names f) f.params) text (one-of (finds_in places) (functions_of plan) number f all there)
+    parts = and_parts (stand_from 0 (variable_names f) f.params) text (one-of (finds_in places (functions_of plan)) (functions_of plan) number f all.found there)
 
     pub params-stand : stand_from 0 (variable_names f) f.params ≡ true
     params-stand = parts.0
 
     result-named : every_in (has_place places (variable_names f)) f.result ≡ true
-    result-named = (and_parts (every_in_block (has_place places (variable_names f)) f.body) (every_in (has_place places (variable_names f)) f.result) parts.1).1
+    result-named = (and_parts body (every_in (has_place places (variable_names f)) f.result) parts.1).1
 
     pub result-found : (a : Frame) → a.env.names ≡ variable_names f → FindsExpression places a.env f.result
     result-found a names = ap (λ (ns : List (List ℕ)). every_in (has_place places ns) f.result) names ∙ result-named

@@ -201,7 +201,7 @@ first-sound plan i fits within rank steps on none alone named =
       named =
           record {
             each = All-cons (IsNamed plan) i.top i.below.items named (All-same (IsNamed plan) i.below.items [] alone (All-nil (IsNamed plan)));
-            targets = subst (λ (below : List Frame). TargetsAreNamed i.top.target (reverse below)) (sym alone) tt;
+            targets = subst (λ (below : List Frame). TargetsAreNamed plan i.top.target (reverse below)) (sym alone) tt;
           };
     }
 

@@ -1,6 +1,6 @@
 -- What each statement does, once it is paid.
 use Rattle.std.proofs.Common.{◌≡◌, ℕ, suc, ◌+◌, Bool, true, false, nat_lt, List, [], ◌∷◌, ◌++◌, Option, Some, None, Ok, Err, refl, ap, ◌∙◌, length, if◌then◌else◌}
-use Rattle.std.proofs.Common.{ℤ, pos, w64}
+use Rattle.std.proofs.Common.{ℤ, w64}
 use Rattle.std.proofs.lemmas.List.{append-nil}
 use Rattle.std.specs.Int.{cast_signed}
 use Rattle.script_grammar.specs.declared.tree.Name.{Name}
@@ -220,12 +220,6 @@ module _ (plan : PlanView) (path : List ℕ) (m : Machine) (st : Stmt) where
   unfolding acted
   call None c vs f h k j = rw (h, k, j) refl
   call (Some x) c vs f h k j = rw (h, k, j) refl
-
-  pub call-none : (target : Option Name) (c : CallText) (vs : List Value) (env : Env) → values_of c.args m.top.env ≡ Ok vs → nat_lt (length m.below) 256 ≡ true → function_at (functions_of plan) (number_of (functions_of plan) c.name.bytes) ≡ None →
-      env ≡ with_scalar target (Int (pos 0)) m.top.env → acted plan path m st (call_to target c) ≡ went [] (with_env m env)
-  unfolding acted
-  call-none None c vs env h k j e = rw (h, k, j, e) refl
-  call-none (Some x) c vs env h k j e = rw (h, k, j, e) refl
 
   pub call-args-fault : (target : Option Name) (c : CallText) (kind : FaultKind) → values_of c.args m.top.env ≡ Err kind → acted plan path m st (call_to target c) ≡ faults kind (path ++ m.rank ∷ [])
   unfolding acted

@@ -1,4 +1,4 @@
--- Where the table has the place of each variable that a statement names, it has those of its parts.
+-- Where the tables have each variable that a statement names and each function that it calls, they have those of its parts.
 use Rattle.std.proofs.Common.{◌≡◌, ℕ, Bool, true, ◌&&◌, List, Option, Some, None, refl, sym, subst}
 use Rattle.std.proofs.lemmas.Bool.{and_parts}
 use Rattle.script_grammar.specs.declared.tree.Name.{Name}
@@ -11,67 +11,70 @@ use Rattle.script_grammar.specs.declared.tree.Stmt.{Stmt, out-Stmt}
 use Rattle.script_grammar.specs.declared.tree.Act.{out-Act}
 use Rattle.script_grammar.specs.declared.tree.Act.TheOpen as act
 use Rattle.script_check.specs.Places.{every_in, every_in_all, every_in_block, every_in_right, every_in_statement, every_in_target}
+use Rattle.serial_meaning.specs.Plan.{PlanView}
 use Rattle.strand_moves.specs.declared.running.Running.{Running}
 use Rattle.strand_moves.specs.Found.{EveryInSpawn, FindsStatement}
-use Rattle.strand_moves.proofs.Cursors.FoundStatements.{opened-found}
+use Rattle.strand_meaning.proofs.FoundTargets.LeftStatements.{opened-found}
 
-module _ (is : Name → Bool) where
+module _ (is calls : Name → Bool) where
   -- a right side
-  pub in_value : (r : Right) (e : Expr) → r ≡ right.Value e → every_in_right is r ≡ true → every_in is e ≡ true
-  in_value r e same h = subst (λ (s : Right). every_in_right is s ≡ true) same h
+  pub in_value : (r : Right) (e : Expr) → r ≡ right.Value e → every_in_right is calls r ≡ true → every_in is e ≡ true
+  in_value r e same h = subst (λ (s : Right). every_in_right is calls s ≡ true) same h
 
-  pub in_called : (r : Right) (at : ℕ) (c : CallText) → r ≡ right.Call at c → every_in_right is r ≡ true → every_in_all is c.args ≡ true
-  in_called r at c same h = subst (λ (s : Right). every_in_right is s ≡ true) same h
+  pub in_called : (r : Right) (at : ℕ) (c : CallText) → r ≡ right.Call at c → every_in_right is calls r ≡ true → (calls c.name ≡ true) × (every_in_all is c.args ≡ true)
+  in_called r at c same h = and_parts (calls c.name) (every_in_all is c.args) (subst (λ (s : Right). every_in_right is calls s ≡ true) same h)
 
-  pub in_spawned : (r : Right) (at : ℕ) (c : CallText) → r ≡ right.Spawn at c → every_in_right is r ≡ true → every_in_all is c.args ≡ true
-  in_spawned r at c same h = subst (λ (s : Right). every_in_right is s ≡ true) same h
+  pub in_spawned : (r : Right) (at : ℕ) (c : CallText) → r ≡ right.Spawn at c → every_in_right is calls r ≡ true → (calls c.name ≡ true) × (every_in_all is c.args ≡ true)
+  in_spawned r at c same h = and_parts (calls c.name) (every_in_all is c.args) (subst (λ (s : Right). every_in_right is calls s ≡ true) same h)
 
-  module _ (st : Stmt) (h : every_in_statement is st ≡ true) where
-    pub in_let : (x : Name) (r : Right) → out-Act (out-Stmt st).act ≡ act.Let x r → (is x ≡ true) × (every_in_right is r ≡ true)
-    in_let x r e = and_parts (is x) (every_in_right is r) (opened-found is st (act.Let x r) e h)
+  module _ (st : Stmt) (h : every_in_statement is calls st ≡ true) where
+    pub in_let : (x : Name) (r : Right) → out-Act (out-Stmt st).act ≡ act.Let x r → (is x ≡ true) × (every_in_right is calls r ≡ true)
+    in_let x r e = and_parts (is x) (every_in_right is calls r) (opened-found is calls st (act.Let x r) e h)
 
-    pub in_set : (x : Name) (r : Right) → out-Act (out-Stmt st).act ≡ act.Set x r → (is x ≡ true) × (every_in_right is r ≡ true)
-    in_set x r e = and_parts (is x) (every_in_right is r) (opened-found is st (act.Set x r) e h)
+    pub in_set : (x : Name) (r : Right) → out-Act (out-Stmt st).act ≡ act.Set x r → (is x ≡ true) × (every_in_right is calls r ≡ true)
+    in_set x r e = and_parts (is x) (every_in_right is calls r) (opened-found is calls st (act.Set x r) e h)
 
     pub in_array : (x : Name) (n : Number) → out-Act (out-Stmt st).act ≡ act.Array x n → is x ≡ true
-    in_array x n e = opened-found is st (act.Array x n) e h
+    in_array x n e = opened-found is calls st (act.Array x n) e h
 
     pub in_store : (x : Name) (i d : Expr) → out-Act (out-Stmt st).act ≡ act.Store x i d → (is x ≡ true) × ((every_in is i ≡ true) × (every_in is d ≡ true))
-    in_store x i d e = let parts = and_parts (is x) (every_in is i && every_in is d) (opened-found is st (act.Store x i d) e h) in (parts.0, and_parts (every_in is i) (every_in is d) parts.1)
+    in_store x i d e = let parts = and_parts (is x) (every_in is i && every_in is d) (opened-found is calls st (act.Store x i d) e h) in (parts.0, and_parts (every_in is i) (every_in is d) parts.1)
 
-    pub in_spawn : (c : CallText) → out-Act (out-Stmt st).act ≡ act.Spawn c → every_in_all is c.args ≡ true
-    in_spawn c e = opened-found is st (act.Spawn c) e h
+    pub in_spawn : (c : CallText) → out-Act (out-Stmt st).act ≡ act.Spawn c → (calls c.name ≡ true) × (every_in_all is c.args ≡ true)
+    in_spawn c e = and_parts (calls c.name) (every_in_all is c.args) (opened-found is calls st (act.Spawn c) e h)
 
-    pub in_call : (c : CallText) → out-Act (out-Stmt st).act ≡ act.Call c → every_in_all is c.args ≡ true
-    in_call c e = opened-found is st (act.Call c) e h
+    pub in_call : (c : CallText) → out-Act (out-Stmt st).act ≡ act.Call c → (calls c.name ≡ true) × (every_in_all is c.args ≡ true)
+    in_call c e = and_parts (calls c.name) (every_in_all is c.args) (opened-found is calls st (act.Call c) e h)
 
     pub in_print : (d : Expr) → out-Act (out-Stmt st).act ≡ act.Print d → every_in is d ≡ true
-    in_print d e = opened-found is st (act.Print d) e h
+    in_print d e = opened-found is calls st (act.Print d) e h
 
     pub in_if : (d : Expr) (first second : List Stmt) → out-Act (out-Stmt st).act ≡ act.If d first second → every_in is d ≡ true
-    in_if d first second e = (and_parts (every_in is d) (every_in_block is first && every_in_block is second) (opened-found is st (act.If d first second) e h)).0
+    in_if d first second e = (and_parts (every_in is d) (every_in_block is calls first && every_in_block is calls second) (opened-found is calls st (act.If d first second) e h)).0
 
     pub in_while : (d : Expr) (body : List Stmt) → out-Act (out-Stmt st).act ≡ act.While d body → every_in is d ≡ true
-    in_while d body e = (and_parts (every_in is d) (every_in_block is body) (opened-found is st (act.While d body) e h)).0
+    in_while d body e = (and_parts (every_in is d) (every_in_block is calls body) (opened-found is calls st (act.While d body) e h)).0
 
     pub in_pfor : (x : Name) (lo hi : Expr) (target : Option Name) (c : CallText) → out-Act (out-Stmt st).act ≡ act.Pfor x lo hi target c →
-        (every_in is lo ≡ true) × ((every_in is hi ≡ true) × ((every_in_target is target ≡ true) × (every_in_all is c.args ≡ true)))
+        (every_in is lo ≡ true) × ((every_in is hi ≡ true) × ((every_in_target is target ≡ true) × ((calls c.name ≡ true) × (every_in_all is c.args ≡ true))))
     in_pfor x lo hi target c e =
-        let first = and_parts (every_in is lo) (every_in is hi && (every_in_target is target && every_in_all is c.args)) (opened-found is st (act.Pfor x lo hi target c) e h) in
-        let second = and_parts (every_in is hi) (every_in_target is target && every_in_all is c.args) first.1 in
-        (first.0, (second.0, and_parts (every_in_target is target) (every_in_all is c.args) second.1))
+        let call = calls c.name && every_in_all is c.args in
+        let first = and_parts (every_in is lo) (every_in is hi && (every_in_target is target && call)) (opened-found is calls st (act.Pfor x lo hi target c) e h) in
+        let second = and_parts (every_in is hi) (every_in_target is target && call) first.1 in
+        let third = and_parts (every_in_target is target) call second.1 in
+        (first.0, (second.0, (third.0, and_parts (calls c.name) (every_in_all is c.args) third.1)))
 
     -- a spawn
-    pub every-spawn : (c : CallText) → out-Act (out-Stmt st).act ≡ act.Spawn c → EveryInSpawn is None c
-    every-spawn c e = record { target = refl; args = in_spawn c e }
+    pub every-spawn : (c : CallText) → out-Act (out-Stmt st).act ≡ act.Spawn c → EveryInSpawn is calls None c
+    every-spawn c e = let call = in_spawn c e in record { target = refl; called = call.0; args = call.1 }
 
     module _ (x : Name) (r : Right) (at : ℕ) (c : CallText) (same : r ≡ right.Spawn at c) where
-      pub every-let : out-Act (out-Stmt st).act ≡ act.Let x r → EveryInSpawn is (Some x) c
-      every-let e = record { target = (in_let x r e).0; args = in_spawned r at c same (in_let x r e).1 }
+      pub every-let : out-Act (out-Stmt st).act ≡ act.Let x r → EveryInSpawn is calls (Some x) c
+      every-let e = let call = in_spawned r at c same (in_let x r e).1 in record { target = (in_let x r e).0; called = call.0; args = call.1 }
 
-      pub every-set : out-Act (out-Stmt st).act ≡ act.Set x r → EveryInSpawn is (Some x) c
-      every-set e = record { target = (in_set x r e).0; args = in_spawned r at c same (in_set x r e).1 }
+      pub every-set : out-Act (out-Stmt st).act ≡ act.Set x r → EveryInSpawn is calls (Some x) c
+      every-set e = let call = in_spawned r at c same (in_set x r e).1 in record { target = (in_set x r e).0; called = call.0; args = call.1 }
 
 -- after the step of the statement
-pub paid-finds : (places : List ℕ) (i paid : Running) (n : ℕ) → paid ≡ record i { steps = n } → (st : Stmt) → FindsStatement places i.top.env st → FindsStatement places paid.top.env st
-paid-finds places i paid n same st h = subst (λ (x : Running). FindsStatement places x.top.env st) (sym same) h
+pub paid-finds : (plan : PlanView) (places : List ℕ) (i paid : Running) (n : ℕ) → paid ≡ record i { steps = n } → (st : Stmt) → FindsStatement plan places i.top.env st → FindsStatement plan places paid.top.env st
+paid-finds plan places i paid n same st h = subst (λ (x : Running). FindsStatement plan places x.top.env st) (sym same) h

@@ -31,8 +31,8 @@ module _ (plan : PlanView) where
             All-cons (IsNamed plan) new.top new.below.items (same-named old.top new.top function names (All-head (IsNamed plan) old.top old.below.items h.each))
             (All-same (IsNamed plan) new.below.items old.below.items below (All-tail (IsNamed plan) old.top old.below.items h.each));
         targets =
-            subst (λ (t : Option Name). TargetsAreNamed t (reverse new.below.items)) (sym target)
-            (subst (λ (frames : List Frame). TargetsAreNamed old.top.target (reverse frames)) (sym below) h.targets);
+            subst (λ (t : Option Name). TargetsAreNamed plan t (reverse new.below.items)) (sym target)
+            (subst (λ (frames : List Frame). TargetsAreNamed plan old.top.target (reverse frames)) (sym below) h.targets);
       }
 
   pub there-named : (old new : Running) → StaysThere old new → KeepsNames plan old new

@@ -7,7 +7,7 @@ use script_grammar::{Expr, Items, Name, NameText};
 use serial_meaning::Value;
 use std::alloc::Global;
 use std::test::Fail;
-use strand_values::{Environment, Halt};
+use strand_values::{Environment, Halt, Target};
 
 /// The names of its variables, each in its place. Some differ in their lengths alone, and some in their last bytes.
 pub(super) static NAMES: [&str; 14] = [
@@ -155,18 +155,16 @@ impl Frame {
         array: Option<&Name>,
         values: &[Value],
     ) -> Result<(), Fail> {
-        if let Some(x) = array {
-            let places = self.places.as_slice();
-            if !finds(alloc, places, &self.names, &Expr::Var(x.copy()))? {
-                return Err(Unknown)?;
-            }
-            if self.environment.item(places, x, 0).is_none() {
-                return Err(Unknown)?;
-            }
-            self.environment.fill(alloc, &self.names, Some(x), values);
-        } else {
-            self.environment.fill(alloc, &self.names, None, values);
+        let places = self.places.as_slice();
+        let Some(x) = array else {
+            self.environment.fill(alloc, places, None, values);
+            return Ok(());
+        };
+        if !finds(alloc, places, &self.names, &Expr::Var(x.copy()))? {
+            return Err(Unknown)?;
         }
+        self.environment
+            .fill(alloc, places, Some(&Target::of(x)), values);
         Ok(())
     }
 

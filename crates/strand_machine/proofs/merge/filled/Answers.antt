@@ -1,25 +1,34 @@
-use Rattle.std.proofs.Common.{Ok, refl}
+use Rattle.std.proofs.Common.{Ok, Option, refl, sym, ap}
+use Rattle.script_grammar.specs.declared.tree.Name.{Name}
+use Rattle.strand_meaning.specs.Machine.{Looped}
+use Rattle.strand_machine.specs.Tasks.{stage_of}
 use Rattle.strand_machine.proofs.TakenAnswers.Taking.{goes-of, loop-of, loops-goes, loops-loop, loops-sync, sync-of}
-use Rattle.strand_machine.proofs.TakenAnswers.Targets.{goes-there, loop-there, sync-there}
+use Rattle.strand_machine.proofs.TakenAnswers.Targets.{found-at, goes-found, loop-found, sync-found}
 use Rattle.strand_machine.proofs.merge.filled.Goals as goal
 
 pub take_values-requires-clause-sound : goal.take_values-requires-clause-sound
 take_values-requires-clause-sound c = goes-of c.args.plan.now c.args.stage.now _ c.requires.stands c.in-Running.is
 
-pub take_values-requires-clause-there : goal.take_values-requires-clause-there
-take_values-requires-clause-there c = goes-there c.args.plan.now c.args.stage.now _ c.args.target.now _ c.as_ref-into.ensures.value c.requires.target c.in-Running.is
+pub take_values-requires-clause-found : goal.take_values-requires-clause-found
+take_values-requires-clause-found c =
+    let at = ap (λ (t : Option Name). Looped t) (sym c.as_ref-into.ensures.value) in
+    goes-found c.args.plan.now c.args.stage.now _ (Looped _) (found-at c.args.plan.now (Looped c.args.target.now) (Looped _) (stage_of c.args.plan.now c.args.stage.now) at c.requires.found) c.in-Running.is
 
 pub take_values-requires-in-AtSync-clause-sound : goal.take_values-requires-in-AtSync-clause-sound
 take_values-requires-in-AtSync-clause-sound c = sync-of c.args.plan.now c.args.stage.now _ c.requires.stands c.in-AtSync.is
 
-pub take_values-requires-in-AtSync-clause-there : goal.take_values-requires-in-AtSync-clause-there
-take_values-requires-in-AtSync-clause-there c = sync-there c.args.plan.now c.args.stage.now _ c.args.target.now _ c.as_ref-into.ensures.value c.requires.target c.in-AtSync.is
+pub take_values-requires-in-AtSync-clause-found : goal.take_values-requires-in-AtSync-clause-found
+take_values-requires-in-AtSync-clause-found c =
+    let at = ap (λ (t : Option Name). Looped t) (sym c.as_ref-into.ensures.value) in
+    sync-found c.args.plan.now c.args.stage.now _ (Looped _) (found-at c.args.plan.now (Looped c.args.target.now) (Looped _) (stage_of c.args.plan.now c.args.stage.now) at c.requires.found) c.in-AtSync.is
 
 pub take_values-requires-in-AtLoop-clause-sound : goal.take_values-requires-in-AtLoop-clause-sound
 take_values-requires-in-AtLoop-clause-sound c = loop-of c.args.plan.now c.args.stage.now _ c.requires.stands c.in-AtLoop.is
 
-pub take_values-requires-in-AtLoop-clause-there : goal.take_values-requires-in-AtLoop-clause-there
-take_values-requires-in-AtLoop-clause-there c = loop-there c.args.plan.now c.args.stage.now _ c.args.target.now _ c.as_ref-into.ensures.value c.requires.target c.in-AtLoop.is
+pub take_values-requires-in-AtLoop-clause-found : goal.take_values-requires-in-AtLoop-clause-found
+take_values-requires-in-AtLoop-clause-found c =
+    let at = ap (λ (t : Option Name). Looped t) (sym c.as_ref-into.ensures.value) in
+    loop-found c.args.plan.now c.args.stage.now _ (Looped _) (found-at c.args.plan.now (Looped c.args.target.now) (Looped _) (stage_of c.args.plan.now c.args.stage.now) at c.requires.found) c.in-AtLoop.is
 
 pub returns-in-Running : goal.returns-in-Running
 returns-in-Running c =

@@ -4,7 +4,7 @@ use Rattle.std.specs.Prelude.{OnOk}
 use Rattle.serial_meaning.specs.Answer.{AnswerView}
 use Rattle.serial_meaning.specs.Plan.{PlanView}
 use Rattle.strand_meaning.specs.Trace.{AwaitedChild}
-use Rattle.strand_machine.specs.Merge.{HasTarget, TakesAnswers, Works, ending_of, merge_of}
+use Rattle.strand_machine.specs.Merge.{TakesAnswers, WorkFinds, Works, ending_of, merge_of}
 use Rattle.strand_machine.specs.Parts.{awaited_child, destination_of}
 use Rattle.strand_machine.specs.Tasks.{work_of}
 use Rattle.strand_machine.specs.declared.body.Body.{Body}
@@ -16,8 +16,8 @@ use Rattle.strand_machine.proofs.merge.merge_answer.Goals as goal
 pub merge_value-requires-clause-works : goal.merge_value-requires-clause-works
 merge_value-requires-clause-works c = subst (λ (p : PlanView). Works p c.args.parts.now.work) (sym c.plan.ensures) c.requires.works
 
-pub merge_value-requires-clause-target : goal.merge_value-requires-clause-target
-merge_value-requires-clause-target c = subst (λ (p : PlanView). HasTarget (destination_of c.args.after.place) (work_of p c.args.parts.now.work)) (sym c.plan.ensures) c.requires.target
+pub merge_value-requires-clause-found : goal.merge_value-requires-clause-found
+merge_value-requires-clause-found c = subst (λ (p : PlanView). WorkFinds p (destination_of c.args.after.place) (work_of p c.args.parts.now.work)) (sym c.plan.ensures) c.requires.found
 
 pub returns-in-Ok-clause-takes : goal.returns-in-Ok-clause-takes
 returns-in-Ok-clause-takes c =

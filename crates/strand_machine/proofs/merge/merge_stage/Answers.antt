@@ -3,11 +3,14 @@ use Rattle.strand_machine.specs.Merge.{ending_of}
 use Rattle.strand_machine.specs.Parts.{destination_of}
 use Rattle.strand_machine.proofs.TakenAnswers.Taking.{on-ok, placed, stage-stays}
 use Rattle.strand_machine.specs.Tasks.{stage_of}
-use Rattle.strand_machine.proofs.TakenAnswers.Targets.{at-looped}
+use Rattle.strand_machine.proofs.TakenAnswers.Targets.{found-at}
 use Rattle.strand_machine.proofs.merge.merge_stage.Goals as goal
 
-pub looped-requires-clause-target : goal.looped-requires-clause-target
-looped-requires-clause-target c = at-looped c.args.place _ (stage_of c.args.plan.now c.args.stage.now) (ap destination_of c.in-Looped.is) c.requires.target
+pub spawned-requires-clause-found : goal.spawned-requires-clause-found
+spawned-requires-clause-found c = found-at c.args.plan.now _ _ (stage_of c.args.plan.now c.args.stage.now) (ap destination_of c.in-Spawned.is) c.requires.found
+
+pub looped-requires-clause-found : goal.looped-requires-clause-found
+looped-requires-clause-found c = found-at c.args.plan.now _ _ (stage_of c.args.plan.now c.args.stage.now) (ap destination_of c.in-Looped.is) c.requires.found
 
 pub returns-in-Spawned : goal.returns-in-Spawned
 returns-in-Spawned c = placed c.args.place _ (ending_of c.args.outcome) _ _ (ap destination_of c.in-Spawned.is) c.spawned.ensures

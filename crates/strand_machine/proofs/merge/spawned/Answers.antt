@@ -3,16 +3,26 @@ use Rattle.strand_meaning.specs.Machine.{Spawned}
 use Rattle.strand_meaning.specs.Task.{takes, changed, answered}
 use Rattle.strand_machine.specs.Merge.{ending_of}
 use Rattle.strand_machine.proofs.TakenAnswers.Taking.{at-goes, at-sync, at-loop, goes-of, loop-of, sync-of}
+use Rattle.strand_machine.proofs.TakenAnswers.Targets.{goes-found, loop-found, sync-found}
 use Rattle.strand_machine.proofs.merge.spawned.Goals as goal
 
-pub merge_spawned-requires : goal.merge_spawned-requires
-merge_spawned-requires c = goes-of c.args.plan.now c.args.stage.now _ c.requires c.in-Running.is
+pub merge_spawned-requires-clause-sound : goal.merge_spawned-requires-clause-sound
+merge_spawned-requires-clause-sound c = goes-of c.args.plan.now c.args.stage.now _ c.requires.stands c.in-Running.is
 
-pub merge_spawned-requires-in-AtSync : goal.merge_spawned-requires-in-AtSync
-merge_spawned-requires-in-AtSync c = sync-of c.args.plan.now c.args.stage.now _ c.requires c.in-AtSync.is
+pub merge_spawned-requires-clause-found : goal.merge_spawned-requires-clause-found
+merge_spawned-requires-clause-found c = goes-found c.args.plan.now c.args.stage.now _ (Spawned c.args.height c.args.target.now) c.requires.found c.in-Running.is
 
-pub merge_spawned-requires-in-AtLoop : goal.merge_spawned-requires-in-AtLoop
-merge_spawned-requires-in-AtLoop c = loop-of c.args.plan.now c.args.stage.now _ c.requires c.in-AtLoop.is
+pub merge_spawned-requires-in-AtSync-clause-sound : goal.merge_spawned-requires-in-AtSync-clause-sound
+merge_spawned-requires-in-AtSync-clause-sound c = sync-of c.args.plan.now c.args.stage.now _ c.requires.stands c.in-AtSync.is
+
+pub merge_spawned-requires-in-AtSync-clause-found : goal.merge_spawned-requires-in-AtSync-clause-found
+merge_spawned-requires-in-AtSync-clause-found c = sync-found c.args.plan.now c.args.stage.now _ (Spawned c.args.height c.args.target.now) c.requires.found c.in-AtSync.is
+
+pub merge_spawned-requires-in-AtLoop-clause-sound : goal.merge_spawned-requires-in-AtLoop-clause-sound
+merge_spawned-requires-in-AtLoop-clause-sound c = loop-of c.args.plan.now c.args.stage.now _ c.requires.stands c.in-AtLoop.is
+
+pub merge_spawned-requires-in-AtLoop-clause-found : goal.merge_spawned-requires-in-AtLoop-clause-found
+merge_spawned-requires-in-AtLoop-clause-found c = loop-found c.args.plan.now c.args.stage.now _ (Spawned c.args.height c.args.target.now) c.requires.found c.in-AtLoop.is
 
 pub returns-in-Running : goal.returns-in-Running
 returns-in-Running c =

@@ -1,6 +1,8 @@
-use Rattle.std.proofs.Common.{◌≡◌, List, false, length, sym, ap, ◌∙◌, subst}
-use Rattle.strand_meaning.specs.Sound.{IsSoundWork}
-use Rattle.strand_meaning.specs.Trace.{AwaitedChild, Trace}
+use Rattle.std.proofs.Common.{◌≡◌, ℕ, List, true, false, length, sym, ap, ◌∙◌, subst}
+use Rattle.script_check.specs.Places.{finds_all}
+use Rattle.serial_meaning.specs.Plan.{functions_of}
+use Rattle.strand_meaning.specs.Found.{FindsTargets, IsFoundPlan, functions_left}
+use Rattle.strand_meaning.specs.Trace.{Trace}
 use Rattle.strand_machine.specs.Family.{FamilyView}
 use Rattle.strand_machine.specs.Merge.{EndsShort, IsShort, merge_of, trace_of}
 use Rattle.strand_machine.specs.Parts.{awaited}
@@ -12,7 +14,7 @@ use Rattle.strand_machine.proofs.TakenAnswers.Answering.{length-answer-tags, len
 use Rattle.strand_machine.proofs.TakenAnswers.Cutting.{answers-of, ends-short, kept-body, own-children, short-on, taken-from, takes-whole, went-short, went-whole}
 use Rattle.strand_machine.proofs.Moves.Handed.{awaited_parts}
 use Rattle.strand_machine.proofs.TakenAnswers.Taking.{goes-on-sound, goes-on-view}
-use Rattle.strand_machine.proofs.TakenAnswers.Targets.{work-targets}
+use Rattle.strand_machine.proofs.TakenAnswers.Targets.{all-found}
 use Rattle.strand_machine.proofs.resume.go_on.Goals as goal
 
 pub merge_all-requires-clause-many : goal.merge_all-requires-clause-many
@@ -28,13 +30,15 @@ merge_all-requires-clause-handed c = ap (λ (x : Trace). x.handed) c.take_childr
 pub merge_all-requires-clause-works : goal.merge_all-requires-clause-works
 merge_all-requires-clause-works c = (c.args.parts.now.body.family.origin, c.requires.sound.works)
 
-pub merge_all-requires-clause-targets : goal.merge_all-requires-clause-targets
-merge_all-requires-clause-targets c =
+pub merge_all-requires-clause-found : goal.merge_all-requires-clause-found
+merge_all-requires-clause-found c =
     let b = c.args.parts.now.body in
-    let w = c.args.parts.now.work in
+    let left = work_of b.family.plan c.args.parts.now.work in
     let q = c.take_children-after.ensures.parted in
-    let sound = subst (λ (ps : List AwaitedChild). IsSoundWork b.family.plan b.family.origin ps (work_of b.family.plan w)) (sym (ap (λ (x : Trace). x.handed) q.is)) c.requires.sound.task.work in
-    work-targets b.family.plan q.children c.take_children-after.result.items q.many b.family.origin (work_of b.family.plan w) sound
+    let table = c.places-places.ensures in
+    let found : IsFoundPlan b.family.plan = subst IsFoundPlan c.plan.ensures (subst (λ (places : List ℕ). finds_all places (functions_of c.plan.result.now) ≡ true) table.table table.found) in
+    all-found b.family.plan left q.children c.take_children-after.result.items q.many
+    (subst (FindsTargets b.family.plan (functions_left left)) (sym (ap (λ (x : Trace). x.handed) q.is)) (c.requires.sound.task.found found))
 
 pub cut_short-requires-clause-ends : goal.cut_short-requires-clause-ends
 cut_short-requires-clause-ends c =

@@ -3,12 +3,12 @@ use Rattle.std.proofs.lemmas.List.{reverse-append, reverse-reverse, length-rever
 use Rattle.std.specs.Vec.Iter.{into_iter_items}
 use Rattle.serial_meaning.specs.Answer.{AnswerView}
 use Rattle.strand_machine.specs.Family.{origins}
-use Rattle.strand_machine.specs.Merge.{HasTargets, TakesAnswers, merge_of}
+use Rattle.strand_machine.specs.Merge.{TakesAnswers, WorkFindsAll, merge_of}
 use Rattle.strand_machine.specs.Parts.{awaited_child, awaited_children}
 use Rattle.strand_machine.specs.Stops.{answer_tags}
 use Rattle.strand_machine.specs.Tasks.{work_of}
 use Rattle.strand_machine.specs.declared.trace.AfterChild.{AfterChild}
-use Rattle.strand_machine.proofs.TakenAnswers.Cutting.{answers-next, answers-no-more, keeps-then, targets-then, works-then}
+use Rattle.strand_machine.proofs.TakenAnswers.Cutting.{answers-next, answers-no-more, found-then, keeps-then, works-then}
 use Rattle.strand_machine.proofs.resume.merge_all.Goals as goal
 
 pub loop-part-init : goal.loop-part-init
@@ -24,7 +24,8 @@ loop-part-init c =
           (subst (λ (bs : List AfterChild). TakesAnswers (awaited_children (origins (answer_tags (reverse c.reverse.new.self.items))) bs) (reverse c.reverse.new.self.items) before after) parts h);
       rest = record { body = refl; handed = c.requires.handed };
       works = c.requires.works;
-      targets = subst (λ (bs : List AfterChild). HasTargets bs (work_of c.args.parts.now.body.family.plan c.args.parts.now.work)) (sym parts) c.requires.targets;
+      found =
+          subst (λ (bs : List AfterChild). WorkFindsAll c.args.parts.now.body.family.plan bs (work_of c.args.parts.now.body.family.plan c.args.parts.now.work)) (sym parts) c.requires.found;
     }
 
 pub merge_answer-requires-clause-handed : goal.merge_answer-requires-clause-handed
@@ -33,9 +34,9 @@ merge_answer-requires-clause-handed c = c.loop-part.invariant.rest.handed
 pub merge_answer-requires-clause-works : goal.merge_answer-requires-clause-works
 merge_answer-requires-clause-works c = c.loop-part.invariant.works
 
-pub merge_answer-requires-clause-target : goal.merge_answer-requires-clause-target
-merge_answer-requires-clause-target c =
-    let all = subst (λ (bs : List AfterChild). HasTargets bs (work_of c.loop-part.parts.body.family.plan c.loop-part.parts.work)) c.in-Some.ensures.steps.0 c.loop-part.invariant.targets in
+pub merge_answer-requires-clause-found : goal.merge_answer-requires-clause-found
+merge_answer-requires-clause-found c =
+    let all = subst (λ (bs : List AfterChild). WorkFindsAll c.loop-part.parts.body.family.plan bs (work_of c.loop-part.parts.body.family.plan c.loop-part.parts.work)) c.in-Some.ensures.steps.0 c.loop-part.invariant.found in
     all.0
 
 pub unreachable-requires : goal.unreachable-requires
@@ -51,7 +52,7 @@ loop-part-preserved c =
     let parts = c.in-Some.ensures.steps in
     let shorter = ap length parts.0 in
     let popped : c.loop-part.left.items ≡ c.pop.new.self.items ++ c.in-Some-pop.answer ∷ [] = c.in-Some-pop.ensures.items in
-    let all = subst (λ (bs : List AfterChild). HasTargets bs (work_of c.loop-part.parts.body.family.plan c.loop-part.parts.work)) parts.0 was.targets in
+    let all = subst (λ (bs : List AfterChild). WorkFindsAll c.loop-part.parts.body.family.plan bs (work_of c.loop-part.parts.body.family.plan c.loop-part.parts.work)) parts.0 was.found in
     let front : reverse c.loop-part.left.items ≡ c.in-Some-pop.answer ∷ reverse c.pop.new.self.items = ap reverse popped ∙ reverse-append c.pop.new.self.items (c.in-Some-pop.answer ∷ []) in
     record {
       parts = omega (arith, was.parts, parts.1, shorter);
@@ -59,8 +60,8 @@ loop-part-preserved c =
       takes = λ after h. was.takes after (answers-next _ _ _ _ c.in-Some-pop.answer c.in-Some.part (merge_of c.loop-part.parts c.loop-part.heard) (merge_of c.merge_answer.new.parts c.merge_answer.new.heard) after front parts.0 c.in_ok-merge_answer.ensures.takes h);
       rest = keeps-then _ _ _ was.rest c.in_ok-merge_answer.ensures.rest;
       works = works-then c.loop-part.parts c.merge_answer.new.parts c.loop-part.heard c.merge_answer.new.heard _ _ c.in_ok-merge_answer.ensures.rest c.in_ok-merge_answer.ensures.takes was.works;
-      targets =
-          targets-then c.loop-part.parts c.merge_answer.new.parts c.loop-part.heard c.merge_answer.new.heard (awaited_child c.in-Some-pop.answer.origin c.in-Some.part) c.in-Some-pop.answer _
+      found =
+          found-then c.loop-part.parts c.merge_answer.new.parts c.loop-part.heard c.merge_answer.new.heard (awaited_child c.in-Some-pop.answer.origin c.in-Some.part) c.in-Some-pop.answer _
           c.in_ok-merge_answer.ensures.rest c.in_ok-merge_answer.ensures.takes all.1;
     }
 

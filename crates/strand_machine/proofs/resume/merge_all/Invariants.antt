@@ -1,7 +1,7 @@
 use Rattle.std.proofs.Common.{◌≡◌, length, reverse}
 use Rattle.std.specs.Vec.Iter.{into_iter_items, into_iter_len}
 use Rattle.strand_machine.specs.Family.{origins}
-use Rattle.strand_machine.specs.Merge.{HasTargets, KeepsRest, Merge, TakesAnswers, Works, merge_of}
+use Rattle.strand_machine.specs.Merge.{KeepsRest, Merge, TakesAnswers, WorkFindsAll, Works, merge_of}
 use Rattle.strand_machine.specs.Parts.{awaited_children}
 use Rattle.strand_machine.specs.Stops.{answer_tags}
 use Rattle.strand_machine.specs.Tasks.{work_of}
@@ -19,5 +19,5 @@ invariant-loop-part l =
           TakesAnswers (awaited_children (origins all) l.fn.after.items) l.fn.answers (merge_of l.initial.parts l.initial.heard) after;
       rest : KeepsRest l.initial.parts l.parts;
       works : Works l.parts.body.family.plan l.parts.work;
-      targets : HasTargets (into_iter_items l.part-iterator) (work_of l.parts.body.family.plan l.parts.work);
+      found : WorkFindsAll l.parts.body.family.plan (into_iter_items l.part-iterator) (work_of l.parts.body.family.plan l.parts.work);
     }

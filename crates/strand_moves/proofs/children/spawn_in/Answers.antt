@@ -25,20 +25,20 @@ returns-in-Spawn-r-2-clause-does c =
     does-set st x r c.in-Spawn-r-2.field-0 c.in-Spawn-r-2.c c.in-Spawn-r-2.is (act-is (act.Set x r) st.act (variant.Set x r) c.in-Set.is (variant.rolls-Set x r))
 
 pub returns-in-Spawn-clause-every : goal.returns-in-Spawn-clause-every
-returns-in-Spawn-clause-every c = λ is h.
+returns-in-Spawn-clause-every c = λ is calls h.
     let st = c.args.statement.now in
-    every-spawn is st h c.in-Spawn.c (act-is (act.Spawn c.in-Spawn.c) st.act (variant.Spawn c.in-Spawn.c) c.in-Spawn.is (variant.rolls-Spawn c.in-Spawn.c))
+    every-spawn is calls st h c.in-Spawn.c (act-is (act.Spawn c.in-Spawn.c) st.act (variant.Spawn c.in-Spawn.c) c.in-Spawn.is (variant.rolls-Spawn c.in-Spawn.c))
 
 pub returns-in-Spawn-r-clause-every : goal.returns-in-Spawn-r-clause-every
-returns-in-Spawn-r-clause-every c = λ is h.
+returns-in-Spawn-r-clause-every c = λ is calls h.
     let st = c.args.statement.now in
     let x = c.in-Let.x in
     let r = c.in-Let.r in
-    every-let is st h x r c.in-Spawn-r.field-0 c.in-Spawn-r.c c.in-Spawn-r.is (act-is (act.Let x r) st.act (variant.Let x r) c.in-Let.is (variant.rolls-Let x r))
+    every-let is calls st h x r c.in-Spawn-r.field-0 c.in-Spawn-r.c c.in-Spawn-r.is (act-is (act.Let x r) st.act (variant.Let x r) c.in-Let.is (variant.rolls-Let x r))
 
 pub returns-in-Spawn-r-2-clause-every : goal.returns-in-Spawn-r-2-clause-every
-returns-in-Spawn-r-2-clause-every c = λ is h.
+returns-in-Spawn-r-2-clause-every c = λ is calls h.
     let st = c.args.statement.now in
     let x = c.in-Set.x in
     let r = c.in-Set.r in
-    every-set is st h x r c.in-Spawn-r-2.field-0 c.in-Spawn-r-2.c c.in-Spawn-r-2.is (act-is (act.Set x r) st.act (variant.Set x r) c.in-Set.is (variant.rolls-Set x r))
+    every-set is calls st h x r c.in-Spawn-r-2.field-0 c.in-Spawn-r-2.c c.in-Spawn-r-2.is (act-is (act.Set x r) st.act (variant.Set x r) c.in-Set.is (variant.rolls-Set x r))

@@ -1,19 +1,16 @@
-use Rattle.std.proofs.Common.{◌≡◌, List, length, Some, None, sym, ap, subst, ◌∙◌}
+use Rattle.std.proofs.Common.{◌≡◌, List, Some, sym, ap, subst, ◌∙◌}
 use Rattle.script_grammar.specs.declared.tree.Function.{Function}
 use Rattle.script_check.specs.Functions.{first_named}
+use Rattle.script_check.specs.Places.{finds_callee}
 use Rattle.serial_meaning.specs.Plan.{PlanView, functions_of}
-use Rattle.serial_meaning.proofs.OriginFaults.Callees.{number_found, number_missing}
+use Rattle.serial_meaning.proofs.OriginFaults.Callees.{number_found}
 use Rattle.serial_meaning.proofs.plan.Plan.callee.Goals as goal
 
-pub returns-in-Some : goal.returns-in-Some
-returns-in-Some c =
-    let fs : c.self.inside.checked.functions ≡ functions_of c.args.self.now = ap (λ (p : PlanView). functions_of p) c.self.view_is in
-    let named = sym c.function_of.ensures.function ∙ c.in-Some.is in
-    sym (number_found (functions_of c.args.self.now) c.args.name.now.bytes c.in-Some.number (subst (λ (l : List Function). first_named l c.args.name.now.bytes ≡ Some c.in-Some.number) fs named))
+pub callee-requires : goal.callee-requires
+callee-requires c = ap (λ (p : PlanView). finds_callee (functions_of p) c.args.name.now) c.self.view_is ∙ c.requires
 
-pub returns-in-None : goal.returns-in-None
-returns-in-None c =
+pub returns : goal.returns
+returns c =
     let fs : c.self.inside.checked.functions ≡ functions_of c.args.self.now = ap (λ (p : PlanView). functions_of p) c.self.view_is in
-    let named = sym c.function_of.ensures.function ∙ c.in-None.is in
-    ap (λ (l : List Function). length l) c.functions.ensures.functions
-    ∙ sym (number_missing (functions_of c.args.self.now) c.args.name.now.bytes (subst (λ (l : List Function). first_named l c.args.name.now.bytes ≡ None) fs named))
+    sym (number_found (functions_of c.args.self.now) c.args.name.now.bytes c.callee.result
+    (subst (λ (l : List Function). first_named l c.args.name.now.bytes ≡ Some c.callee.result) fs (sym c.callee.ensures)))

@@ -40,10 +40,10 @@ returns-in-None-clause-moves c =
     (end-moves plan i (option_copied c.args.next) is none) c.end_block.ensures.shows
 
 pub statement-requires-clause-places : goal.statement-requires-clause-places
-statement-requires-clause-places c = c.places.ensures
+statement-requires-clause-places c = record { table = c.places.ensures.table; found = c.places.ensures.found }
 
 pub statement-requires-clause-finds : goal.statement-requires-clause-finds
 statement-requires-clause-finds c =
     let i = c.args.self.now in
     let has = subst (λ (n : Option Stmt). HasPassedStatement c.args.plan.now i n) (ap option_copied c.in-Some.is) c.requires.passed in
-    next-found c.args.plan.now c.places.result.now i c.places.ensures c.requires.sound.named c.in-Some.statement.now has.1
+    next-found c.args.plan.now c.places.result.now i (record { table = c.places.ensures.table; found = c.places.ensures.found }) c.requires.sound.named c.in-Some.statement.now has.1

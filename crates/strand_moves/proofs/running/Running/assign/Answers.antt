@@ -1,4 +1,5 @@
-use Rattle.script_check.specs.Places.{has_place}
+use Rattle.script_check.specs.Places.{finds_callee, has_place}
+use Rattle.serial_meaning.specs.Plan.{functions_of}
 use Rattle.strand_moves.specs.Running.{machine_of, present_of}
 use Rattle.strand_moves.proofs.Statements.FoundParts.{in_called, in_spawned, in_value}
 use Rattle.strand_moves.proofs.Statements.Paying.{call-at, spawn-at}
@@ -47,10 +48,13 @@ pub returns-in-Spawn-clause-child : goal.returns-in-Spawn-clause-child
 returns-in-Spawn-clause-child c = handed-child c.args.plan.now c.spawn.result c.handed.result c.handed.ensures c.spawn.ensures.child
 
 pub set_value-requires-clause-value : goal.set_value-requires-clause-value
-set_value-requires-clause-value c = in_value (has_place c.args.places.now c.args.self.now.top.env.names) c.args.r.now c.in-Value.e c.in-Value.is c.requires.right
+set_value-requires-clause-value c = in_value (has_place c.args.places.now c.args.self.now.top.env.names) (finds_callee (functions_of c.args.plan.now)) c.args.r.now c.in-Value.e c.in-Value.is c.requires.right
+
+pub call-requires-clause-called : goal.call-requires-clause-called
+call-requires-clause-called c = (in_called (has_place c.args.places.now c.args.self.now.top.env.names) (finds_callee (functions_of c.args.plan.now)) c.args.r.now c.in-Call.field-0 c.in-Call.c c.in-Call.is c.requires.right).0
 
 pub call-requires-clause-args : goal.call-requires-clause-args
-call-requires-clause-args c = in_called (has_place c.args.places.now c.args.self.now.top.env.names) c.args.r.now c.in-Call.field-0 c.in-Call.c c.in-Call.is c.requires.right
+call-requires-clause-args c = (in_called (has_place c.args.places.now c.args.self.now.top.env.names) (finds_callee (functions_of c.args.plan.now)) c.args.r.now c.in-Call.field-0 c.in-Call.c c.in-Call.is c.requires.right).1
 
 pub call-requires-clause-target : goal.call-requires-clause-target
 call-requires-clause-target c = c.requires.name
@@ -72,7 +76,5 @@ returns-in-Spawn-clause-named c = c.spawn.ensures.named c.args.plan.now
 
 pub spawn-requires-clause-finds : goal.spawn-requires-clause-finds
 spawn-requires-clause-finds c =
-    record {
-      target = c.requires.name;
-      args = in_spawned (has_place c.args.places.now c.args.self.now.top.env.names) c.args.r.now c.in-Spawn.field-0 c.in-Spawn.c c.in-Spawn.is c.requires.right;
-    }
+    let call = in_spawned (has_place c.args.places.now c.args.self.now.top.env.names) (finds_callee (functions_of c.args.plan.now)) c.args.r.now c.in-Spawn.field-0 c.in-Spawn.c c.in-Spawn.is c.requires.right in
+    record { target = c.requires.name; called = call.0; args = call.1 }

@@ -1,10 +1,11 @@
-use Rattle.script_check.specs.Places.{has_place}
+use Rattle.script_check.specs.Places.{finds_callee, has_place}
 use Rattle.std.proofs.Common.{ap, ◌∙◌, refl}
 use Rattle.script_grammar.specs.declared.tree.Act.{Act, out-Act}
 use Rattle.script_grammar.specs.declared.tree.Act.TheOpen as act
 use Rattle.script_grammar.specs.declared.tree.Act.TheOpen.{Act-F}
 use Rattle.script_grammar.specs.declared.tree.Act.TheVariants as variant
 use Rattle.script_grammar.specs.declared.tree.Stmt.{Stmt, out-Stmt}
+use Rattle.serial_meaning.specs.Plan.{functions_of}
 use Rattle.strand_moves.specs.Running.{machine_of, present_of}
 use Rattle.strand_moves.specs.Moves.{acted}
 use Rattle.strand_moves.proofs.Statements.Equations.{let-is-set}
@@ -45,31 +46,37 @@ pub calling_right-requires-clause-name : goal.calling_right-requires-clause-name
 calling_right-requires-clause-name c =
     let st = c.args.statement.now in
     let is = act-is (act.Let c.in-Let.x c.in-Let.r) st.act (variant.Let c.in-Let.x c.in-Let.r) c.in-Let.is (variant.rolls-Let c.in-Let.x c.in-Let.r) in
-    (in_let (has_place c.args.places.now c.args.self.now.top.env.names) st c.requires.finds c.in-Let.x c.in-Let.r is).0
+    (in_let (has_place c.args.places.now c.args.self.now.top.env.names) (finds_callee (functions_of c.args.plan.now)) st c.requires.finds c.in-Let.x c.in-Let.r is).0
 
 pub calling_right-requires-clause-right : goal.calling_right-requires-clause-right
 calling_right-requires-clause-right c =
     let st = c.args.statement.now in
     let is = act-is (act.Let c.in-Let.x c.in-Let.r) st.act (variant.Let c.in-Let.x c.in-Let.r) c.in-Let.is (variant.rolls-Let c.in-Let.x c.in-Let.r) in
-    (in_let (has_place c.args.places.now c.args.self.now.top.env.names) st c.requires.finds c.in-Let.x c.in-Let.r is).1
+    (in_let (has_place c.args.places.now c.args.self.now.top.env.names) (finds_callee (functions_of c.args.plan.now)) st c.requires.finds c.in-Let.x c.in-Let.r is).1
 
 pub calling_right-requires-in-Set-clause-name : goal.calling_right-requires-in-Set-clause-name
 calling_right-requires-in-Set-clause-name c =
     let st = c.args.statement.now in
     let is = act-is (act.Set c.in-Set.x c.in-Set.r) st.act (variant.Set c.in-Set.x c.in-Set.r) c.in-Set.is (variant.rolls-Set c.in-Set.x c.in-Set.r) in
-    (in_set (has_place c.args.places.now c.args.self.now.top.env.names) st c.requires.finds c.in-Set.x c.in-Set.r is).0
+    (in_set (has_place c.args.places.now c.args.self.now.top.env.names) (finds_callee (functions_of c.args.plan.now)) st c.requires.finds c.in-Set.x c.in-Set.r is).0
 
 pub calling_right-requires-in-Set-clause-right : goal.calling_right-requires-in-Set-clause-right
 calling_right-requires-in-Set-clause-right c =
     let st = c.args.statement.now in
     let is = act-is (act.Set c.in-Set.x c.in-Set.r) st.act (variant.Set c.in-Set.x c.in-Set.r) c.in-Set.is (variant.rolls-Set c.in-Set.x c.in-Set.r) in
-    (in_set (has_place c.args.places.now c.args.self.now.top.env.names) st c.requires.finds c.in-Set.x c.in-Set.r is).1
+    (in_set (has_place c.args.places.now c.args.self.now.top.env.names) (finds_callee (functions_of c.args.plan.now)) st c.requires.finds c.in-Set.x c.in-Set.r is).1
+
+pub call-requires-clause-called : goal.call-requires-clause-called
+call-requires-clause-called c =
+    let st = c.args.statement.now in
+    let is = act-is (act.Call c.in-Call.c) st.act (variant.Call c.in-Call.c) c.in-Call.is (variant.rolls-Call c.in-Call.c) in
+    (in_call (has_place c.args.places.now c.args.self.now.top.env.names) (finds_callee (functions_of c.args.plan.now)) st c.requires.finds c.in-Call.c is).0
 
 pub call-requires-clause-args : goal.call-requires-clause-args
 call-requires-clause-args c =
     let st = c.args.statement.now in
     let is = act-is (act.Call c.in-Call.c) st.act (variant.Call c.in-Call.c) c.in-Call.is (variant.rolls-Call c.in-Call.c) in
-    in_call (has_place c.args.places.now c.args.self.now.top.env.names) st c.requires.finds c.in-Call.c is
+    (in_call (has_place c.args.places.now c.args.self.now.top.env.names) (finds_callee (functions_of c.args.plan.now)) st c.requires.finds c.in-Call.c is).1
 
 pub call-requires-clause-target : goal.call-requires-clause-target
 call-requires-clause-target c = refl

@@ -93,7 +93,7 @@ returns-clause-named c =
       of_plan = ap (λ (n : ℕ). function_at (functions_of plan) n) top.function ∙ c.requires.there;
       names = ap (λ (e : EnvironmentView). e.names) (top.env ∙ known.1.1) ∙ own-names plan c.args.number f c.requires.there names c.in-Some.ensures;
     })
-    (subst (IsNamedIn i.top) (sym top.target) (target-named c.args.places.now i.top (option_copied c.args.target) c.requires.target))
+    (subst (IsNamedIn plan i.top) (sym top.target) (target-named plan c.args.places.now i.top (option_copied c.args.target) c.requires.places c.requires.target))
 
 pub returns-in_err-open-clause-named : goal.returns-in_err-open-clause-named
 returns-in_err-open-clause-named c = there-named c.args.plan.now c.args.self.now c.open.new.self c.in_err-open.ensures.err

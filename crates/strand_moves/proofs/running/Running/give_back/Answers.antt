@@ -1,4 +1,4 @@
-use Rattle.std.proofs.Common.{true, length, refl, sym, ap, subst, ◌∙◌, arith, length-append, ◌∷◌, []}
+use Rattle.std.proofs.Common.{true, length, refl, sym, ap, ◌∙◌, arith, length-append, ◌∷◌, []}
 use Rattle.std.proofs.lemmas.List.{nil_from_length}
 use Rattle.strand_moves.specs.declared.running.Running.{Running}
 use Rattle.serial_meaning.specs.Functions.{function_at}
@@ -6,11 +6,11 @@ use Rattle.serial_meaning.specs.Plan.{functions_of}
 use Rattle.strand_meaning.specs.Machine.{return_move, with_scalar}
 use Rattle.strand_values.specs.Environments.{with_variables}
 use Rattle.strand_moves.specs.Acts.{result_of}
-use Rattle.strand_moves.specs.Running.{IsNamed, machine_of, path_of, present_of}
+use Rattle.strand_moves.specs.Running.{machine_of, path_of, present_of}
 use Rattle.strand_moves.specs.Moves.{present_pedigree}
 use Rattle.strand_moves.specs.Quick.{quiet}
 use Rattle.strand_moves.proofs.Frames.Ending.{ended-stays, value-fault, value-received}
-use Rattle.strand_moves.proofs.Frames.Names.{caller-named, innermost-named, named-ended, value-named}
+use Rattle.strand_moves.proofs.Frames.Names.{innermost-named, named-ended, value-named}
 use Rattle.strand_moves.proofs.OpenScopes.Exits.{quiet-exit}
 use Rattle.strand_moves.proofs.OpenScopes.Keeping.{stands-same}
 use Rattle.strand_moves.proofs.running.Running.give_back.Goals as goal
@@ -21,15 +21,10 @@ unreachable-requires c = c.requires.below (nil_from_length c.args.self.now.below
 pub result-requires : goal.result-requires
 result-requires c = innermost-named c.args.plan.now c.args.self.now c.requires.named
 
-pub receive-requires-clause-named : goal.receive-requires-clause-named
-receive-requires-clause-named c =
-    let plan = c.args.plan.now in
-    subst (IsNamed plan) (sym c.replace-callee.ensures.after) (caller-named plan c.args.self.now c.requires.named c.pop.new.self.items c.in-Some.caller c.in-Some.ensures.items)
-
-pub receive-requires-clause-target : goal.receive-requires-clause-target
-receive-requires-clause-target c =
+pub receive-requires : goal.receive-requires
+receive-requires c =
     let target = value-named c.args.plan.now c.args.self.now c.requires.named c.pop.new.self.items c.in-Some.caller c.in-Some.ensures.items in
-    rw (c.as_ref.ensures.value, c.replace-callee.ensures.value, c.replace-callee.ensures.after) target
+    rw (c.places.ensures.table, c.as_ref.ensures.value, c.replace-callee.ensures.value, c.replace-callee.ensures.after) target
 
 pub returns-clause-shows : goal.returns-clause-shows
 returns-clause-shows c =

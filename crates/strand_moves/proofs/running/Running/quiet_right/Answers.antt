@@ -23,10 +23,10 @@ returns-in-None-clause-did c = λ st.
     (done-is st (act.Set c.args.x.now (right.Value c.in-Value.e)) c.args.self.now c.set_value.new.self c.set_value.result c.went.result (λ plan. c.set_value.ensures.shows plan st) c.set_value.ensures.same c.went.ensures)
 
 pub plain-requires : goal.plain-requires
-plain-requires c = in_value (has_place c.args.places.now c.args.self.now.top.env.names) c.args.r.now c.in-Value.e c.in-Value.is c.requires.right
+plain-requires c = in_value (has_place c.args.places.now c.args.self.now.top.env.names) c.requires.right.0 c.args.r.now c.in-Value.e c.in-Value.is c.requires.right.1
 
 pub set_value-requires-clause-value : goal.set_value-requires-clause-value
-set_value-requires-clause-value c = in_value (has_place c.args.places.now c.args.self.now.top.env.names) c.args.r.now c.in-Value.e c.in-Value.is c.requires.right
+set_value-requires-clause-value c = in_value (has_place c.args.places.now c.args.self.now.top.env.names) c.requires.right.0 c.args.r.now c.in-Value.e c.in-Value.is c.requires.right.1
 
 pub returns-in-Some-clause-there : goal.returns-in-Some-clause-there
 returns-in-Some-clause-there c =

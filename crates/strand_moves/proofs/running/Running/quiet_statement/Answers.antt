@@ -80,61 +80,61 @@ pub quiet_right-requires-clause-name : goal.quiet_right-requires-clause-name
 quiet_right-requires-clause-name c =
     let st = c.args.statement.now in
     let is = act-is (act.Let c.in-Let.x c.in-Let.r) st.act (variant.Let c.in-Let.x c.in-Let.r) c.in-Let.is (variant.rolls-Let c.in-Let.x c.in-Let.r) in
-    (in_let (has_place c.args.places.now c.args.self.now.top.env.names) st c.requires c.in-Let.x c.in-Let.r is).0
+    (in_let (has_place c.args.places.now c.args.self.now.top.env.names) c.requires.0 st c.requires.1 c.in-Let.x c.in-Let.r is).0
 
 pub quiet_right-requires-clause-right : goal.quiet_right-requires-clause-right
 quiet_right-requires-clause-right c =
     let st = c.args.statement.now in
     let is = act-is (act.Let c.in-Let.x c.in-Let.r) st.act (variant.Let c.in-Let.x c.in-Let.r) c.in-Let.is (variant.rolls-Let c.in-Let.x c.in-Let.r) in
-    (in_let (has_place c.args.places.now c.args.self.now.top.env.names) st c.requires c.in-Let.x c.in-Let.r is).1
+    (c.requires.0, (in_let (has_place c.args.places.now c.args.self.now.top.env.names) c.requires.0 st c.requires.1 c.in-Let.x c.in-Let.r is).1)
 
 pub quiet_right-requires-in-Set-clause-name : goal.quiet_right-requires-in-Set-clause-name
 quiet_right-requires-in-Set-clause-name c =
     let st = c.args.statement.now in
     let is = act-is (act.Set c.in-Set.x c.in-Set.r) st.act (variant.Set c.in-Set.x c.in-Set.r) c.in-Set.is (variant.rolls-Set c.in-Set.x c.in-Set.r) in
-    (in_set (has_place c.args.places.now c.args.self.now.top.env.names) st c.requires c.in-Set.x c.in-Set.r is).0
+    (in_set (has_place c.args.places.now c.args.self.now.top.env.names) c.requires.0 st c.requires.1 c.in-Set.x c.in-Set.r is).0
 
 pub quiet_right-requires-in-Set-clause-right : goal.quiet_right-requires-in-Set-clause-right
 quiet_right-requires-in-Set-clause-right c =
     let st = c.args.statement.now in
     let is = act-is (act.Set c.in-Set.x c.in-Set.r) st.act (variant.Set c.in-Set.x c.in-Set.r) c.in-Set.is (variant.rolls-Set c.in-Set.x c.in-Set.r) in
-    (in_set (has_place c.args.places.now c.args.self.now.top.env.names) st c.requires c.in-Set.x c.in-Set.r is).1
+    (c.requires.0, (in_set (has_place c.args.places.now c.args.self.now.top.env.names) c.requires.0 st c.requires.1 c.in-Set.x c.in-Set.r is).1)
 
 pub array-requires : goal.array-requires
 array-requires c =
     let st = c.args.statement.now in
     let is = act-is (act.Array c.in-Array.x c.in-Array.n) st.act (variant.Array c.in-Array.x c.in-Array.n) c.in-Array.is (variant.rolls-Array c.in-Array.x c.in-Array.n) in
-    in_array (has_place c.args.places.now c.args.self.now.top.env.names) st c.requires c.in-Array.x c.in-Array.n is
+    in_array (has_place c.args.places.now c.args.self.now.top.env.names) c.requires.0 st c.requires.1 c.in-Array.x c.in-Array.n is
 
 pub store-requires-clause-name : goal.store-requires-clause-name
 store-requires-clause-name c =
     let st = c.args.statement.now in
     let is = act-is (act.Store c.in-Store.x c.in-Store.i c.in-Store.e) st.act (variant.Store c.in-Store.x c.in-Store.i c.in-Store.e) c.in-Store.is (variant.rolls-Store c.in-Store.x c.in-Store.i c.in-Store.e) in
-    (in_store (has_place c.args.places.now c.args.self.now.top.env.names) st c.requires c.in-Store.x c.in-Store.i c.in-Store.e is).0
+    (in_store (has_place c.args.places.now c.args.self.now.top.env.names) c.requires.0 st c.requires.1 c.in-Store.x c.in-Store.i c.in-Store.e is).0
 
 pub store-requires-clause-index : goal.store-requires-clause-index
 store-requires-clause-index c =
     let st = c.args.statement.now in
     let is = act-is (act.Store c.in-Store.x c.in-Store.i c.in-Store.e) st.act (variant.Store c.in-Store.x c.in-Store.i c.in-Store.e) c.in-Store.is (variant.rolls-Store c.in-Store.x c.in-Store.i c.in-Store.e) in
-    (in_store (has_place c.args.places.now c.args.self.now.top.env.names) st c.requires c.in-Store.x c.in-Store.i c.in-Store.e is).1.0
+    (in_store (has_place c.args.places.now c.args.self.now.top.env.names) c.requires.0 st c.requires.1 c.in-Store.x c.in-Store.i c.in-Store.e is).1.0
 
 pub store-requires-clause-value : goal.store-requires-clause-value
 store-requires-clause-value c =
     let st = c.args.statement.now in
     let is = act-is (act.Store c.in-Store.x c.in-Store.i c.in-Store.e) st.act (variant.Store c.in-Store.x c.in-Store.i c.in-Store.e) c.in-Store.is (variant.rolls-Store c.in-Store.x c.in-Store.i c.in-Store.e) in
-    (in_store (has_place c.args.places.now c.args.self.now.top.env.names) st c.requires c.in-Store.x c.in-Store.i c.in-Store.e is).1.1
+    (in_store (has_place c.args.places.now c.args.self.now.top.env.names) c.requires.0 st c.requires.1 c.in-Store.x c.in-Store.i c.in-Store.e is).1.1
 
 pub branch-self-requires : goal.branch-self-requires
 branch-self-requires c =
     let st = c.args.statement.now in
     let is = act-is (act.If c.in-If.e c.in-If.field-1 c.in-If.field-2) st.act (variant.If c.in-If.e c.in-If.field-1 c.in-If.field-2) c.in-If.is (variant.rolls-If c.in-If.e c.in-If.field-1 c.in-If.field-2) in
-    in_if (has_place c.args.places.now c.args.self.now.top.env.names) st c.requires c.in-If.e c.in-If.field-1 c.in-If.field-2 is
+    in_if (has_place c.args.places.now c.args.self.now.top.env.names) c.requires.0 st c.requires.1 c.in-If.e c.in-If.field-1 c.in-If.field-2 is
 
 pub while_test-requires : goal.while_test-requires
 while_test-requires c =
     let st = c.args.statement.now in
     let is = act-is (act.While c.in-While.e c.in-While.field-1) st.act (variant.While c.in-While.e c.in-While.field-1) c.in-While.is (variant.rolls-While c.in-While.e c.in-While.field-1) in
-    in_while (has_place c.args.places.now c.args.self.now.top.env.names) st c.requires c.in-While.e c.in-While.field-1 is
+    in_while (has_place c.args.places.now c.args.self.now.top.env.names) c.requires.0 st c.requires.1 c.in-While.e c.in-While.field-1 is
 
 pub returns-in-Let-clause-named : goal.returns-in-Let-clause-named
 returns-in-Let-clause-named c = c.quiet_right.ensures.named

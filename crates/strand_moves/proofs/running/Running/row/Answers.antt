@@ -1,4 +1,6 @@
 use Rattle.std.proofs.Common.{◌≡◌, ◌+◌, ◌-◌, List, None, length, refl, sym, ap, subst, ◌∙◌, arith}
+use Rattle.script_check.specs.Places.{finds_callee}
+use Rattle.serial_meaning.specs.Plan.{functions_of}
 use Rattle.strand_moves.specs.declared.cursor.Cursor.{Cursor}
 use Rattle.strand_moves.specs.declared.frame.Frame.{Frame}
 use Rattle.strand_moves.specs.declared.running.Running.{Running}
@@ -196,10 +198,10 @@ quiet_statement-requires g c =
     let i = c.loop-passed.self in
     let passes = rw was.text at c.in-Some.ensures.0 in
     let paid : Running = record i { steps = i.steps - 1; top = record i.top { cursor = c.pass_in.new.self } } in
-    next-found plan c.places-places.result.now paid c.places-places.ensures (top-named plan i paid refl refl refl refl was.sound.named) c.in-Some.passed.0.now passes.after
+    (finds_callee (functions_of plan), next-found plan c.places-places.result.now paid (record { table = c.places-places.ensures.table; found = c.places-places.ensures.found }) (top-named plan i paid refl refl refl refl was.sound.named) c.in-Some.passed.0.now passes.after)
 
 pub other_statement-requires-clause-places : goal.other_statement-requires-clause-places
-other_statement-requires-clause-places g c = c.places-places.ensures
+other_statement-requires-clause-places g c = record { table = c.places-places.ensures.table; found = c.places-places.ensures.found }
 
 pub other_statement-requires-clause-finds : goal.other_statement-requires-clause-finds
 other_statement-requires-clause-finds g c =
@@ -211,5 +213,5 @@ other_statement-requires-clause-finds g c =
     let passes = rw was.text at c.in-Some.ensures.0 in
     let paid : Running = record i { steps = i.steps - 1; top = record i.top { cursor = c.pass_in.new.self } } in
     let left = did-nothing st _ c.quiet_statement.new.self _ c.if-branch.false c.in_ok-quiet_statement.ensures.did in
-    let found = next-found plan places paid c.places-places.ensures (top-named plan i paid refl refl refl refl was.sound.named) st passes.after in
-    subst (λ (x : Running). FindsStatement places x.top.env st) (sym left.0) found
+    let found = next-found plan places paid (record { table = c.places-places.ensures.table; found = c.places-places.ensures.found }) (top-named plan i paid refl refl refl refl was.sound.named) st passes.after in
+    subst (λ (x : Running). FindsStatement plan places x.top.env st) (sym left.0) found

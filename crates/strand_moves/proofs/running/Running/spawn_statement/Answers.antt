@@ -1,6 +1,7 @@
 use Rattle.std.proofs.Common.{◌≡◌, ◌+◌, ◌-◌, ap, arith}
 use Rattle.std.specs.Option.{option_copied}
-use Rattle.script_check.specs.Places.{has_place}
+use Rattle.script_check.specs.Places.{finds_callee, has_place}
+use Rattle.serial_meaning.specs.Plan.{functions_of}
 use Rattle.strand_moves.specs.declared.running.Running.{Running}
 use Rattle.strand_moves.proofs.Cursors.FoundStatements.{next-found}
 use Rattle.strand_moves.proofs.HandedChildren.Spawning.{spawn-did, spawn-kept, spawn-undone}
@@ -42,5 +43,5 @@ pub spawn-requires-clause-finds : goal.spawn-requires-clause-finds
 spawn-requires-clause-finds c =
     let i = c.args.self.now in
     let places = c.places.result.now in
-    let found = next-found c.args.plan.now places i c.places.ensures c.requires.sound.named c.args.statement.now c.requires.passed.1 in
-    c.in-Some.ensures.every (has_place places i.top.env.names) found
+    let found = next-found c.args.plan.now places i (record { table = c.places.ensures.table; found = c.places.ensures.found }) c.requires.sound.named c.args.statement.now c.requires.passed.1 in
+    c.in-Some.ensures.every (has_place places i.top.env.names) (finds_callee (functions_of c.args.plan.now)) found

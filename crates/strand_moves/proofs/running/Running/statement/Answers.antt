@@ -1,8 +1,9 @@
-use Rattle.script_check.specs.Places.{has_place}
+use Rattle.script_check.specs.Places.{finds_callee, has_place}
 use Rattle.std.proofs.Common.{◌∙◌, [], ◌∷◌, ◌++◌, ap, arith, refl, sym}
 use Rattle.script_grammar.specs.declared.tree.Act.TheOpen as act
 use Rattle.serial_meaning.specs.declared.event.FaultKind.{FaultKind}
 use Rattle.script_grammar.specs.declared.tree.Act.TheVariants as variant
+use Rattle.serial_meaning.specs.Plan.{functions_of}
 use Rattle.strand_moves.specs.Running.{machine_of, path_of, present_of}
 use Rattle.strand_moves.specs.Moves.{acted, present_pedigree}
 use Rattle.strand_meaning.specs.Machine.{statement_move}
@@ -214,72 +215,80 @@ assign-requires-clause-name c =
     let p = c.pay.new.self in
     let st = c.args.statement.now in
     let is = act-is (act.Let c.in-Let.x c.in-Let.r) st.act (variant.Let c.in-Let.x c.in-Let.r) c.in-Let.is (variant.rolls-Let c.in-Let.x c.in-Let.r) in
-    let found = paid-finds c.args.places.now c.args.self.now p p.steps c.in_ok-pay.ensures.ok st c.requires.finds in
-    (in_let (has_place c.args.places.now p.top.env.names) st found c.in-Let.x c.in-Let.r is).0
+    let found = paid-finds c.args.plan.now c.args.places.now c.args.self.now p p.steps c.in_ok-pay.ensures.ok st c.requires.finds in
+    (in_let (has_place c.args.places.now p.top.env.names) (finds_callee (functions_of c.args.plan.now)) st found c.in-Let.x c.in-Let.r is).0
 
 pub assign-requires-clause-right : goal.assign-requires-clause-right
 assign-requires-clause-right c =
     let p = c.pay.new.self in
     let st = c.args.statement.now in
     let is = act-is (act.Let c.in-Let.x c.in-Let.r) st.act (variant.Let c.in-Let.x c.in-Let.r) c.in-Let.is (variant.rolls-Let c.in-Let.x c.in-Let.r) in
-    let found = paid-finds c.args.places.now c.args.self.now p p.steps c.in_ok-pay.ensures.ok st c.requires.finds in
-    (in_let (has_place c.args.places.now p.top.env.names) st found c.in-Let.x c.in-Let.r is).1
+    let found = paid-finds c.args.plan.now c.args.places.now c.args.self.now p p.steps c.in_ok-pay.ensures.ok st c.requires.finds in
+    (in_let (has_place c.args.places.now p.top.env.names) (finds_callee (functions_of c.args.plan.now)) st found c.in-Let.x c.in-Let.r is).1
 
 pub assign-requires-in-Set-clause-name : goal.assign-requires-in-Set-clause-name
 assign-requires-in-Set-clause-name c =
     let p = c.pay.new.self in
     let st = c.args.statement.now in
     let is = act-is (act.Set c.in-Set.x c.in-Set.r) st.act (variant.Set c.in-Set.x c.in-Set.r) c.in-Set.is (variant.rolls-Set c.in-Set.x c.in-Set.r) in
-    let found = paid-finds c.args.places.now c.args.self.now p p.steps c.in_ok-pay.ensures.ok st c.requires.finds in
-    (in_set (has_place c.args.places.now p.top.env.names) st found c.in-Set.x c.in-Set.r is).0
+    let found = paid-finds c.args.plan.now c.args.places.now c.args.self.now p p.steps c.in_ok-pay.ensures.ok st c.requires.finds in
+    (in_set (has_place c.args.places.now p.top.env.names) (finds_callee (functions_of c.args.plan.now)) st found c.in-Set.x c.in-Set.r is).0
 
 pub assign-requires-in-Set-clause-right : goal.assign-requires-in-Set-clause-right
 assign-requires-in-Set-clause-right c =
     let p = c.pay.new.self in
     let st = c.args.statement.now in
     let is = act-is (act.Set c.in-Set.x c.in-Set.r) st.act (variant.Set c.in-Set.x c.in-Set.r) c.in-Set.is (variant.rolls-Set c.in-Set.x c.in-Set.r) in
-    let found = paid-finds c.args.places.now c.args.self.now p p.steps c.in_ok-pay.ensures.ok st c.requires.finds in
-    (in_set (has_place c.args.places.now p.top.env.names) st found c.in-Set.x c.in-Set.r is).1
+    let found = paid-finds c.args.plan.now c.args.places.now c.args.self.now p p.steps c.in_ok-pay.ensures.ok st c.requires.finds in
+    (in_set (has_place c.args.places.now p.top.env.names) (finds_callee (functions_of c.args.plan.now)) st found c.in-Set.x c.in-Set.r is).1
 
 pub array-requires : goal.array-requires
 array-requires c =
     let p = c.pay.new.self in
     let st = c.args.statement.now in
     let is = act-is (act.Array c.in-Array.x c.in-Array.n) st.act (variant.Array c.in-Array.x c.in-Array.n) c.in-Array.is (variant.rolls-Array c.in-Array.x c.in-Array.n) in
-    let found = paid-finds c.args.places.now c.args.self.now p p.steps c.in_ok-pay.ensures.ok st c.requires.finds in
-    in_array (has_place c.args.places.now p.top.env.names) st found c.in-Array.x c.in-Array.n is
+    let found = paid-finds c.args.plan.now c.args.places.now c.args.self.now p p.steps c.in_ok-pay.ensures.ok st c.requires.finds in
+    in_array (has_place c.args.places.now p.top.env.names) (finds_callee (functions_of c.args.plan.now)) st found c.in-Array.x c.in-Array.n is
 
 pub store-requires-clause-name : goal.store-requires-clause-name
 store-requires-clause-name c =
     let p = c.pay.new.self in
     let st = c.args.statement.now in
     let is = act-is (act.Store c.in-Store.x c.in-Store.i c.in-Store.e) st.act (variant.Store c.in-Store.x c.in-Store.i c.in-Store.e) c.in-Store.is (variant.rolls-Store c.in-Store.x c.in-Store.i c.in-Store.e) in
-    let found = paid-finds c.args.places.now c.args.self.now p p.steps c.in_ok-pay.ensures.ok st c.requires.finds in
-    (in_store (has_place c.args.places.now p.top.env.names) st found c.in-Store.x c.in-Store.i c.in-Store.e is).0
+    let found = paid-finds c.args.plan.now c.args.places.now c.args.self.now p p.steps c.in_ok-pay.ensures.ok st c.requires.finds in
+    (in_store (has_place c.args.places.now p.top.env.names) (finds_callee (functions_of c.args.plan.now)) st found c.in-Store.x c.in-Store.i c.in-Store.e is).0
 
 pub store-requires-clause-index : goal.store-requires-clause-index
 store-requires-clause-index c =
     let p = c.pay.new.self in
     let st = c.args.statement.now in
     let is = act-is (act.Store c.in-Store.x c.in-Store.i c.in-Store.e) st.act (variant.Store c.in-Store.x c.in-Store.i c.in-Store.e) c.in-Store.is (variant.rolls-Store c.in-Store.x c.in-Store.i c.in-Store.e) in
-    let found = paid-finds c.args.places.now c.args.self.now p p.steps c.in_ok-pay.ensures.ok st c.requires.finds in
-    (in_store (has_place c.args.places.now p.top.env.names) st found c.in-Store.x c.in-Store.i c.in-Store.e is).1.0
+    let found = paid-finds c.args.plan.now c.args.places.now c.args.self.now p p.steps c.in_ok-pay.ensures.ok st c.requires.finds in
+    (in_store (has_place c.args.places.now p.top.env.names) (finds_callee (functions_of c.args.plan.now)) st found c.in-Store.x c.in-Store.i c.in-Store.e is).1.0
 
 pub store-requires-clause-value : goal.store-requires-clause-value
 store-requires-clause-value c =
     let p = c.pay.new.self in
     let st = c.args.statement.now in
     let is = act-is (act.Store c.in-Store.x c.in-Store.i c.in-Store.e) st.act (variant.Store c.in-Store.x c.in-Store.i c.in-Store.e) c.in-Store.is (variant.rolls-Store c.in-Store.x c.in-Store.i c.in-Store.e) in
-    let found = paid-finds c.args.places.now c.args.self.now p p.steps c.in_ok-pay.ensures.ok st c.requires.finds in
-    (in_store (has_place c.args.places.now p.top.env.names) st found c.in-Store.x c.in-Store.i c.in-Store.e is).1.1
+    let found = paid-finds c.args.plan.now c.args.places.now c.args.self.now p p.steps c.in_ok-pay.ensures.ok st c.requires.finds in
+    (in_store (has_place c.args.places.now p.top.env.names) (finds_callee (functions_of c.args.plan.now)) st found c.in-Store.x c.in-Store.i c.in-Store.e is).1.1
+
+pub call-requires-clause-called : goal.call-requires-clause-called
+call-requires-clause-called c =
+    let p = c.pay.new.self in
+    let st = c.args.statement.now in
+    let is = act-is (act.Call c.in-Call.c) st.act (variant.Call c.in-Call.c) c.in-Call.is (variant.rolls-Call c.in-Call.c) in
+    let found = paid-finds c.args.plan.now c.args.places.now c.args.self.now p p.steps c.in_ok-pay.ensures.ok st c.requires.finds in
+    (in_call (has_place c.args.places.now p.top.env.names) (finds_callee (functions_of c.args.plan.now)) st found c.in-Call.c is).0
 
 pub call-requires-clause-args : goal.call-requires-clause-args
 call-requires-clause-args c =
     let p = c.pay.new.self in
     let st = c.args.statement.now in
     let is = act-is (act.Call c.in-Call.c) st.act (variant.Call c.in-Call.c) c.in-Call.is (variant.rolls-Call c.in-Call.c) in
-    let found = paid-finds c.args.places.now c.args.self.now p p.steps c.in_ok-pay.ensures.ok st c.requires.finds in
-    in_call (has_place c.args.places.now p.top.env.names) st found c.in-Call.c is
+    let found = paid-finds c.args.plan.now c.args.places.now c.args.self.now p p.steps c.in_ok-pay.ensures.ok st c.requires.finds in
+    (in_call (has_place c.args.places.now p.top.env.names) (finds_callee (functions_of c.args.plan.now)) st found c.in-Call.c is).1
 
 pub call-requires-clause-target : goal.call-requires-clause-target
 call-requires-clause-target c = refl
@@ -289,38 +298,38 @@ print-requires-clause-finds c =
     let p = c.pay.new.self in
     let st = c.args.statement.now in
     let is = act-is (act.Print c.in-Print.e) st.act (variant.Print c.in-Print.e) c.in-Print.is (variant.rolls-Print c.in-Print.e) in
-    let found = paid-finds c.args.places.now c.args.self.now p p.steps c.in_ok-pay.ensures.ok st c.requires.finds in
-    in_print (has_place c.args.places.now p.top.env.names) st found c.in-Print.e is
+    let found = paid-finds c.args.plan.now c.args.places.now c.args.self.now p p.steps c.in_ok-pay.ensures.ok st c.requires.finds in
+    in_print (has_place c.args.places.now p.top.env.names) (finds_callee (functions_of c.args.plan.now)) st found c.in-Print.e is
 
 pub branch-self-requires : goal.branch-self-requires
 branch-self-requires c =
     let p = c.pay.new.self in
     let st = c.args.statement.now in
     let is = act-is (act.If c.in-If.e c.in-If.field-1 c.in-If.field-2) st.act (variant.If c.in-If.e c.in-If.field-1 c.in-If.field-2) c.in-If.is (variant.rolls-If c.in-If.e c.in-If.field-1 c.in-If.field-2) in
-    let found = paid-finds c.args.places.now c.args.self.now p p.steps c.in_ok-pay.ensures.ok st c.requires.finds in
-    in_if (has_place c.args.places.now p.top.env.names) st found c.in-If.e c.in-If.field-1 c.in-If.field-2 is
+    let found = paid-finds c.args.plan.now c.args.places.now c.args.self.now p p.steps c.in_ok-pay.ensures.ok st c.requires.finds in
+    in_if (has_place c.args.places.now p.top.env.names) (finds_callee (functions_of c.args.plan.now)) st found c.in-If.e c.in-If.field-1 c.in-If.field-2 is
 
 pub while_test-requires : goal.while_test-requires
 while_test-requires c =
     let p = c.pay.new.self in
     let st = c.args.statement.now in
     let is = act-is (act.While c.in-While.e c.in-While.field-1) st.act (variant.While c.in-While.e c.in-While.field-1) c.in-While.is (variant.rolls-While c.in-While.e c.in-While.field-1) in
-    let found = paid-finds c.args.places.now c.args.self.now p p.steps c.in_ok-pay.ensures.ok st c.requires.finds in
-    in_while (has_place c.args.places.now p.top.env.names) st found c.in-While.e c.in-While.field-1 is
+    let found = paid-finds c.args.plan.now c.args.places.now c.args.self.now p p.steps c.in_ok-pay.ensures.ok st c.requires.finds in
+    in_while (has_place c.args.places.now p.top.env.names) (finds_callee (functions_of c.args.plan.now)) st found c.in-While.e c.in-While.field-1 is
 
 pub spawn-requires-clause-finds : goal.spawn-requires-clause-finds
 spawn-requires-clause-finds c =
     let p = c.pay.new.self in
     let st = c.args.statement.now in
     let is = act-is (act.Spawn c.in-Spawn.c) st.act (variant.Spawn c.in-Spawn.c) c.in-Spawn.is (variant.rolls-Spawn c.in-Spawn.c) in
-    let found = paid-finds c.args.places.now c.args.self.now p p.steps c.in_ok-pay.ensures.ok st c.requires.finds in
-    every-spawn (has_place c.args.places.now p.top.env.names) st found c.in-Spawn.c is
+    let found = paid-finds c.args.plan.now c.args.places.now c.args.self.now p p.steps c.in_ok-pay.ensures.ok st c.requires.finds in
+    every-spawn (has_place c.args.places.now p.top.env.names) (finds_callee (functions_of c.args.plan.now)) st found c.in-Spawn.c is
 
 pub pfor-requires-clause-finds : goal.pfor-requires-clause-finds
 pfor-requires-clause-finds c =
     let p = c.pay.new.self in
     let st = c.args.statement.now in
     let is = act-is (act.Pfor c.in-Pfor.var c.in-Pfor.lo c.in-Pfor.hi c.in-Pfor.target c.in-Pfor.call) st.act (variant.Pfor c.in-Pfor.var c.in-Pfor.lo c.in-Pfor.hi c.in-Pfor.target c.in-Pfor.call) c.in-Pfor.is (variant.rolls-Pfor c.in-Pfor.var c.in-Pfor.lo c.in-Pfor.hi c.in-Pfor.target c.in-Pfor.call) in
-    let found = paid-finds c.args.places.now c.args.self.now p p.steps c.in_ok-pay.ensures.ok st c.requires.finds in
-    let parts = in_pfor (has_place c.args.places.now p.top.env.names) st found c.in-Pfor.var c.in-Pfor.lo c.in-Pfor.hi c.in-Pfor.target c.in-Pfor.call is in
-    record { first = parts.0; end = parts.1.0; target = parts.1.1.0; args = parts.1.1.1 }
+    let found = paid-finds c.args.plan.now c.args.places.now c.args.self.now p p.steps c.in_ok-pay.ensures.ok st c.requires.finds in
+    let parts = in_pfor (has_place c.args.places.now p.top.env.names) (finds_callee (functions_of c.args.plan.now)) st found c.in-Pfor.var c.in-Pfor.lo c.in-Pfor.hi c.in-Pfor.target c.in-Pfor.call is in
+    record { first = parts.0; end = parts.1.0; target = parts.1.1.0; called = parts.1.1.1.0; args = parts.1.1.1.1 }

@@ -1,4 +1,4 @@
-use Rattle.std.proofs.Common.{false, Ok, ◌∷◌, [], refl, sym, ap, subst, set, arith}
+use Rattle.std.proofs.Common.{◌<◌, length, false, Ok, ◌∷◌, [], refl, sym, ap, subst, set, arith}
 use Rattle.std.specs.Option.{option_copied}
 use Rattle.strand_meaning.specs.Task.{answered, with_answer}
 use Rattle.strand_values.specs.Environments.{with_variables}
@@ -6,14 +6,20 @@ use Rattle.strand_moves.specs.declared.frame.Frame.{Frame}
 use Rattle.strand_moves.specs.declared.running.Running.{Running}
 use Rattle.strand_moves.specs.Running.{IsInstance, frame_of, path_of}
 use Rattle.strand_moves.proofs.Frames.BelowLemmas.{changed-innermost, changed-inside, changed-beyond}
-use Rattle.strand_moves.proofs.Frames.Names.{innermost-named, named-set, one-below-named}
+use Rattle.strand_moves.proofs.Frames.FoundBelow.{found-below, found-innermost}
+use Rattle.strand_moves.proofs.Frames.Names.{innermost-named, named-set, one-below-named, target-found}
 use Rattle.strand_moves.proofs.OpenScopes.Keeping.{changed-around, changed-few, changed-path, innermost-sound, scopes-replaced}
 use Rattle.strand_moves.proofs.running.Running.take_value.Goals as goal
 
 -- the innermost frame
 
 pub replace-requires : goal.replace-requires
-replace-requires c = innermost-named c.args.plan.now c.args.self.now c.requires.named
+replace-requires c =
+    let plan = c.args.plan.now in
+    let i = c.args.self.now in
+    let to = option_copied c.args.target in
+    let found = found-innermost plan to i c.args.height c.requires.found (omega (arith, i.below.ok.0)) in
+    rw c.places.ensures.table (target-found plan i.top to (innermost-named plan i c.requires.sound.named) found)
 
 pub returns-then-height-len-clause-machine : goal.returns-then-height-len-clause-machine
 returns-then-height-len-clause-machine c = λ p.
@@ -33,8 +39,13 @@ returns-then-height-len-clause-sound c = λ p h.
 
 pub replace-requires-then-height-len-2 : goal.replace-requires-then-height-len-2
 replace-requires-then-height-len-2 c =
+    let plan = c.args.plan.now in
     let i = c.args.self.now in
-    one-below-named c.args.plan.now i c.requires.named c.args.height c.index_mut.result.now (omega (arith, i.below.ok.0)) c.index_mut.ensures.value
+    let to = option_copied c.args.target in
+    let a = c.index_mut.result.now in
+    let within : c.args.height < length i.below.items = omega (arith, i.below.ok.0) in
+    let is = one-below-named plan i c.requires.sound.named c.args.height a within c.index_mut.ensures.value in
+    rw c.places-then-height-len-2.ensures.table (target-found plan a to is (found-below plan to i c.args.height c.requires.found a within c.index_mut.ensures.value))
 
 pub returns-then-height-len-2-clause-machine : goal.returns-then-height-len-2-clause-machine
 returns-then-height-len-2-clause-machine c = λ p.

@@ -1,23 +1,18 @@
 use Rattle.std.proofs.Common.{ap}
+use Rattle.std.specs.Option.{option_copied}
 use Rattle.strand_values.specs.Environments.{EnvironmentView}
 use Rattle.strand_moves.specs.declared.running.Running.{Running}
 use Rattle.strand_moves.specs.Running.{machine_of}
 use Rattle.strand_moves.proofs.OpenScopes.Keeping.{innermost-sound}
 use Rattle.strand_moves.proofs.Statements.Naming.{names-stay}
-use Rattle.strand_moves.proofs.Frames.Names.{innermost-named, names-are, names-there}
+use Rattle.strand_moves.proofs.Frames.Names.{innermost-named, target-found}
 use Rattle.strand_moves.proofs.running.Running.take_values.Goals as goal
 
-pub unreachable-requires : goal.unreachable-requires
-unreachable-requires c =
+pub fill-requires : goal.fill-requires
+fill-requires c =
     let plan = c.args.plan.now in
     let i = c.args.self.now in
-    names-there plan i.top (innermost-named plan i c.requires.sound.named) c.in_default.ensures
-
-pub fill-requires-clause-names : goal.fill-requires-clause-names
-fill-requires-clause-names c =
-    let plan = c.args.plan.now in
-    let i = c.args.self.now in
-    names-are plan i.top (innermost-named plan i c.requires.sound.named) c.in-Some.names.now c.in-Some.ensures
+    rw c.places.ensures.table (target-found plan i.top (option_copied c.args.target) (innermost-named plan i c.requires.sound.named) c.requires.found)
 
 pub returns-clause-machine : goal.returns-clause-machine
 returns-clause-machine c = λ p.

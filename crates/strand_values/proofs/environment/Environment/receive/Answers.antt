@@ -1,24 +1,17 @@
-use Rattle.std.proofs.Common.{ℕ, List, is_some, sym, ap, ◌∙◌}
-use Rattle.std.proofs.lemmas.Bool.{false≢true}
+use Rattle.std.proofs.Common.{◌≡◌, Some, get_or, is_some, ap, ◌∙◌}
 use Rattle.script_check.specs.Places.{place_in}
 use Rattle.strand_values.specs.Environments.{with_variables, with_what}
-use Rattle.strand_values.proofs.Filled.{is_place}
+use Rattle.strand_values.proofs.Filled.{in_table, is_place, place_found}
 use Rattle.strand_values.proofs.environment.Environment.receive.Goals as goal
 
-pub unreachable-requires : goal.unreachable-requires
-unreachable-requires c =
-    let name = c.args.target.now.bytes in
-    let none = sym (rw (c.as_slice.ensures, c.text.ensures) at c.place_named.ensures) ∙ c.in_default.is in
-    let missing = ap (λ (ns : List (List ℕ)). is_some (place_in ns name)) (sym c.requires.names) ∙ ap (λ o. is_some o) none in
-    false≢true (sym missing ∙ c.requires.known)
+pub bounds-places-at : goal.bounds-places-at
+bounds-places-at c = rw c.at.ensures (in_table c.args.places.now c.args.self.now.names c.args.target.now c.requires)
 
 pub put-requires-clause-there : goal.put-requires-clause-there
 put-requires-clause-there c =
-    let env = c.args.self.now in
-    let name = c.args.target.now.bytes in
-    let place = sym (rw (c.as_slice.ensures, c.text.ensures) at c.place_named.ensures) ∙ c.in-Some.is in
-    let there = ap (λ (ns : List (List ℕ)). place_in ns name) (sym c.requires.names) ∙ place in
-    is_place env.names name c.in-Some.place there
+    let x = c.args.target.now in
+    let names = c.args.self.now.names in
+    rw c.at.ensures (is_place names x.bytes (get_or c.args.places.now x.at 0) (place_found c.args.places.now names x c.requires))
 
 pub put-requires-clause-some : goal.put-requires-clause-some
 put-requires-clause-some c = ap (λ o. is_some o) c.of.ensures
@@ -26,7 +19,6 @@ put-requires-clause-some c = ap (λ o. is_some o) c.of.ensures
 pub returns : goal.returns
 returns c =
     let env = c.args.self.now in
-    let name = c.args.target.now.bytes in
-    let place = sym (rw (c.as_slice.ensures, c.text.ensures) at c.place_named.ensures) ∙ c.in-Some.is in
-    let there = ap (λ (ns : List (List ℕ)). place_in ns name) (sym c.requires.names) ∙ place in
-    c.put.ensures name there ∙ ap (λ o. with_variables env (with_what env.variables name o)) c.of.ensures
+    let x = c.args.target.now in
+    let there : place_in env.names x.bytes ≡ Some (get_or c.args.places.now c.at.result 0) = rw c.at.ensures (place_found c.args.places.now env.names x c.requires) in
+    c.put.ensures x.bytes there ∙ ap (λ o. with_variables env (with_what env.variables x.bytes o)) c.of.ensures

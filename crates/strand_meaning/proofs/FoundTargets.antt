@@ -1,0 +1,3 @@
+pub mod LeftStatements
+pub mod FoundParts
+pub mod FoundMoves

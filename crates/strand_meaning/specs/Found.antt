@@ -1,0 +1,58 @@
+-- Where the variables are found to which the values of a task's children go.
+use Rattle.std.specs.Prelude.{◌≡◌, ℕ, true, List, [], ◌∷◌, Option, Some, None, length, map}
+use Rattle.script_check.specs.Places.{every_in_target, finds_all, has_place, table_of_places, variable_names}
+use Rattle.script_grammar.specs.declared.tree.Function.{Function}
+use Rattle.script_grammar.specs.declared.tree.Name.{Name}
+use Rattle.serial_meaning.specs.Functions.{function_at}
+use Rattle.serial_meaning.specs.Plan.{PlanView, functions_of}
+use Rattle.strand_meaning.specs.Machine.{Destination, Spawned, Looped, Half, Machine}
+use Rattle.strand_meaning.specs.Task.{InstanceState, Running, AtSync, AtLoop, Ended, Work, Splits, Runs, Over}
+use Rattle.strand_meaning.specs.Trace.{AwaitedChild}
+
+-- the numbers of the functions of a machine's frames, the innermost first
+abbrev pub functions_in : Machine → List ℕ
+functions_in m = map (λ a. a.function) (m.top ∷ m.below)
+
+abbrev pub functions_at : InstanceState → List ℕ
+functions_at (Running m) = functions_in m
+functions_at (AtSync m) = functions_in m
+functions_at (AtLoop m) = functions_in m
+functions_at (Ended ended) = []
+
+-- of the frames that remain of a task
+abbrev pub functions_left : Work → List ℕ
+functions_left (Splits left) = []
+functions_left (Runs stage) = functions_at stage
+functions_left (Over v gone_on) = []
+
+abbrev pub variables_in : Option Function → List (List ℕ)
+variables_in None = []
+variables_in (Some f) = variable_names f
+
+-- The plan's table has the place of the variable among those of the function of this number, if there is a target.
+abbrev pub FindsTargetIn : PlanView → Option Name → ℕ → Type 0
+FindsTargetIn plan target function =
+    every_in_target (has_place (table_of_places (functions_of plan)) (variables_in (function_at (functions_of plan) function))) target ≡ true
+
+-- the same of the frame with so many below it, if there is one
+abbrev pub FindsAt : PlanView → ℕ → Option Name → List ℕ → Type 0
+FindsAt plan height target [] = Unit {0}
+FindsAt plan height target (function ∷ below) = (height ≡ length below → FindsTargetIn plan target function) × FindsAt plan height target below
+
+-- and of the innermost one
+abbrev pub FindsInnermost : PlanView → Option Name → List ℕ → Type 0
+FindsInnermost plan target [] = Unit {0}
+FindsInnermost plan target (function ∷ below) = FindsTargetIn plan target function
+
+abbrev pub FindsDestination : PlanView → List ℕ → Destination → Type 0
+FindsDestination plan functions (Spawned owner target) = FindsAt plan owner target functions
+FindsDestination plan functions (Looped target) = FindsInnermost plan target functions
+FindsDestination plan functions Half = Unit {0}
+
+abbrev pub FindsTargets : PlanView → List ℕ → List AwaitedChild → Type 0
+FindsTargets plan functions [] = Unit {0}
+FindsTargets plan functions (p ∷ ps) = FindsDestination plan functions p.place × FindsTargets plan functions ps
+
+-- the plan's tables have all that its functions name
+abbrev pub IsFoundPlan : PlanView → Type 0
+IsFoundPlan plan = finds_all (table_of_places (functions_of plan)) (functions_of plan) ≡ true
