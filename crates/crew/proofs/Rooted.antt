@@ -10,7 +10,7 @@ use Rattle.serial_meaning.specs.Plan.{PlanView}
 use Rattle.serial_meaning.specs.Render.{IsWhole}
 use Rattle.serial_meaning.specs.declared.origin.Origin.{Origin}
 use Rattle.strand_machine.specs.Family.{tag}
-use Rattle.crew.specs.Crews.{AreAnswersOf, IsMainAlone}
+use Rattle.crew.specs.Crews.{AreRootAnswers, IsMainAlone}
 
 pub only_one : (tags : List AnswerTag) (t : AnswerTag) → IsMainAlone tags → slice_get tags 0 ≡ Some t → tags ≡ t ∷ []
 only_one [] t h e = absurd h
@@ -31,13 +31,13 @@ root_is plan answered o e = let t : tag plan (main_origin plan) ≡ tag answered
 -- Answers of several roots, where those of the roots that are left make them whole
 
 pub one-more-answer : (all left left' : List (Joined AnswerTag)) (root : Joined AnswerTag) (answer : AnswerView) (answers rest : List AnswerView) →
-    ((more : List AnswerView) → AreAnswersOf left more → AreAnswersOf all (answers ++ more)) → left ≡ root ∷ left' → root.tags ≡ tag answer.plan answer.origin ∷ [] →
-    IsEval answer.plan answer.origin answer.out answer.outcome → AreAnswersOf left' rest → AreAnswersOf all ((answers ++ answer ∷ []) ++ rest)
+    ((more : List AnswerView) → AreRootAnswers left more → AreRootAnswers all (answers ++ more)) → left ≡ root ∷ left' → root.tags ≡ tag answer.plan answer.origin ∷ [] →
+    IsEval answer.plan answer.origin answer.out answer.outcome → AreRootAnswers left' rest → AreRootAnswers all ((answers ++ answer ∷ []) ++ rest)
 one-more-answer all left left' root answer answers rest was next tagged meant are =
-    subst (AreAnswersOf all) (sym (append_assoc answers (answer ∷ []) rest))
-    (was (answer ∷ rest) (subst (λ (rs : List (Joined AnswerTag)). AreAnswersOf rs (answer ∷ rest)) (sym next) (tagged, meant, are)))
+    subst (AreRootAnswers all) (sym (append_assoc answers (answer ∷ []) rest))
+    (was (answer ∷ rest) (subst (λ (rs : List (Joined AnswerTag)). AreRootAnswers rs (answer ∷ rest)) (sym next) (tagged, meant, are)))
 
 pub no-more-answers : (all left : List (Joined AnswerTag)) (answers : List AnswerView) → length left ≡ 0 →
-    ((more : List AnswerView) → AreAnswersOf left more → AreAnswersOf all (answers ++ more)) → AreAnswersOf all answers
-no-more-answers all [] answers none was = subst (AreAnswersOf all) (append-nil answers) (was [] refl)
+    ((more : List AnswerView) → AreRootAnswers left more → AreRootAnswers all (answers ++ more)) → AreRootAnswers all answers
+no-more-answers all [] answers none was = subst (AreRootAnswers all) (append-nil answers) (was [] refl)
 no-more-answers all (r ∷ rs) answers none was = absurd (omega (arith, none))

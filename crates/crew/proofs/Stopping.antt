@@ -23,7 +23,7 @@ use Rattle.strand_machine.specs.declared.stop.Paused.TheVariants as paused
 use Rattle.strand_machine.specs.declared.stop.Stop.TheVariants as stop
 use Rattle.strand_machine.specs.declared.stop.Resumed.TheVariants as resumed
 use Rattle.strand_machine.proofs.NextStops.Pausing.{ends-so}
-use Rattle.crew.specs.Hands.{HandView, HasPut, IsAnswered, Advances as AdvancesHand}
+use Rattle.crew.specs.Hands.{HandView, HasPut, IsAnswered, AdvancesCurrent}
 use Rattle.crew.specs.declared.hand.Turn.{Turn}
 use Rattle.crew.specs.declared.hand.Turn.TheVariants.{Ran, Answered, Ended as EndedRoot, Popped, Resumed, Waiting, Stole, Idle}
 
@@ -156,7 +156,7 @@ module _ (t : TaskView) (old new : HandView) (none : old.current ≡ None) (same
   still : new ≡ record old { current = None }
   still = same ∙ ap (λ (o : Option TaskView). record old { current = o }) none
 
-  advances-by : (turn : Turn) → HasPut t turn → AdvancesHand t old turn new
+  advances-by : (turn : Turn) → HasPut t turn → AdvancesCurrent t old turn new
   advances-by Ran put = absurd put.1
   advances-by (Answered arrived) put = (inl put.0, put.1, still)
   advances-by (EndedRoot arrived) put = (inl put.0, put.1, still)
@@ -166,10 +166,10 @@ module _ (t : TaskView) (old new : HandView) (none : old.current ≡ None) (same
   advances-by Stole put = absurd put.1
   advances-by Idle put = absurd put.1
 
-  pub put_advances : {E : Type 0} (r : Result Turn E) → IfOk r (HasPut t) → IfOk r (λ turn. AdvancesHand t old turn new)
+  pub put_advances : {E : Type 0} (r : Result Turn E) → IfOk r (HasPut t) → IfOk r (λ turn. AdvancesCurrent t old turn new)
   put_advances (Ok turn) put = advances-by turn put
   put_advances (Err e) put = tt
 
-  pub end_advances : {E : Type 0} (rest : TaskView) (r : Result Turn E) → t.cut ≡ None → Pauses t (paused.Ended rest) → IfOk r (HasPut rest) → IfOk r (λ turn. AdvancesHand t old turn new)
+  pub end_advances : {E : Type 0} (rest : TaskView) (r : Result Turn E) → t.cut ≡ None → Pauses t (paused.Ended rest) → IfOk r (HasPut rest) → IfOk r (λ turn. AdvancesCurrent t old turn new)
   end_advances rest (Ok turn) goes h put = advances-by turn (put-for t rest turn goes h put)
   end_advances rest (Err e) goes h put = tt

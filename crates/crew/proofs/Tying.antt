@@ -13,7 +13,7 @@ use Rattle.strand_machine.specs.Tasks.{TaskView}
 use Rattle.strand_machine.specs.declared.stop.Stop.{Stop as Stops}
 use Rattle.strand_machine.specs.declared.stop.Stop.TheVariants as stop
 use Rattle.strand_machine.specs.declared.stop.Resumed.TheVariants as resumed
-use Rattle.crew.specs.Hands.{HandView, IsPut, Runs, EndsTask, Advances, IsNewest, IsTurnedOver, GoesOn, Seeks, IsTurn, IsTurnFrom, StaysLast, LastGoesOn, LooksNewest}
+use Rattle.crew.specs.Hands.{HandView, IsPut, Runs, EndsTask, AdvancesCurrent, IsNewest, IsTurnedOver, GoesOn, Seeks, IsTurn, IsTurnFrom, StaysLast, LastGoesOn, LooksNewest}
 use Rattle.crew.specs.Ties.{tasks, worker_of, OwnerLeaves, IsEnd, IsNoEnd, RunsTo, EndsByCut, TakesLast, ResumesAt, PassesAt, LooksBefore, IsTied, IsTiedLook}
 use Rattle.crew.specs.declared.hand.Looked.{Looked}
 use Rattle.crew.specs.declared.hand.Looked.TheVariants as looked
@@ -141,7 +141,7 @@ module _ (t : TaskView) (old new : HandView) (now : old.current ≡ Some t) wher
   put turn (inl (answer, give, at), arrived, h) = ended t.cut refl answer give at h
   put turn (inr cut, arrived, h) = inr (t, now, inl cut, h)
 
-  advanced : (turn : Turn) → Advances t old turn new → IsTied old turn new
+  advanced : (turn : Turn) → AdvancesCurrent t old turn new → IsTied old turn new
   advanced Ran (s, at, h) = ran t.cut s at h
   advanced (Answered a) h = put (Answered a) h
   advanced (Ended a) h = put (Ended a) h

@@ -89,7 +89,7 @@ abbrev pub IsCrewOf : List PlanView → ℕ → List HandView → Type 0
 IsCrewOf plans workers hands = (idle : List HandView) × AreIdle workers idle × FirstIsDealt (map root_task plans) idle hands
 
 -- Each of these is the answer of a root: it has its tag, and is no cut but the serial meaning.
-abbrev pub AreAnswersOf : List (Joined AnswerTag) → List AnswerView → Type 0
-AreAnswersOf [] answers = answers ≡ []
-AreAnswersOf (r ∷ rs) [] = ⊥
-AreAnswersOf (r ∷ rs) (a ∷ answers) = (r.tags ≡ tag a.plan a.origin ∷ []) × IsEval a.plan a.origin a.out a.outcome × AreAnswersOf rs answers
+abbrev pub AreRootAnswers : List (Joined AnswerTag) → List AnswerView → Type 0
+AreRootAnswers [] answers = answers ≡ []
+AreRootAnswers (r ∷ rs) [] = ⊥
+AreRootAnswers (r ∷ rs) (a ∷ answers) = (r.tags ≡ tag a.plan a.origin ∷ []) × IsEval a.plan a.origin a.out a.outcome × AreRootAnswers rs answers

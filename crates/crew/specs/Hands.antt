@@ -79,9 +79,9 @@ abbrev pub EndsTask : TaskView → HandView → Turn → HandView → Type 0
 EndsTask t old turn new = (HasEnded t ⊎ MayBeCut t) × IsAnswered (tag t.task.plan t.task.origin) turn × (new ≡ record old { current = None })
 
 -- What a turn does with the current task. One that took a cut for an answer comes to no other stop than its end.
-abbrev pub Advances : TaskView → HandView → Turn → HandView → Type 0
-Advances t old Ran new = (stop : Stop) × AdvancesTo t stop × Runs stop old new
-Advances t old turn new = EndsTask t old turn new
+abbrev pub AdvancesCurrent : TaskView → HandView → Turn → HandView → Type 0
+AdvancesCurrent t old Ran new = (stop : Stop) × AdvancesTo t stop × Runs stop old new
+AdvancesCurrent t old turn new = EndsTask t old turn new
 
 -- The task is the last of the private list, or else the newest of the deck.
 abbrev pub IsNewest : TaskView → List TaskView → OwnerEnd TaskView → List TaskView → OwnerEnd TaskView → Type 0
@@ -157,7 +157,7 @@ Seeks old _ new = ⊥
 
 -- A turn, by what it did: with the current task, or else to get one.
 abbrev pub IsTurnFrom : Option TaskView → HandView → Turn → HandView → Type 0
-IsTurnFrom (Some t) old turn new = Advances t old turn new
+IsTurnFrom (Some t) old turn new = AdvancesCurrent t old turn new
 IsTurnFrom None old turn new = Seeks old turn new
 
 abbrev pub IsTurn : HandView → Turn → HandView → Type 0

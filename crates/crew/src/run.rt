@@ -7,7 +7,7 @@ ghost use Rattle.serial_meaning.specs.Laws.{IsOriginOf};
 ghost use Rattle.serial_meaning.specs.Render.{IsWhole};
 ghost use Rattle.strand_meaning.specs.Laws.{IsFaultOf};
 ghost use Rattle.strand_machine.specs.Family.{tag};
-ghost use Rattle.crew.specs.Crews.{AreAnswersOf};
+ghost use Rattle.crew.specs.Crews.{AreRootAnswers};
 
 use crate::gate::Gate;
 use crate::hand::{Hand, Hands, Looked, Turn};
@@ -193,7 +193,7 @@ pub fn run_crew<R: Threads + Wait + Sync, G: Gate + Sync>(
 
 /// Takes the answers of these roots, each once it is there.
 fn answers_of<R: Wait>(rt: &R, alloc: Global, roots: Vec<Root>) -> Result<Items<Answer>, Memory>
-    ensures { IfOk result (λ answers. AreAnswersOf roots.items answers) }
+    ensures { IfOk result (λ answers. AreRootAnswers roots.items answers) }
 {
     let mut answers = Vec::new(alloc);
     for root in roots {
@@ -211,7 +211,7 @@ pub fn run_roots<R: Threads + Wait + Sync, G: Gate + Sync>(
     hands: Hands,
     gate: &G,
 ) -> Result<Items<Answer>, Memory>
-    ensures { IfOk result (λ answers. AreAnswersOf roots.0 answers) }
+    ensures { IfOk result (λ answers. AreRootAnswers roots.0 answers) }
 {
     let roots = roots.0.0;
     run_hands(rt, alloc, hands, roots.len() as u64, gate)?;

@@ -7,7 +7,7 @@ ghost use Rattle.strand_machine.specs.Family.{tag};
 ghost use Rattle.strand_machine.specs.Tasks.{is_cut_short};
 ghost use Rattle.strand_machine.specs.declared.stop.Stop.TheVariants as stop;
 ghost use Rattle.steal_deck.specs.Ends.{FindsNone};
-ghost use Rattle.crew.specs.Hands.{view_of, IsPut, Runs, IsAnswered, HasPut, Advances, IsNewest, FindsNoTask, TakesUp, Looks, LooksNewest, AllMiss, FirstSteals, StealsOr, Seeks, IsTurn, IsLate, KeepsLate};
+ghost use Rattle.crew.specs.Hands.{view_of, IsPut, Runs, IsAnswered, HasPut, AdvancesCurrent, IsNewest, FindsNoTask, TakesUp, Looks, LooksNewest, AllMiss, FirstSteals, StealsOr, Seeks, IsTurn, IsLate, KeepsLate};
 
 use crate::faults::Faults;
 use crate::gate::Gate;
@@ -166,7 +166,7 @@ fn end<G: Gate>(held: &mut Held, task: Task, alloc: Global, gate: &G) -> Result<
 /// Runs this task, which was the current one, to its next stop.
 fn advance<G: Gate>(held: &mut Held, task: Task, alloc: Global, gate: &G) -> Result<Turn, Memory>
     requires { held.old.current ≡ None }
-    ensures ok { IfOk result (λ turn. Advances task (view_of held.old) turn (view_of held.new)) }
+    ensures ok { IfOk result (λ turn. AdvancesCurrent task (view_of held.old) turn (view_of held.new)) }
     ensures err { OnErr result (held.new.current ≡ None) }
     ensures late { KeepsLate (view_of held.old) (view_of held.new) }
 {
@@ -192,7 +192,7 @@ fn cut(held: &Held, task: Task, by: Fault) -> Turn
     requires fresh { task.task.advanced ≡ false }
     requires stands { IsCut task.task.plan task.task.origin by }
     requires current { held.now.current ≡ None }
-    ensures { Advances task (view_of held.now) result (view_of held.now) }
+    ensures { AdvancesCurrent task (view_of held.now) result (view_of held.now) }
 {
     let (answer, give) = task.cut(by);
     put_answer(answer, give)
@@ -201,7 +201,7 @@ fn cut(held: &Held, task: Task, by: Fault) -> Turn
 /// Cuts this task, which was the current one, or runs it to its next stop.
 fn run<G: Gate>(held: &mut Held, task: Task, alloc: Global, gate: &G) -> Result<Turn, Memory>
     requires { held.old.current ≡ None }
-    ensures ok { IfOk result (λ turn. Advances task (view_of held.old) turn (view_of held.new)) }
+    ensures ok { IfOk result (λ turn. AdvancesCurrent task (view_of held.old) turn (view_of held.new)) }
     ensures err { OnErr result (held.new.current ≡ None) }
     ensures late { KeepsLate (view_of held.old) (view_of held.new) }
 {

@@ -113,11 +113,17 @@ pub fn write_output<K: Sink, E: Sink>(
 {
     match write_all(out, output) {
         Ok(()) => status,
-        Err(_) => {
-            write_error_line(err, b"write fault\n");
-            Status::Write
-        }
+        Err(_) => end_output(err),
     }
+}
+
+// Tells that an output wasn't written whole.
+fn end_output<E: Sink>(err: &mut E) -> Status
+    ensures status { result ≡ Status.Write }
+    ensures told { WroteLine (watched E.written E.faults err.old err.new) (codes "write fault\n") }
+{
+    write_error_line(err, b"write fault\n");
+    Status::Write
 }
 
 /// Tells that there was no memory.
@@ -175,10 +181,7 @@ fn refuse<E: Sink>(refusal: &Refusal, err: &mut E) -> Status
             write_error_line(err, b"read fault\n");
             Status::Read
         }
-        Refusal::Memory => {
-            write_error_line(err, b"out of memory\n");
-            Status::Memory
-        }
+        Refusal::Memory => want(err),
     }
 }
 
@@ -236,10 +239,7 @@ fn serve_stream<K: Sink, E: Sink>(
 {
     match write_stream(alloc, stream, count, out) {
         Ok(()) => Status::Done,
-        Err(StreamError::Fault) => {
-            write_error_line(err, b"write fault\n");
-            Status::Write
-        }
+        Err(StreamError::Fault) => end_output(err),
         Err(StreamError::Memory) => want(err),
     }
 }

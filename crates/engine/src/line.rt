@@ -2,66 +2,20 @@
 
 ghost use Rattle.std.specs.Prelude.{◌≡◌, ◌++◌, IfOk, codes, string_bytes};
 ghost use Rattle.ped_path.specs.Text.{ped_text};
-ghost use Rattle.engine.specs.Lines.{blocked_line, check_line, check_text, no_strand_line, syntax_line, syntax_text, words_line, words_text};
+ghost use Rattle.engine.specs.Lines.{blocked_line, check_line, no_strand_line, syntax_line, words_line};
 
 use ped_path::{Pedigree, write_pedigree};
+use ped_words::rule_text;
+use script_check::condition_text;
+use script_text::fault_text;
 use serial_meaning::Memory;
 use std::alloc::{AllocError, Global};
-
-fn syntax_text(number: u8) -> &'static str
-    ensures { result.now ≡ syntax_text number }
-{
-    match number {
-        1 => "not ASCII",
-        2 => "unexpected token",
-        3 => "number out of range",
-        4 => "name too long",
-        5 => "nested too deep",
-        6 => "unexpected end",
-        _ => "too many functions",
-    }
-}
-
-fn check_text(number: u8) -> &'static str
-    ensures { result.now ≡ check_text number }
-{
-    match number {
-        1 => "no main",
-        2 => "main has parameters",
-        3 => "function twice",
-        4 => "variable twice",
-        5 => "unknown function",
-        6 => "unknown variable",
-        7 => "wrong number of arguments",
-        8 => "wrong kind",
-        9 => "pending variable",
-        10 => "let in a block",
-        11 => "too many variables",
-        _ => "array length",
-    }
-}
-
-fn words_text(number: u8) -> &'static str
-    ensures { result.now ≡ words_text number }
-{
-    match number {
-        1 => "no command",
-        2 => "unknown command",
-        3 => "unknown option",
-        4 => "option twice",
-        5 => "missing value",
-        6 => "bad value",
-        7 => "out of range",
-        8 => "missing option",
-        _ => "stray word",
-    }
-}
 
 /// The line of a rule that the words break.
 pub fn words_line(alloc: Global, number: u8, at: u32) -> Result<String, AllocError>
     ensures { IfOk result (λ line. string_bytes line ≡ words_line number at) }
 {
-    let text = words_text(number);
+    let text = rule_text(number);
     format!(in alloc; "words: {text} at word {at}\n")
 }
 
@@ -69,7 +23,7 @@ pub fn words_line(alloc: Global, number: u8, at: u32) -> Result<String, AllocErr
 pub fn syntax_line(alloc: Global, number: u8, at: u32) -> Result<String, AllocError>
     ensures { IfOk result (λ line. string_bytes line ≡ syntax_line number at) }
 {
-    let text = syntax_text(number);
+    let text = fault_text(number);
     format!(in alloc; "script: {text} at byte {at}\n")
 }
 
@@ -77,7 +31,7 @@ pub fn syntax_line(alloc: Global, number: u8, at: u32) -> Result<String, AllocEr
 pub fn check_line(alloc: Global, number: u8, at: u32) -> Result<String, AllocError>
     ensures { IfOk result (λ line. string_bytes line ≡ check_line number at) }
 {
-    let text = check_text(number);
+    let text = condition_text(number);
     format!(in alloc; "script: {text} at byte {at}\n")
 }
 

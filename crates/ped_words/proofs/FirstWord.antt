@@ -8,9 +8,9 @@ use Rattle.std.proofs.lemmas.Slice.Eq.{bytes_eq-Decides}
 use Rattle.ped_words.specs.Commands.{is_batch}
 use Rattle.ped_words.specs.Making.{command_of, made_of}
 use Rattle.ped_words.specs.Reading.{reading, reading_as}
-use Rattle.ped_words.specs.Rules.{unless}
+use Rattle.ped_words.specs.Rules.{unless_error}
 use Rattle.ped_words.specs.Table.{entry, verb_of}
-use Rattle.ped_words.specs.Values.{OptionValues, number, pedigree, shape, word_at}
+use Rattle.ped_words.specs.Values.{OptionValues, number_value, pedigree, shape, word_at}
 use Rattle.ped_words.specs.declared.command.Command.{Command}
 use Rattle.ped_words.specs.declared.rule.WordError.{WordError}
 use Rattle.ped_words.specs.declared.table.OptionName.TheVariants as name
@@ -36,13 +36,13 @@ at_then {X} f none (Some x) c e = none x c e
 other_verbs : (v : Verb) (values : OptionValues) → (v ≡ verb.Batch → ⊥) → NoBatch (command_of v values)
 other_verbs verb.Run values other = at_some _ refl
 other_verbs verb.Serial values other = at_some _ refl
-other_verbs verb.Sim values other = at_map _ (λ n. refl) (number values name.Number)
+other_verbs verb.Sim values other = at_map _ (λ n. refl) (number_value values name.Number)
 other_verbs verb.Replay values other = at_map _ (λ j. refl) (pedigree values)
 other_verbs verb.Hash values other = at_map _ (λ j. refl) (pedigree values)
 other_verbs verb.Check values other = at_some _ refl
 other_verbs verb.Fmt values other = at_some _ refl
-other_verbs verb.Gen values other = at_then _ (λ s. at_map _ (λ n. refl) (number values name.Size)) (shape values)
-other_verbs verb.Stream values other = at_then _ (λ j. at_map _ (λ n. refl) (number values name.Count)) (pedigree values)
+other_verbs verb.Gen values other = at_then _ (λ s. at_map _ (λ n. refl) (number_value values name.Size)) (shape values)
+other_verbs verb.Stream values other = at_then _ (λ j. at_map _ (λ n. refl) (number_value values name.Count)) (pedigree values)
 other_verbs verb.Span values other = at_some _ refl
 other_verbs verb.Batch values other = absurd (other refl)
 
@@ -101,11 +101,11 @@ batch_word word =
     (at_row (word ≡ codes "batch") (codes "span") word verb.Span verb.Batch after_span (λ w v. absurd (cc))
     (at_row (word ≡ codes "batch") (codes "batch") word verb.Batch verb.Batch [] (λ w v. w) (λ e. absurd (cc))))))))))))
 
-unless_ok : {X : Type 0} (broken : Option WordError) (r : Result X WordError) (x : X) → unless broken r ≡ Ok x → r ≡ Ok x
+unless_ok : {X : Type 0} (broken : Option WordError) (r : Result X WordError) (x : X) → unless_error broken r ≡ Ok x → r ≡ Ok x
 unless_ok {X} None r x e = e
 unless_ok {X} (Some error) r x e = absurd (cc)
 
-kept_ok : (broken : Option WordError) (d c : Command) → unless broken (Ok d) ≡ Ok c → Some d ≡ Some c
+kept_ok : (broken : Option WordError) (d c : Command) → unless_error broken (Ok d) ≡ Ok c → Some d ≡ Some c
 kept_ok None d c e = cc
 kept_ok (Some error) d c e = absurd (cc)
 

@@ -18,7 +18,7 @@ use Rattle.ped_words.specs.Table.{value_type_of, most_seeds}
 use Rattle.ped_words.specs.Making.{gamma_error, gamma_fits, gamma_from, gamma_of, holds_for, is_gamma, unfit}
 use Rattle.ped_words.specs.Rules.{breaks, IsRefusal}
 use Rattle.ped_words.specs.Given.{HasCount, IsPlacedList}
-use Rattle.ped_words.specs.Values.{IsInRange, OptionValues, number}
+use Rattle.ped_words.specs.Values.{IsInRange, OptionValues, number_value}
 use Rattle.ped_words.specs.declared.rule.Rule.TheVariants.{OutOfRange}
 use Rattle.ped_words.specs.declared.rule.WordError.{WordError}
 use Rattle.ped_words.specs.declared.table.OptionName.TheVariants as name
@@ -64,7 +64,7 @@ module _ (values : OptionValues) (given : List ℕ) (at depth : ℕ) (placed : I
   fits_by b fits = ap (holds_for (λ g. is_gamma g depth)) placed.0 ∙ fits
 
   pub gamma_ok : (gamma : List ℕ) → Judged given depth (Ok gamma) → gamma ≡ padded given depth → (gamma ≡ gamma_of values depth) × (gamma_fits values depth ≡ true)
-  gamma_ok gamma j made = (made ∙ sym (ap (λ g. gamma_from g (unwrap_or (number values name.Seed) 0) depth) placed.0), fits_by true (is_gamma_ok given gamma depth j))
+  gamma_ok gamma j made = (made ∙ sym (ap (λ g. gamma_from g (unwrap_or (number_value values name.Seed) 0) depth) placed.0), fits_by true (is_gamma_ok given gamma depth j))
 
   pub gamma_err : (error : GammaError) (e : WordError) → Judged given depth (Err error) → e ≡ gamma_error error at → IsRefusal (unfit values name.Gamma (gamma_fits values depth)) e
   gamma_err error e j is = subst (λ (x : WordError). IsRefusal (unfit values name.Gamma (gamma_fits values depth)) x) (sym is) (at_error error j)
@@ -78,9 +78,9 @@ module _ (values : OptionValues) (given : List ℕ) (at depth : ℕ) (placed : I
       at_error Memory j = tt
 
 -- Without a list the seed's coefficients fit.
-pub seed_ok : (values : OptionValues) (depth seed : ℕ) (gamma : List ℕ) → IsPlacedList values name.Gamma None → seed ≡ unwrap_or (number values name.Seed) 0 → gamma ≡ coefficients seed depth → (gamma ≡ gamma_of values depth) × (gamma_fits values depth ≡ true)
+pub seed_ok : (values : OptionValues) (depth seed : ℕ) (gamma : List ℕ) → IsPlacedList values name.Gamma None → seed ≡ unwrap_or (number_value values name.Seed) 0 → gamma ≡ coefficients seed depth → (gamma ≡ gamma_of values depth) × (gamma_fits values depth ≡ true)
 seed_ok values depth seed gamma none is made =
-    (made ∙ ap (λ s. coefficients s depth) is ∙ sym (ap (λ g. gamma_from g (unwrap_or (number values name.Seed) 0) depth) none), ap (holds_for (λ g. is_gamma g depth)) none)
+    (made ∙ ap (λ s. coefficients s depth) is ∙ sym (ap (λ g. gamma_from g (unwrap_or (number_value values name.Seed) 0) depth) none), ap (holds_for (λ g. is_gamma g depth)) none)
 
 pub gamma_long : (list gamma : List ℕ) (depth : ℕ) → Judged list depth (Ok gamma) → gamma ≡ padded list depth → length gamma ≡ depth
 gamma_long list gamma depth j made =

@@ -10,7 +10,7 @@ use Rattle.std.specs.Borrow.{Bor}
 use Rattle.std.proofs.lemmas.List.{length-map}
 use Rattle.std.proofs.lemmas.List.Splits.{length-slice_split}
 use Rattle.std.proofs.lemmas.List.Folds.{list_all-map}
-use Rattle.ped_words.specs.Numbers.{AreValues, are_few, is_number, list_rule, number_rule, numbers_of, parts_of, value_of}
+use Rattle.ped_words.specs.Numbers.{AreValues, are_few, is_number, list_rule, number_rule, numbers_of, parts_of, number_in_word}
 use Rattle.ped_words.specs.Given.{HasCount}
 use Rattle.ped_words.specs.declared.table.ValueType.{ValueType}
 use Rattle.ped_words.specs.declared.table.ValueType.TheVariants.{Numbers}
@@ -43,9 +43,9 @@ number_rule-refused {E} least most word refusal small number parses =
     let some : 0 < length word = positive (length word) (and_left _ _ number) in
     let digits : all_ascii_digits word ≡ true = and_left _ _ (and_right _ _ number) in
     let refused = parse_digits numerals {E = E} 64 word (Err refusal) parses digits in
-    let big : 2 ^ 64 ≤ value_of word = above_all (length word) (value_of word) some refused in
-    let outside : (leb least (value_of word) && leb (value_of word) most) ≡ false = above least most (value_of word) (omega (arith, big, small)) in
-    ap (λ b. cond b (cond (leb least (value_of word) && leb (value_of word) most) None (Some OutOfRange)) (Some BadValue)) number ∙ ap (λ b. cond b None (Some OutOfRange)) outside
+    let big : 2 ^ 64 ≤ number_in_word word = above_all (length word) (number_in_word word) some refused in
+    let outside : (leb least (number_in_word word) && leb (number_in_word word) most) ≡ false = above least most (number_in_word word) (omega (arith, big, small)) in
+    ap (λ b. cond b (cond (leb least (number_in_word word) && leb (number_in_word word) most) None (Some OutOfRange)) (Some BadValue)) number ∙ ap (λ b. cond b None (Some OutOfRange)) outside
   where
     above_all : (k v : ℕ) → 0 < k → ((0 < k) × (v < 2 ^ 64) → ⊥) → 2 ^ 64 ≤ v
     above_all k v some refused = grind (arith, refused)
@@ -55,7 +55,7 @@ map-seen f [] = refl
 map-seen f (part ∷ parts) = ap (λ t. f part.now ∷ t) (map-seen f parts)
 
 abbrev is_small : List ℕ → Bool
-is_small word = ltb (value_of word) (2 ^ 64)
+is_small word = ltb (number_in_word word) (2 ^ 64)
 
 -- the parts of a word as references
 module _ (word : List ℕ) (parts : List (Bor (List ℕ))) (split : map (λ (x : Bor (List ℕ)). x.now) parts ≡ parts_of word) where
@@ -80,12 +80,12 @@ module _ (word : List ℕ) (parts : List (Bor (List ℕ))) (split : map (λ (x :
     range_broken good few big = judged true false good few big
 
     pub list_good : (values : List ℕ) → list_all (λ x. is_number x.now) parts ≡ true → are_few most (length parts) ≡ true → AreValues parts (Some values) → (list_rule most word ≡ None) × (values ≡ numbers_of word)
-    list_good values good few are = (judged true true good few are.0, are.1 ∙ sym (map-seen value_of parts) ∙ ap (map value_of) split)
+    list_good values good few are = (judged true true good few are.0, are.1 ∙ sym (map-seen number_in_word parts) ∙ ap (map number_in_word) split)
 
 -- A list that breaks no rule has at least one number, and no more than its type takes.
 pub counted : (most : Option ℕ) (word : List ℕ) → list_rule most word ≡ None → HasCount (Numbers most) (length (numbers_of word))
 counted most word none =
-    let long : length (numbers_of word) ≡ length (parts_of word) = length-map (parts_of word) value_of in
+    let long : length (numbers_of word) ≡ length (parts_of word) = length-map (parts_of word) number_in_word in
     let some = length-slice_split (λ c. eqb c 44) word in (
       omega (arith, long, some),
       ap (are_few most) long ∙ few (list_all is_number (parts_of word)) (are_few most (length (parts_of word))) (list_all is_small (parts_of word)) none,

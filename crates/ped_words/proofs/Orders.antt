@@ -9,11 +9,11 @@ use Rattle.std.proofs.lemmas.List.{get_or-append-add}
 use Rattle.std.proofs.lemmas.Option.{none-some}
 use Rattle.ped_words.specs.Judging.{broken_name, broken_pair, broken_value, first_below, first_broken, first_of, holds_of, pairs_in, value_rule}
 use Rattle.ped_words.specs.Laws.{as_it_was, exchanged, OrdersGiveOneCommand}
-use Rattle.ped_words.specs.Making.{made}
+use Rattle.ped_words.specs.Making.{made_command}
 use Rattle.ped_words.specs.Reading.{reading, reading_as}
-use Rattle.ped_words.specs.Rules.{breaks, broken_at, unless}
-use Rattle.ped_words.specs.Table.{name_of, place, takes, verb_of}
-use Rattle.ped_words.specs.Values.{OptionValues, has, is_name, name_word, value_word, option_values, word_at}
+use Rattle.ped_words.specs.Rules.{breaks, broken_at, unless_error}
+use Rattle.ped_words.specs.Table.{name_of, place, takes_option, verb_of}
+use Rattle.ped_words.specs.Values.{OptionValues, has, is_option, name_word, value_word, option_values, word_at}
 use Rattle.ped_words.specs.declared.command.Command.{Command}
 use Rattle.ped_words.specs.declared.rule.Rule.{Rule}
 use Rattle.ped_words.specs.declared.rule.Rule.TheVariants as rule
@@ -113,7 +113,7 @@ record Right (verb : Verb) (given : OptionValues) (word value : List ℕ) (is_la
   n : OptionName
   dashes : starts_with nat_eq word (codes "--") ≡ true
   named : name_of word ≡ Some n
-  taken : takes verb n ≡ true
+  taken : takes_option verb n ≡ true
   fresh : has given n ≡ false
   more : is_last ≡ false
   fits : value_rule n value ≡ None
@@ -136,7 +136,7 @@ module _ (verb : Verb) (words : List (List ℕ)) (k : ℕ) where
 
   -- the rules after the first one, by the option that the word names
   abbrev after : Option OptionName → List (Rule × Bool)
-  after o = (rule.UnknownOption, not (holds_of (takes verb) o)) ∷ (rule.OptionTwice, holds_of (has given) o) ∷ (rule.MissingValue, is_last) ∷ []
+  after o = (rule.UnknownOption, not (holds_of (takes_option verb) o)) ∷ (rule.OptionTwice, holds_of (has given) o) ∷ (rule.MissingValue, is_last) ∷ []
 
   abbrev value_as : Option OptionName → Option Rule
   value_as o = option_and_then (λ n. value_rule n value) o
@@ -150,7 +150,7 @@ module _ (verb : Verb) (words : List (List ℕ)) (k : ℕ) where
       at_none i None f = refl
       at_none i (Some r) f = absurd (none-some _ (sym f))
 
-      by_tests : (n : OptionName) → starts_with nat_eq word (codes "--") ≡ true → name_of word ≡ Some n → (x y z : Bool) → takes verb n ≡ x → has given n ≡ y → is_last ≡ z →
+      by_tests : (n : OptionName) → starts_with nat_eq word (codes "--") ≡ true → name_of word ≡ Some n → (x y z : Bool) → takes_option verb n ≡ x → has given n ≡ y → is_last ≡ z →
           first_of ((rule.UnknownOption, not x) ∷ (rule.OptionTwice, y) ∷ (rule.MissingValue, z) ∷ []) ≡ None → value_rule n value ≡ None → R
       by_tests n d f false y z g h i j v = absurd (none-some _ (sym j))
       by_tests n d f true true z g h i j v = absurd (none-some _ (sym j))
@@ -159,7 +159,7 @@ module _ (verb : Verb) (words : List (List ℕ)) (k : ℕ) where
 
       by_name : starts_with nat_eq word (codes "--") ≡ true → (o : Option OptionName) → name_of word ≡ o → first_of (after o) ≡ None → value_as o ≡ None → R
       by_name d None f g v = absurd (none-some _ (sym g))
-      by_name d (Some n) f g v = by_tests n d f (takes verb n) (has given n) is_last refl refl refl g v
+      by_name d (Some n) f g v = by_tests n d f (takes_option verb n) (has given n) is_last refl refl refl g v
 
       by_dashes : (b : Bool) → starts_with nat_eq word (codes "--") ≡ b → first_of ((rule.StrayWord, not b) ∷ after (name_of word)) ≡ None → value_as (name_of word) ≡ None → R
       by_dashes true d g v = by_name d (name_of word) refl g v
@@ -242,10 +242,10 @@ swapped front after n v m w k e =
     }
 
 abbrev next_word : List ℕ → List ℕ → Option (List ℕ) → OptionName → Option (List ℕ)
-next_word word given o n = cond (is_name (name_of word) n) (Some given) o
+next_word word given o n = cond (is_option (name_of word) n) (Some given) o
 
 word_of-next : (words : List (List ℕ)) (j : ℕ) (n : OptionName) → word_of (option_values words (suc j)) n ≡ next_word (name_word words j) (value_word words j) (word_of (option_values words j) n) n
-word_of-next words j n = go (is_name (name_of (name_word words j)) n)
+word_of-next words j n = go (is_option (name_of (name_word words j)) n)
   where
     go : (b : Bool) → option_map (λ (w : List ℕ × ℕ). w.0) (cond b (Some (value_word words j, 2 * j + 2)) (option_values words j n)) ≡ cond b (Some (value_word words j)) (word_of (option_values words j) n)
     go true = refl
@@ -290,7 +290,7 @@ module _ (words others : List (List ℕ)) (k : ℕ) (s : Swapped words others k)
   values-front zero h n = refl
   values-front (suc j) h n = next-same j (front-word j (omega arith)) (front-value j (omega arith)) n (values-front j (omega arith) n)
 
-  module _ (apart : (n : OptionName) → is_name (name_of (name_word words k)) n ≡ true → is_name (name_of (name_word words (suc k))) n ≡ true → ⊥) where
+  module _ (apart : (n : OptionName) → is_option (name_of (name_word words k)) n ≡ true → is_option (name_of (name_word words (suc k))) n ≡ true → ⊥) where
     values-two : (n : OptionName) → word_of (option_values others (suc (suc k))) n ≡ word_of (option_values words (suc (suc k))) n
     values-two n =
         word_of-next others (suc k) n
@@ -300,7 +300,7 @@ module _ (words others : List (List ℕ)) (k : ℕ) (s : Swapped words others k)
         ∙ ap (λ z. next_word z (value_word others k) (word_of (option_values others k) n) n) s.first_name
         ∙ ap (λ z. next_word (name_word words (suc k)) z (word_of (option_values others k) n) n) s.first_value
         ∙ ap (λ z. next_word (name_word words (suc k)) (value_word words (suc k)) z n) (values-front k (omega arith) n))
-        ∙ crossing (is_name (name_of (name_word words k)) n) (is_name (name_of (name_word words (suc k))) n) (Some (value_word words k)) (Some (value_word words (suc k))) (word_of (option_values words k) n) (apart n)
+        ∙ crossing (is_option (name_of (name_word words k)) n) (is_option (name_of (name_word words (suc k))) n) (Some (value_word words k)) (Some (value_word words (suc k))) (word_of (option_values words k) n) (apart n)
         ∙ ap (λ z. next_word (name_word words (suc k)) (value_word words (suc k)) z n) (sym (word_of-next words k n))
         ∙ sym (word_of-next words (suc k) n)
 
@@ -317,7 +317,7 @@ module _ (words others : List (List ℕ)) (k : ℕ) (s : Swapped words others k)
     -- the second name is neither the first nor its twin
     fresh-at : (n : OptionName) → is_some (option_values words (suc k) n) ≡ false → (eqb (place a.n) (place n) ≡ false) × (is_some (option_values words k n) ≡ false)
     fresh-at n e =
-        let f = free (is_name (name_of (name_word words k)) n) (value_word words k, 2 * k + 2) (option_values words k n) e in (ap (λ o. is_name o n) (sym a.named) ∙ f.0, f.1)
+        let f = free (is_option (name_of (name_word words k)) n) (value_word words k, 2 * k + 2) (option_values words k n) e in (ap (λ o. is_option o n) (sym a.named) ∙ f.0, f.1)
 
     here : (eqb (place a.n) (place c.n) ≡ false) × (is_some (option_values words k c.n) ≡ false)
     here = fresh-at c.n (has-parts (option_values words (suc k)) c.n c.fresh).0
@@ -325,10 +325,10 @@ module _ (words others : List (List ℕ)) (k : ℕ) (s : Swapped words others k)
     there : (eqb (place a.n) (place (twin c.n)) ≡ false) × (is_some (option_values words k (twin c.n)) ≡ false)
     there = fresh-at (twin c.n) (has-parts (option_values words (suc k)) c.n c.fresh).1
 
-    apart : (n : OptionName) → is_name (name_of (name_word words k)) n ≡ true → is_name (name_of (name_word words (suc k))) n ≡ true → ⊥
+    apart : (n : OptionName) → is_option (name_of (name_word words k)) n ≡ true → is_option (name_of (name_word words (suc k))) n ≡ true → ⊥
     apart n e f =
-        let e' : eqb (place a.n) (place n) ≡ true = ap (λ o. is_name o n) (sym a.named) ∙ e in
-        let f' : eqb (place c.n) (place n) ≡ true = ap (λ o. is_name o n) (sym c.named) ∙ f in
+        let e' : eqb (place a.n) (place n) ≡ true = ap (λ o. is_option o n) (sym a.named) ∙ e in
+        let f' : eqb (place c.n) (place n) ≡ true = ap (λ o. is_option o n) (sym c.named) ∙ f in
         let same : place a.n ≡ place c.n = eqb-true (place a.n) (place n) e' ∙ sym (eqb-true (place c.n) (place n) f') in
         no_both (eqb (place a.n) (place c.n)) (eq-eqb (place a.n) (place c.n) same) here.0
 
@@ -355,7 +355,7 @@ module _ (words others : List (List ℕ)) (k : ℕ) (s : Swapped words others k)
     -- what stands for the first name in the exchanged words
     free-then : (n : OptionName) → eqb (place c.n) (place n) ≡ false → is_some (option_values words k n) ≡ false → is_some (option_values others (suc k) n) ≡ false
     free-then n e f =
-        still_free (is_name (name_of (name_word others k)) n) (value_word others k, 2 * k + 2) (option_values others k n) (ap (λ z. is_name (name_of z) n) s.first_name ∙ ap (λ o. is_name o n) c.named ∙ e) (some-front k (omega arith) n ∙ f)
+        still_free (is_option (name_of (name_word others k)) n) (value_word others k, 2 * k + 2) (option_values others k n) (ap (λ z. is_option (name_of z) n) s.first_name ∙ ap (λ o. is_option o n) c.named ∙ e) (some-front k (omega arith) n ∙ f)
 
     second_right : Right verb (option_values others (suc k)) (name_word others (suc k)) (value_word others (suc k)) (nat_le (length others) (2 * suc k + 2))
     second_right =
@@ -408,10 +408,10 @@ module _ (words others : List (List ℕ)) (k : ℕ) (s : Swapped words others k)
       each : (j : ℕ) → j < pairs_in others → broken_pair verb others j ≡ None
       each j h = go j (omega (arith, h, pairs)) (cases_lt j k) (cases_lt (suc k) j) (cases_lt k j)
 
-  exchanged-made : (verb : Verb) (command : Command) → first_broken verb words ≡ None → made verb (option_values words (pairs_in words)) (length words) ≡ Ok command →
-      made verb (option_values others (pairs_in others)) (length others) ≡ Ok command
+  exchanged-made : (verb : Verb) (command : Command) → first_broken verb words ≡ None → made_command verb (option_values words (pairs_in words)) (length words) ≡ Ok command →
+      made_command verb (option_values others (pairs_in others)) (length others) ≡ Ok command
   exchanged-made verb command e f =
-      ap (λ l. made verb (option_values others (l / 2)) l) s.long ∙ made-same (option_values words (pairs_in words)) (option_values others (pairs_in words)) (values-after (apart verb a c) (pairs_in words) two) verb (length words) command f
+      ap (λ l. made_command verb (option_values others (l / 2)) l) s.long ∙ made-same (option_values words (pairs_in words)) (option_values others (pairs_in words)) (values-after (apart verb a c) (pairs_in words) two) verb (length words) command f
     where
       two : suc k < pairs_in words
       two = let l = s.enough in omega (arith, l)
@@ -426,9 +426,9 @@ module _ (words others : List (List ℕ)) (k : ℕ) (s : Swapped words others k)
   as-same None command e = cc
   as-same (Some verb) command e = go (first_broken verb words) refl e
     where
-      go : (o : Option WordError) → first_broken verb words ≡ o → unless o (made verb (option_values words (pairs_in words)) (length words)) ≡ Ok command → reading_as (Some verb) others ≡ Ok command
+      go : (o : Option WordError) → first_broken verb words ≡ o → unless_error o (made_command verb (option_values words (pairs_in words)) (length words)) ≡ Ok command → reading_as (Some verb) others ≡ Ok command
       go (Some x) f g = cc
-      go None f g = ap (λ o. unless o (made verb (option_values others (pairs_in others)) (length others))) (exchanged-right verb f) ∙ exchanged-made verb command f g
+      go None f g = ap (λ o. unless_error o (made_command verb (option_values others (pairs_in others)) (length others))) (exchanged-right verb f) ∙ exchanged-made verb command f g
 
   exchange : (command : Command) → reading words ≡ Ok command → reading others ≡ Ok command
   unfolding reading

@@ -3,11 +3,11 @@ use Rattle.std.proofs.Common.{◌≡◌, ℕ, ◌+◌, ◌^◌, Bool, true, fals
 use Rattle.std.specs.Prelude.{unwrap_or, option_and_then, is_some, nat_le}
 use Rattle.std.specs.Option.{option_map, option_or}
 use Rattle.std.proofs.lemmas.Option.{none-some}
-use Rattle.ped_words.specs.Making.{budget_of, command_of, count_fits, default_depth, depth_for, depth_of, first_late, gamma_fits, gamma_from, gamma_of, hash_depth, holds_for, is_gamma, is_size, late_rules, limits_of, made, made_of, rounds_of, settings_of, size_fits, unfit, workers_of}
+use Rattle.ped_words.specs.Making.{budget_of, command_of, count_fits, default_depth, depth_for, depth_of, first_late, gamma_fits, gamma_from, gamma_of, hash_depth, holds_for, is_gamma, is_size, late_rules, limits_of, made_command, made_of, rounds_of, settings_of, size_fits, unfit, workers_of}
 use Rattle.ped_words.specs.Pedigrees.{last_rank}
 use Rattle.ped_words.specs.Rules.{breaks}
-use Rattle.ped_words.specs.Table.{value_type_of, show_of, shape_of, takes}
-use Rattle.ped_words.specs.Values.{OptionValues, list, list_as, number, number_as, pedigree, pedigree_in, shape, show, value}
+use Rattle.ped_words.specs.Table.{value_type_of, show_of, shape_of, takes_option}
+use Rattle.ped_words.specs.Values.{OptionValues, list, list_as, number_value, number_as, pedigree, pedigree_in, shape, show, value}
 use Rattle.ped_words.specs.declared.command.Command.{Command}
 use Rattle.ped_words.specs.declared.command.Command.TheVariants as command
 use Rattle.ped_words.specs.declared.command.Settings.{Settings}
@@ -62,7 +62,7 @@ module _ (values others : OptionValues) (same : (n : OptionName) → word_of oth
   value-same : {X : Type 0} (read : List ℕ → Option X) (n : OptionName) → value read others n ≡ value read values n
   value-same read n = value-word read others n ∙ ap (option_and_then read) (same n) ∙ sym (value-word read values n)
 
-  number-same : (n : OptionName) → number others n ≡ number values n
+  number-same : (n : OptionName) → number_value others n ≡ number_value values n
   number-same n = value-same (number_as (value_type_of n)) n
 
   list-same : (n : OptionName) → list others n ≡ list values n
@@ -94,7 +94,7 @@ module _ (values others : OptionValues) (same : (n : OptionName) → word_of oth
 
   gamma-same : (depth : ℕ) → gamma_of others depth ≡ gamma_of values depth
   gamma-same depth =
-      ap (λ o. gamma_from o (unwrap_or (number others name.Seed) 0) depth) (list-same name.Gamma)
+      ap (λ o. gamma_from o (unwrap_or (number_value others name.Seed) 0) depth) (list-same name.Gamma)
       ∙ ap (λ o. gamma_from (list values name.Gamma) (unwrap_or o 0) depth) (number-same name.Seed)
 
   settings-same : settings_of others ≡ settings_of values
@@ -108,8 +108,8 @@ module _ (values others : OptionValues) (same : (n : OptionName) → word_of oth
   command-same verb.Run = ap (λ z. Some (command.Run z (workers_of others))) settings-same ∙ ap (λ z. Some (command.Run (settings_of values) z)) workers-same
   command-same verb.Serial = ap (λ z. Some (command.Serial z)) settings-same
   command-same verb.Sim =
-      ap (λ z. option_map (λ n. command.Sim z (workers_of others) n) (number others name.Number)) settings-same
-      ∙ ap (λ z. option_map (λ n. command.Sim (settings_of values) z n) (number others name.Number)) workers-same
+      ap (λ z. option_map (λ n. command.Sim z (workers_of others) n) (number_value others name.Number)) settings-same
+      ∙ ap (λ z. option_map (λ n. command.Sim (settings_of values) z n) (number_value others name.Number)) workers-same
       ∙ ap (λ z. option_map (λ n. command.Sim (settings_of values) (workers_of values) n) z) (number-same name.Number)
   command-same verb.Replay =
       ap (λ z. option_map (λ j. command.Replay z j) (pedigree others)) settings-same ∙ ap (λ z. option_map (λ j. command.Replay (settings_of values) j) z) pedigree-same
@@ -121,13 +121,13 @@ module _ (values others : OptionValues) (same : (n : OptionName) → word_of oth
   command-same verb.Fmt = refl
   command-same verb.Gen =
       ap (λ z. option_and_then (λ s. option_map (λ n. command.Gen s n) z) (shape others)) (number-same name.Size)
-      ∙ ap (λ z. option_and_then (λ s. option_map (λ n. command.Gen s n) (number values name.Size)) z) shape-same
+      ∙ ap (λ z. option_and_then (λ s. option_map (λ n. command.Gen s n) (number_value values name.Size)) z) shape-same
   command-same verb.Stream =
-      ap (λ z. option_and_then (λ j. option_map (λ n. command.Stream z j n (rounds_of others) (number others name.Below)) (number others name.Count)) (pedigree others)) (gamma-same hash_depth)
-      ∙ ap (λ z. option_and_then (λ j. option_map (λ n. command.Stream (gamma_of values hash_depth) j n z (number others name.Below)) (number others name.Count)) (pedigree others)) rounds-same
-      ∙ ap (λ z. option_and_then (λ j. option_map (λ n. command.Stream (gamma_of values hash_depth) j n (rounds_of values) z) (number others name.Count)) (pedigree others)) (number-same name.Below)
-      ∙ ap (λ z. option_and_then (λ j. option_map (λ n. command.Stream (gamma_of values hash_depth) j n (rounds_of values) (number values name.Below)) z) (pedigree others)) (number-same name.Count)
-      ∙ ap (λ z. option_and_then (λ j. option_map (λ n. command.Stream (gamma_of values hash_depth) j n (rounds_of values) (number values name.Below)) (number values name.Count)) z) pedigree-same
+      ap (λ z. option_and_then (λ j. option_map (λ n. command.Stream z j n (rounds_of others) (number_value others name.Below)) (number_value others name.Count)) (pedigree others)) (gamma-same hash_depth)
+      ∙ ap (λ z. option_and_then (λ j. option_map (λ n. command.Stream (gamma_of values hash_depth) j n z (number_value others name.Below)) (number_value others name.Count)) (pedigree others)) rounds-same
+      ∙ ap (λ z. option_and_then (λ j. option_map (λ n. command.Stream (gamma_of values hash_depth) j n (rounds_of values) z) (number_value others name.Count)) (pedigree others)) (number-same name.Below)
+      ∙ ap (λ z. option_and_then (λ j. option_map (λ n. command.Stream (gamma_of values hash_depth) j n (rounds_of values) (number_value values name.Below)) z) (pedigree others)) (number-same name.Count)
+      ∙ ap (λ z. option_and_then (λ j. option_map (λ n. command.Stream (gamma_of values hash_depth) j n (rounds_of values) (number_value values name.Below)) (number_value values name.Count)) z) pedigree-same
   command-same verb.Span = ap (λ z. Some (command.Span z)) settings-same
   command-same verb.Batch =
       ap (λ z. option_map (λ s. command.Batch s z (shown others) (rounds_of others) (workers_of others)) (list others name.Seeds)) limits-same
@@ -149,16 +149,16 @@ module _ (values others : OptionValues) (same : (n : OptionName) → word_of oth
   size_fits-same : size_fits others ≡ size_fits values
   size_fits-same =
       ap (λ z. holds_for (λ s. holds_for (λ n. is_size s n) z) (shape others)) (number-same name.Size)
-      ∙ ap (λ z. holds_for (λ s. holds_for (λ n. is_size s n) (number values name.Size)) z) shape-same
+      ∙ ap (λ z. holds_for (λ s. holds_for (λ n. is_size s n) (number_value values name.Size)) z) shape-same
 
   count_fits-same : count_fits others ≡ count_fits values
   count_fits-same =
       ap (λ z. holds_for (λ j. holds_for (λ n. nat_le (last_rank j + n) (2 ^ 32)) z) (pedigree others)) (number-same name.Count)
-      ∙ ap (λ z. holds_for (λ j. holds_for (λ n. nat_le (last_rank j + n) (2 ^ 32)) (number values name.Count)) z) pedigree-same
+      ∙ ap (λ z. holds_for (λ j. holds_for (λ n. nat_le (last_rank j + n) (2 ^ 32)) (number_value values name.Count)) z) pedigree-same
 
   -- what is in range stays so
-  late-one : (v : Verb) (n : OptionName) (fits other : Bool) → other ≡ fits → (if takes v n then unfit values n fits else None) ≡ None → (if takes v n then unfit others n other else None) ≡ None
-  late-one v n fits other e f = by_takes (takes v n) f
+  late-one : (v : Verb) (n : OptionName) (fits other : Bool) → other ≡ fits → (if takes_option v n then unfit values n fits else None) ≡ None → (if takes_option v n then unfit others n other else None) ≡ None
+  late-one v n fits other e f = by_takes (takes_option v n) f
     where
       absent : (o p : Option (List ℕ × ℕ)) → option_map (λ (w : List ℕ × ℕ). w.0) p ≡ option_map (λ (w : List ℕ × ℕ). w.0) o →
           option_map (λ i. breaks rule.OutOfRange i) (option_map (λ (w : List ℕ × ℕ). w.1) o) ≡ None → option_map (λ i. breaks rule.OutOfRange i) (option_map (λ (w : List ℕ × ℕ). w.1) p) ≡ None
@@ -181,7 +181,7 @@ module _ (values others : OptionValues) (same : (n : OptionName) → word_of oth
       let c = or_none _ _ b.1 in
       none_or _ _ (late-one v name.Gamma _ _ (gamma_fits-same v) a.0) (none_or _ _ (late-one v name.Size _ _ size_fits-same b.0) (none_or _ _ (late-one v name.Count _ _ count_fits-same c.0) refl))
 
-  pub made-same : (v : Verb) (n : ℕ) (c : Command) → made v values n ≡ Ok c → made v others n ≡ Ok c
+  pub made-same : (v : Verb) (n : ℕ) (c : Command) → made_command v values n ≡ Ok c → made_command v others n ≡ Ok c
   made-same v n c e =
       let r = made_ok (first_late v values (late_rules v values)) n (command_of v values) c e in
       ap (λ z. made_of z n (command_of v others)) (late-none v r.0) ∙ ap (made_of None n) (command-same v ∙ r.1)

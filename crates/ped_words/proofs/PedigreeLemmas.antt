@@ -19,7 +19,7 @@ use Rattle.ped_path.specs.Path.{IsRank}
 use Rattle.ped_path.specs.Text.{ped_text, stopped}
 use Rattle.ped_path.specs.declared.parse.PedTextError.{PedTextError}
 use Rattle.ped_path.specs.declared.parse.PedTextError.TheVariants.{Empty, BadByte, Zeros, TooBig, TooLong, Memory}
-use Rattle.ped_words.specs.Numbers.{is_number, value_of}
+use Rattle.ped_words.specs.Numbers.{is_number, number_in_word}
 use Rattle.ped_words.specs.Pedigrees.{ped_of, ped_rule, rank_rule, ranks_in, ranks_rule}
 use Rattle.ped_words.specs.Rules.{text_rule}
 use Rattle.ped_words.specs.declared.rule.Rule.{Rule}
@@ -112,25 +112,25 @@ goes_on (d ∷ ds) byte after all other =
 
 abbrev judged_part : List ℕ → List ℕ → Option Rule
 judged_part digits part =
-    cond (is_number digits) (cond (ltb (value_of digits) (2 ^ 32)) (cond (eqb (length digits) (length part)) None (Some BadValue)) (Some OutOfRange)) (Some BadValue)
+    cond (is_number digits) (cond (ltb (number_in_word digits) (2 ^ 32)) (cond (eqb (length digits) (length part)) None (Some BadValue)) (Some OutOfRange)) (Some BadValue)
 
 module _ (part digits : List ℕ) (front : take_while is_ascii_digit part ≡ digits) where
   no_number : is_number digits ≡ false → rank_rule part ≡ Some BadValue
   no_number bad =
-      ap (λ ds. judged_part ds part) front ∙ ap (λ b. cond b (cond (ltb (value_of digits) (2 ^ 32)) (cond (eqb (length digits) (length part)) None (Some BadValue)) (Some OutOfRange)) (Some BadValue)) bad
+      ap (λ ds. judged_part ds part) front ∙ ap (λ b. cond b (cond (ltb (number_in_word digits) (2 ^ 32)) (cond (eqb (length digits) (length part)) None (Some BadValue)) (Some OutOfRange)) (Some BadValue)) bad
 
-  is_ranged : (b : Bool) → is_number digits ≡ true → ltb (value_of digits) (2 ^ 32) ≡ b → rank_rule part ≡ cond b (cond (eqb (length digits) (length part)) None (Some BadValue)) (Some OutOfRange)
+  is_ranged : (b : Bool) → is_number digits ≡ true → ltb (number_in_word digits) (2 ^ 32) ≡ b → rank_rule part ≡ cond b (cond (eqb (length digits) (length part)) None (Some BadValue)) (Some OutOfRange)
   is_ranged b good small =
-      ap (λ ds. judged_part ds part) front ∙ ap (λ t. cond t (cond (ltb (value_of digits) (2 ^ 32)) (cond (eqb (length digits) (length part)) None (Some BadValue)) (Some OutOfRange)) (Some BadValue)) good ∙ ap (λ t. cond t (cond (eqb (length digits) (length part)) None (Some BadValue)) (Some OutOfRange)) small
+      ap (λ ds. judged_part ds part) front ∙ ap (λ t. cond t (cond (ltb (number_in_word digits) (2 ^ 32)) (cond (eqb (length digits) (length part)) None (Some BadValue)) (Some OutOfRange)) (Some BadValue)) good ∙ ap (λ t. cond t (cond (eqb (length digits) (length part)) None (Some BadValue)) (Some OutOfRange)) small
 
-  is_rank : (b : Bool) → is_number digits ≡ true → value_of digits < 2 ^ 32 → eqb (length digits) (length part) ≡ b → rank_rule part ≡ cond b None (Some BadValue)
-  is_rank b good small whole = is_ranged true good (ltb_small (value_of digits) small) ∙ ap (λ t. cond t None (Some BadValue)) whole
+  is_rank : (b : Bool) → is_number digits ≡ true → number_in_word digits < 2 ^ 32 → eqb (length digits) (length part) ≡ b → rank_rule part ≡ cond b None (Some BadValue)
+  is_rank b good small whole = is_ranged true good (ltb_small (number_in_word digits) small) ∙ ap (λ t. cond t None (Some BadValue)) whole
     where
       ltb_small : (v : ℕ) → v < 2 ^ 32 → ltb v (2 ^ 32) ≡ true
       ltb_small v small = grind (arith, nat_tests)
 
-  is_big : is_number digits ≡ true → 2 ^ 32 ≤ value_of digits → rank_rule part ≡ Some OutOfRange
-  is_big good big = is_ranged false good (ltb_big (value_of digits) big)
+  is_big : is_number digits ≡ true → 2 ^ 32 ≤ number_in_word digits → rank_rule part ≡ Some OutOfRange
+  is_big good big = is_ranged false good (ltb_big (number_in_word digits) big)
     where
       ltb_big : (v : ℕ) → 2 ^ 32 ≤ v → ltb v (2 ^ 32) ≡ false
       ltb_big v big = grind (arith, nat_tests)
@@ -166,10 +166,10 @@ rank_digits r rank = digits_decimal numerals r (rank_small r rank)
 rank_number : (r : ℕ) → IsRank r → is_number (decimal r) ≡ true
 rank_number r rank = number_from (decimal r) (decimal_nonempty r (rank_small r rank)) (rank_digits r rank) (rank_first r rank)
 
-rank_value : (r : ℕ) → IsRank r → value_of (decimal r) ≡ r
+rank_value : (r : ℕ) → IsRank r → number_in_word (decimal r) ≡ r
 rank_value r rank = digits_value-decimal numerals r (rank_small r rank)
 
-rank_fits : (r : ℕ) → IsRank r → value_of (decimal r) < 2 ^ 32
+rank_fits : (r : ℕ) → IsRank r → number_in_word (decimal r) < 2 ^ 32
 rank_fits r rank = let v = rank_value r rank in omega (arith, v)
 
 eqb_same : (n : ℕ) → eqb n n ≡ true
@@ -315,9 +315,9 @@ parts_whole x [] all =
 parts_whole x (y ∷ ys) all =
     ap ranks_in (text_more x y ys) ∙ slice_split_at (λ c. eqb c 46) (decimal x) 46 (ped_text (y ∷ ys)) (no_stops (decimal x) (rank_digits x (all 0 0 (omega arith)))) refl ∙ ap (λ t. decimal x ∷ t) (parts_whole y ys (All-rest x (y ∷ ys) all))
 
-values_back : (ranks : List ℕ) → All IsRank ranks → map value_of (map decimal ranks) ≡ ranks
+values_back : (ranks : List ℕ) → All IsRank ranks → map number_in_word (map decimal ranks) ≡ ranks
 values_back [] all = refl
-values_back (q ∷ qs) all = ap (λ n. n ∷ map value_of (map decimal qs)) (rank_value q (all 0 0 (omega arith))) ∙ ap (λ t. q ∷ t) (values_back qs (All-rest q qs all))
+values_back (q ∷ qs) all = ap (λ n. n ∷ map number_in_word (map decimal qs)) (rank_value q (all 0 0 (omega arith))) ∙ ap (λ t. q ∷ t) (values_back qs (All-rest q qs all))
 
 -- The text of at most 512 ranks is good, and these are its ranks.
 pub ped_good : (text j : List ℕ) → text ≡ ped_text j → 0 < length j → All IsRank j → length j ≤ 512 → (ped_rule text ≡ None) × (j ≡ ped_of text)
@@ -327,5 +327,5 @@ ped_good text (x ∷ xs) is some ranks few =
     let parts : ranks_in text ≡ map decimal (x ∷ xs) = ap ranks_in is ∙ parts_whole x xs ranks in
     let whole : map decimal (x ∷ xs) ≡ map decimal (x ∷ xs) ++ [] = sym (append-nil (map decimal (x ∷ xs))) in (
       ap (λ t. ranks_rule t 512) (parts ∙ whole) ∙ rules_after (x ∷ xs) [] 512 (512 - length (x ∷ xs)) ranks (omega (arith, few)),
-      sym (ap (map value_of) parts ∙ values_back (x ∷ xs) ranks),
+      sym (ap (map number_in_word) parts ∙ values_back (x ∷ xs) ranks),
     )

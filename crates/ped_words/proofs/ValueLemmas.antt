@@ -3,8 +3,8 @@ use Rattle.std.proofs.Common.{◌≡◌, ℕ, ◌+◌, ◌*◌, ◌<◌, ◌≤�
 use Rattle.std.specs.Prelude.{is_some}
 use Rattle.ped_words.specs.Judging.{broken_name, name_rule}
 use Rattle.ped_words.specs.Table.{name_of}
-use Rattle.ped_words.specs.Given.{IsPlace, all_names, count_among, count_of, one_of}
-use Rattle.ped_words.specs.Values.{OptionValues, has, is_name, name_word, value_word, option_values}
+use Rattle.ped_words.specs.Given.{IsPlace, all_names, count_among, given_count, one_of}
+use Rattle.ped_words.specs.Values.{OptionValues, has, is_option, name_word, value_word, option_values}
 use Rattle.ped_words.specs.declared.table.OptionName.{OptionName}
 use Rattle.ped_words.specs.declared.table.OptionName.TheVariants as name
 use Rattle.ped_words.specs.declared.table.Verb.{Verb}
@@ -25,14 +25,14 @@ count_among_le : (names : List OptionName) (values : OptionValues) → count_amo
 count_among_le [] values = omega arith
 count_among_le (n ∷ names) values = let one = one_le (is_some (values n)) in let more = count_among_le names values in omega (arith, one, more)
 
-pub count_le : (values : OptionValues) → count_of values ≤ 14
+pub count_le : (values : OptionValues) → given_count values ≤ 14
 count_le values = count_among_le all_names values
 
 -- the values with one that an option gives
 abbrev with_value : OptionName → (List ℕ × ℕ) → OptionValues → OptionValues
-with_value n w values m = cond (is_name (Some n) m) (Some w) (values m)
+with_value n w values m = cond (is_option (Some n) m) (Some w) (values m)
 
-count_more : (n : OptionName) (w : List ℕ × ℕ) (values : OptionValues) → has values n ≡ false → count_of (with_value n w values) ≡ count_of values + 1
+count_more : (n : OptionName) (w : List ℕ × ℕ) (values : OptionValues) → has values n ≡ false → given_count (with_value n w values) ≡ given_count values + 1
 count_more name.Seed w values fresh = let b : one_of (is_some (values name.Seed)) ≡ 0 = ap one_of (or_left _ _ fresh) in omega (arith, b)
 count_more name.Gamma w values fresh = let b : one_of (is_some (values name.Gamma)) ≡ 0 = ap one_of (or_right _ _ fresh) in omega (arith, b)
 count_more name.Depth w values fresh = let b : one_of (is_some (values name.Depth)) ≡ 0 = ap one_of fresh in omega (arith, b)
@@ -50,23 +50,23 @@ count_more name.Seeds w values fresh = let b : one_of (is_some (values name.Seed
 
 -- the values with pair k, whose name is this one
 abbrev next_values : List (List ℕ) → ℕ → Option OptionName → OptionValues
-next_values words k o m = cond (is_name o m) (Some (value_word words k, 2 * k + 2)) (option_values words k m)
+next_values words k o m = cond (is_option o m) (Some (value_word words k, 2 * k + 2)) (option_values words k m)
 
-pub count_pair : (words : List (List ℕ)) (k : ℕ) (n : OptionName) → name_of (name_word words k) ≡ Some n → has (option_values words k) n ≡ false → count_of (option_values words (k + 1)) ≡ count_of (option_values words k) + 1
-count_pair words k n named fresh = rw add-one (ap (λ o. count_of (next_values words k o)) named ∙ count_more n (value_word words k, 2 * k + 2) (option_values words k) fresh)
+pub count_pair : (words : List (List ℕ)) (k : ℕ) (n : OptionName) → name_of (name_word words k) ≡ Some n → has (option_values words k) n ≡ false → given_count (option_values words (k + 1)) ≡ given_count (option_values words k) + 1
+count_pair words k n named fresh = rw add-one (ap (λ o. given_count (next_values words k o)) named ∙ count_more n (value_word words k, 2 * k + 2) (option_values words k) fresh)
 
 -- where the value of an option stands, one pair more
 
 module _ (words : List (List ℕ)) (k : ℕ) (n : OptionName) where
-  here : (b : Bool) → is_name (name_of (name_word words k)) n ≡ b → option_values words (k + 1) n ≡ cond b (Some (value_word words k, 2 * k + 2)) (option_values words k n)
+  here : (b : Bool) → is_option (name_of (name_word words k)) n ≡ b → option_values words (k + 1) n ≡ cond b (Some (value_word words k, 2 * k + 2)) (option_values words k n)
   here b named = rw add-one (ap (λ t. cond t (Some (value_word words k, 2 * k + 2)) (option_values words k n)) named)
 
-  pub place_here : (word : List ℕ) → word ≡ name_word words k → is_name (name_of word) n ≡ true → 2 * k + 2 < length words → IsPlace words (k + 1) n (Some (2 * k + 2))
-  place_here word is named within = (here true (ap (λ w. is_name (name_of w) n) (sym is) ∙ named), within)
+  pub place_here : (word : List ℕ) → word ≡ name_word words k → is_option (name_of word) n ≡ true → 2 * k + 2 < length words → IsPlace words (k + 1) n (Some (2 * k + 2))
+  place_here word is named within = (here true (ap (λ w. is_option (name_of w) n) (sym is) ∙ named), within)
 
-  pub place_before : (word : List ℕ) → word ≡ name_word words k → is_name (name_of word) n ≡ false → (o : Option ℕ) → IsPlace words k n o → IsPlace words (k + 1) n o
-  place_before word is named None p = here false (ap (λ w. is_name (name_of w) n) (sym is) ∙ named) ∙ p
-  place_before word is named (Some at) p = (here false (ap (λ w. is_name (name_of w) n) (sym is) ∙ named) ∙ p.0, p.1)
+  pub place_before : (word : List ℕ) → word ≡ name_word words k → is_option (name_of word) n ≡ false → (o : Option ℕ) → IsPlace words k n o → IsPlace words (k + 1) n o
+  place_before word is named None p = here false (ap (λ w. is_option (name_of w) n) (sym is) ∙ named) ∙ p
+  place_before word is named (Some at) p = (here false (ap (λ w. is_option (name_of w) n) (sym is) ∙ named) ∙ p.0, p.1)
 
 pub same_name : (verb : Verb) (words : List (List ℕ)) (k len last : ℕ) (given : OptionValues) (word : List ℕ) → given ≡ option_values words k → word ≡ name_word words k → len ≡ length words → last ≡ 2 * k + 2 →
     broken_name verb words k ≡ name_rule verb given word (leb len last)

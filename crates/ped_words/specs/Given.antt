@@ -3,7 +3,7 @@
 use Rattle.std.specs.Prelude.{◌≡◌, ℕ, ◌+◌, ◌^◌, ◌<◌, ◌≤◌, Bool, true, if◌then◌else◌, is_some, Option, Some, None, List, [], ◌∷◌, length}
 use Rattle.ped_words.specs.Numbers.{are_few}
 use Rattle.ped_words.specs.Table.{value_type_of}
-use Rattle.ped_words.specs.Values.{OptionValues, IsInRange, index, list, number, option_values, word_at}
+use Rattle.ped_words.specs.Values.{OptionValues, IsInRange, index, list, number_value, option_values, word_at}
 use Rattle.ped_words.specs.declared.table.ValueType.{ValueType}
 use Rattle.ped_words.specs.declared.table.ValueType.TheVariants as value_type
 use Rattle.ped_words.specs.declared.table.OptionName.{OptionName}
@@ -29,8 +29,8 @@ IsSmall _ = ⊥
 
 -- This is the number that an option gives, and the index of its word.
 abbrev pub IsPlaced : OptionValues → OptionName → Option (ℕ × ℕ) → Type 0
-IsPlaced values n None = number values n ≡ None
-IsPlaced values n (Some placed) = (number values n ≡ Some placed.0) × (index values n ≡ Some placed.1) × IsInRange (value_type_of n) placed.0
+IsPlaced values n None = number_value values n ≡ None
+IsPlaced values n (Some placed) = (number_value values n ≡ Some placed.0) × (index values n ≡ Some placed.1) × IsInRange (value_type_of n) placed.0
 
 -- This is the list that an option gives, and the index of its word.
 abbrev pub IsPlacedList : OptionValues → OptionName → Option (List ℕ × ℕ) → Type 0
@@ -54,5 +54,5 @@ abbrev pub count_among : List OptionName → OptionValues → ℕ
 count_among [] values = 0
 count_among (n ∷ names) values = one_of (is_some (values n)) + count_among names values
 
-abbrev pub count_of : OptionValues → ℕ
-count_of values = count_among all_names values
+abbrev pub given_count : OptionValues → ℕ
+given_count values = count_among all_names values

@@ -5,7 +5,7 @@ use Rattle.std.specs.Option.{option_or}
 use Rattle.ped_words.specs.Numbers.{list_rule, number_rule}
 use Rattle.ped_words.specs.Pedigrees.{ped_rule}
 use Rattle.ped_words.specs.Rules.{broken_at}
-use Rattle.ped_words.specs.Table.{value_type_of, name_of, shape_of, show_of, takes}
+use Rattle.ped_words.specs.Table.{value_type_of, name_of, shape_of, show_of, takes_option}
 use Rattle.ped_words.specs.Values.{OptionValues, has, name_word, value_word, option_values}
 use Rattle.ped_words.specs.declared.rule.Rule.{Rule}
 use Rattle.ped_words.specs.declared.rule.Rule.TheVariants as rule
@@ -30,7 +30,7 @@ holds_of test (Some n) = test n
 abbrev pub name_rules : Verb → OptionValues → List ℕ → Bool → List (Rule × Bool)
 name_rules verb given word is_last =
     (rule.StrayWord, not (starts_with nat_eq word (codes "--"))) ∷
-    (rule.UnknownOption, not (holds_of (takes verb) (name_of word))) ∷
+    (rule.UnknownOption, not (holds_of (takes_option verb) (name_of word))) ∷
     (rule.OptionTwice, holds_of (has given) (name_of word)) ∷
     (rule.MissingValue, is_last) ∷
     []

@@ -10,9 +10,9 @@ use Rattle.ped_gen.specs.declared.shape.Shape.TheVariants.{Fib, Tree, Loop}
 use Rattle.serial_meaning.specs.declared.plan.Limits.{Limits}
 use Rattle.serial_meaning.specs.declared.plan.Show.TheVariants.{Plain}
 use Rattle.ped_words.specs.Pedigrees.{last_rank}
-use Rattle.ped_words.specs.Rules.{breaks, unless}
-use Rattle.ped_words.specs.Table.{takes}
-use Rattle.ped_words.specs.Values.{OptionValues, index, list, number, pedigree, shape, show}
+use Rattle.ped_words.specs.Rules.{breaks, unless_error}
+use Rattle.ped_words.specs.Table.{takes_option}
+use Rattle.ped_words.specs.Values.{OptionValues, index, list, number_value, pedigree, shape, show}
 use Rattle.ped_words.specs.declared.command.Command.{Command}
 use Rattle.ped_words.specs.declared.command.Command.TheVariants as command
 use Rattle.ped_words.specs.declared.command.Settings.{Settings}
@@ -33,19 +33,19 @@ abbrev pub hash_depth : ℕ
 hash_depth = 512
 
 abbrev pub depth_of : OptionValues → ℕ
-depth_of values = unwrap_or (number values name.Depth) default_depth
+depth_of values = unwrap_or (number_value values name.Depth) default_depth
 
 abbrev pub budget_of : OptionValues → ℕ
-budget_of values = unwrap_or (number values name.Budget) 1000000
+budget_of values = unwrap_or (number_value values name.Budget) 1000000
 
 abbrev pub limits_of : OptionValues → Limits
 limits_of values = record { depth = depth_of values; budget = budget_of values }
 
 abbrev pub workers_of : OptionValues → ℕ
-workers_of values = unwrap_or (number values name.Workers) 4
+workers_of values = unwrap_or (number_value values name.Workers) 4
 
 abbrev pub rounds_of : OptionValues → ℕ
-rounds_of values = unwrap_or (number values name.Rounds) 4
+rounds_of values = unwrap_or (number_value values name.Rounds) 4
 
 -- a list with zeros after it, or else the coefficients of a seed
 abbrev pub gamma_from : Option (List ℕ) → ℕ → ℕ → List ℕ
@@ -54,7 +54,7 @@ gamma_from (Some given) seed depth = padded given depth
 
 -- by default the coefficients of seed 0
 abbrev pub gamma_of : OptionValues → ℕ → List ℕ
-gamma_of values depth = gamma_from (list values name.Gamma) (unwrap_or (number values name.Seed) 0) depth
+gamma_of values depth = gamma_from (list values name.Gamma) (unwrap_or (number_value values name.Seed) 0) depth
 
 abbrev pub settings_of : OptionValues → Settings
 settings_of values = record {
@@ -68,14 +68,14 @@ settings_of values = record {
 abbrev pub command_of : Verb → OptionValues → Option Command
 command_of verb.Run values = Some (command.Run (settings_of values) (workers_of values))
 command_of verb.Serial values = Some (command.Serial (settings_of values))
-command_of verb.Sim values = option_map (λ n. command.Sim (settings_of values) (workers_of values) n) (number values name.Number)
+command_of verb.Sim values = option_map (λ n. command.Sim (settings_of values) (workers_of values) n) (number_value values name.Number)
 command_of verb.Replay values = option_map (λ j. command.Replay (settings_of values) j) (pedigree values)
 command_of verb.Hash values = option_map (λ j. command.Hash (gamma_of values hash_depth) j (rounds_of values)) (pedigree values)
 command_of verb.Check values = Some command.Check
 command_of verb.Fmt values = Some command.Fmt
-command_of verb.Gen values = option_and_then (λ s. option_map (λ n. command.Gen s n) (number values name.Size)) (shape values)
+command_of verb.Gen values = option_and_then (λ s. option_map (λ n. command.Gen s n) (number_value values name.Size)) (shape values)
 command_of verb.Stream values =
-    option_and_then (λ j. option_map (λ n. command.Stream (gamma_of values hash_depth) j n (rounds_of values) (number values name.Below)) (number values name.Count)) (pedigree values)
+    option_and_then (λ j. option_map (λ n. command.Stream (gamma_of values hash_depth) j n (rounds_of values) (number_value values name.Below)) (number_value values name.Count)) (pedigree values)
 command_of verb.Span values = Some (command.Span (settings_of values))
 command_of verb.Batch values =
     option_map (λ s. command.Batch s (limits_of values) (unwrap_or (show values) Plain) (rounds_of values) (workers_of values)) (list values name.Seeds)
@@ -110,11 +110,11 @@ is_size Tree n = nat_le n 20
 is_size Loop n = nat_le 1 n && nat_le n 4096
 
 abbrev pub size_fits : OptionValues → Bool
-size_fits values = holds_for (λ s. holds_for (λ n. is_size s n) (number values name.Size)) (shape values)
+size_fits values = holds_for (λ s. holds_for (λ n. is_size s n) (number_value values name.Size)) (shape values)
 
 -- The ranks from the pedigree's last one on are enough for the count.
 abbrev pub count_fits : OptionValues → Bool
-count_fits values = holds_for (λ j. holds_for (λ n. nat_le (last_rank j + n) (2 ^ 32)) (number values name.Count)) (pedigree values)
+count_fits values = holds_for (λ j. holds_for (λ n. nat_le (last_rank j + n) (2 ^ 32)) (number_value values name.Count)) (pedigree values)
 
 -- What only all words together show, in the order in which it is judged: of each of these options, whether its value is in range.
 abbrev pub late_rules : Verb → OptionValues → List (OptionName × Bool)
@@ -127,12 +127,12 @@ unfit values n fits = if fits then None else option_map (λ i. breaks rule.OutOf
 -- the first of these rules that is broken, of the options that the command has
 abbrev pub first_late : Verb → OptionValues → List (OptionName × Bool) → Option WordError
 first_late verb values [] = None
-first_late verb values (late ∷ others) = option_or (if takes verb late.0 then unfit values late.0 late.1 else None) (first_late verb values others)
+first_late verb values (late ∷ others) = option_or (if takes_option verb late.0 then unfit values late.0 late.1 else None) (first_late verb values others)
 
 abbrev pub made_of : Option WordError → ℕ → Option Command → Result Command WordError
 made_of broken words None = Err (breaks rule.MissingOption words)
-made_of broken words (Some c) = unless broken (Ok c)
+made_of broken words (Some c) = unless_error broken (Ok c)
 
 -- the command that these values make after so many words, or the first rule that they break there
-abbrev pub made : Verb → OptionValues → ℕ → Result Command WordError
-made verb values words = made_of (first_late verb values (late_rules verb values)) words (command_of verb values)
+abbrev pub made_command : Verb → OptionValues → ℕ → Result Command WordError
+made_command verb values words = made_of (first_late verb values (late_rules verb values)) words (command_of verb values)

@@ -11,12 +11,12 @@ use Rattle.ped_words.specs.declared.rule.Rule.TheVariants.{BadValue, OutOfRange}
 abbrev pub is_number : List ℕ → Bool
 is_number word = nat_lt 0 (length word) && (all_ascii_digits word && (nat_le (length word) 1 || not (slice_index word 0 == 48)))
 
-abbrev pub value_of : List ℕ → ℕ
-value_of word = digits_value 10 word
+abbrev pub number_in_word : List ℕ → ℕ
+number_in_word word = digits_value 10 word
 
 -- the rule that a word breaks where a number of this range is due
 abbrev pub number_rule : ℕ → ℕ → List ℕ → Option Rule
-number_rule least most word = if is_number word then (if nat_le least (value_of word) && nat_le (value_of word) most then None else Some OutOfRange) else Some BadValue
+number_rule least most word = if is_number word then (if nat_le least (number_in_word word) && nat_le (number_in_word word) most then None else Some OutOfRange) else Some BadValue
 
 -- what stands between the commas of a word
 abbrev pub parts_of : List ℕ → List (List ℕ)
@@ -31,13 +31,13 @@ are_few (Some most) count = nat_le count most
 abbrev pub list_rule : Option ℕ → List ℕ → Option Rule
 list_rule most word =
     if list_all is_number (parts_of word)
-    then (if are_few most (length (parts_of word)) && list_all (λ part. nat_lt (value_of part) (2 ^ 64)) (parts_of word) then None else Some OutOfRange)
+    then (if are_few most (length (parts_of word)) && list_all (λ part. nat_lt (number_in_word part) (2 ^ 64)) (parts_of word) then None else Some OutOfRange)
     else Some BadValue
 
 abbrev pub numbers_of : List ℕ → List ℕ
-numbers_of word = map value_of (parts_of word)
+numbers_of word = map number_in_word (parts_of word)
 
 -- These are the values of these words, of which there are none where one is above every `u64`.
 abbrev pub AreValues : List (Bor (List ℕ)) → Option (List ℕ) → Type 0
-AreValues words None = list_all (λ x. nat_lt (value_of x.now) (2 ^ 64)) words ≡ false
-AreValues words (Some values) = (list_all (λ x. nat_lt (value_of x.now) (2 ^ 64)) words ≡ true) × (values ≡ map (λ x. value_of x.now) words)
+AreValues words None = list_all (λ x. nat_lt (number_in_word x.now) (2 ^ 64)) words ≡ false
+AreValues words (Some values) = (list_all (λ x. nat_lt (number_in_word x.now) (2 ^ 64)) words ≡ true) × (values ≡ map (λ x. number_in_word x.now) words)

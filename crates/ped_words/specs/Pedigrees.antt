@@ -3,7 +3,7 @@ use Rattle.std.specs.Prelude.{◌≡◌, ℕ, ◌-◌, ◌^◌, ◌≤◌, ◌==
 use Rattle.std.specs.Char.{is_ascii_digit}
 use Rattle.std.specs.List.{slice_split, take_while}
 use Rattle.std.specs.Option.{option_or}
-use Rattle.ped_words.specs.Numbers.{is_number, value_of}
+use Rattle.ped_words.specs.Numbers.{is_number, number_in_word}
 use Rattle.ped_words.specs.declared.rule.Rule.{Rule}
 use Rattle.ped_words.specs.declared.rule.Rule.TheVariants.{BadValue, OutOfRange}
 
@@ -16,7 +16,7 @@ abbrev pub rank_rule : List ℕ → Option Rule
 rank_rule part =
     let digits = take_while is_ascii_digit part in
     if is_number digits
-    then (if nat_lt (value_of digits) (2 ^ 32) then (if length digits == length part then None else Some BadValue) else Some OutOfRange)
+    then (if nat_lt (number_in_word digits) (2 ^ 32) then (if length digits == length part then None else Some BadValue) else Some OutOfRange)
     else Some BadValue
 
 -- the rule that the first of these ranks breaks which breaks one, where there is room for so many
@@ -33,7 +33,7 @@ unfoldable pub ped_rule : List ℕ → Option Rule
 ped_rule word = ranks_rule (ranks_in word) most_ranks
 
 unfoldable pub ped_of : List ℕ → List ℕ
-ped_of word = map value_of (ranks_in word)
+ped_of word = map number_in_word (ranks_in word)
 
 abbrev pub last_rank : List ℕ → ℕ
 last_rank j = slice_index j (length j - 1)

@@ -1,8 +1,8 @@
 -- What words are: a command, or the first rule that they break, with the index of the word that breaks it.
 use Rattle.std.specs.Prelude.{ℕ, ◌==◌, if◌then◌else◌, Option, Some, None, Result, Err, List, length}
 use Rattle.ped_words.specs.Judging.{first_broken, pairs_in}
-use Rattle.ped_words.specs.Making.{made}
-use Rattle.ped_words.specs.Rules.{breaks, unless}
+use Rattle.ped_words.specs.Making.{made_command}
+use Rattle.ped_words.specs.Rules.{breaks, unless_error}
 use Rattle.ped_words.specs.Table.{verb_of}
 use Rattle.ped_words.specs.Values.{option_values, word_at}
 use Rattle.ped_words.specs.declared.command.Command.{Command}
@@ -13,7 +13,7 @@ use Rattle.ped_words.specs.declared.table.Verb.{Verb}
 -- The words before are judged before what all of them show together.
 abbrev pub reading_as : Option Verb → List (List ℕ) → Result Command WordError
 reading_as None words = Err (breaks UnknownCommand 0)
-reading_as (Some verb) words = unless (first_broken verb words) (made verb (option_values words (pairs_in words)) (length words))
+reading_as (Some verb) words = unless_error (first_broken verb words) (made_command verb (option_values words (pairs_in words)) (length words))
 
 -- Words that give a command break no rule, and others break one rule first: so a list of words has one reading.
 unfoldable pub reading : List (List ℕ) → Result Command WordError

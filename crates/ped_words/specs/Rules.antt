@@ -1,5 +1,5 @@
--- The numbers of the rules for words, and the rules for the text of a pedigree among them.
-use Rattle.std.specs.Prelude.{◌≡◌, ℕ, Option, Some, None, Result, Ok, Err}
+-- The numbers of the rules for words, what they are called, and the rules for the text of a pedigree among them.
+use Rattle.std.specs.Prelude.{◌≡◌, ℕ, nat_eq, List, Option, Some, None, Result, Ok, Err, if◌then◌else◌, codes}
 use Rattle.std.specs.Option.{option_map}
 use Rattle.ped_path.specs.declared.parse.PedTextError.{PedTextError}
 use Rattle.ped_path.specs.declared.parse.PedTextError.TheVariants as text
@@ -18,6 +18,34 @@ number_of BadValue = 6
 number_of OutOfRange = 7
 number_of MissingOption = 8
 number_of StrayWord = 9
+
+-- the rule of a number
+abbrev pub rule_of : ℕ → Rule
+rule_of number =
+    if nat_eq number 1 then NoCommand
+    else if nat_eq number 2 then UnknownCommand
+    else if nat_eq number 3 then UnknownOption
+    else if nat_eq number 4 then OptionTwice
+    else if nat_eq number 5 then MissingValue
+    else if nat_eq number 6 then BadValue
+    else if nat_eq number 7 then OutOfRange
+    else if nat_eq number 8 then MissingOption
+    else StrayWord
+
+-- what it is called
+abbrev pub text_of : Rule → List ℕ
+text_of NoCommand = codes "no command"
+text_of UnknownCommand = codes "unknown command"
+text_of UnknownOption = codes "unknown option"
+text_of OptionTwice = codes "option twice"
+text_of MissingValue = codes "missing value"
+text_of BadValue = codes "bad value"
+text_of OutOfRange = codes "out of range"
+text_of MissingOption = codes "missing option"
+text_of StrayWord = codes "stray word"
+
+abbrev pub rule_text : ℕ → List ℕ
+rule_text number = text_of (rule_of number)
 
 -- the rule that a text breaks which is no pedigree's
 abbrev pub text_rule : PedTextError → Option Rule
@@ -41,9 +69,9 @@ kept None x = Some x
 kept (Some rule) x = None
 
 -- what is broken, or else this
-abbrev pub unless : {X : Type 0} → Option WordError → Result X WordError → Result X WordError
-unless None r = r
-unless (Some e) r = Err e
+abbrev pub unless_error : {X : Type 0} → Option WordError → Result X WordError → Result X WordError
+unless_error None r = r
+unless_error (Some e) r = Err e
 
 -- The error is what is broken, or there was no memory.
 abbrev pub IsRefusal : Option WordError → WordError → Type 0

@@ -87,8 +87,8 @@ place name.Count = 11
 place name.Below = 12
 place name.Seeds = 13
 
-abbrev pub takes : Verb → OptionName → Bool
-takes v n = list_any (λ m. place m == place n) (options v)
+abbrev pub takes_option : Verb → OptionName → Bool
+takes_option v n = list_any (λ m. place m == place n) (options v)
 
 -- a stream has at most so many numbers
 abbrev pub most_count : ℕ

@@ -4,7 +4,7 @@ use Rattle.std.specs.List.{slice_index_or}
 use Rattle.std.specs.Option.{option_map}
 use Rattle.ped_gen.specs.declared.shape.Shape.{Shape}
 use Rattle.serial_meaning.specs.declared.plan.Show.{Show}
-use Rattle.ped_words.specs.Numbers.{list_rule, number_rule, numbers_of, value_of}
+use Rattle.ped_words.specs.Numbers.{list_rule, number_rule, numbers_of, number_in_word}
 use Rattle.ped_words.specs.Pedigrees.{ped_of, ped_rule}
 use Rattle.ped_words.specs.Rules.{kept}
 use Rattle.ped_words.specs.Table.{value_type_of, name_of, place, shape_of, show_of}
@@ -26,14 +26,14 @@ name_word words k = word_at words (2 * k + 1)
 abbrev pub value_word : List (List ℕ) → ℕ → List ℕ
 value_word words k = word_at words (2 * k + 2)
 
-abbrev pub is_name : Option OptionName → OptionName → Bool
-is_name None n = false
-is_name (Some m) n = place m == place n
+abbrev pub is_option : Option OptionName → OptionName → Bool
+is_option None n = false
+is_option (Some m) n = place m == place n
 
 -- what the first k pairs give
 abbrev pub option_values : List (List ℕ) → ℕ → OptionValues
 option_values words zero n = None
-option_values words (suc k) n = if is_name (name_of (name_word words k)) n then Some (value_word words k, 2 * k + 2) else option_values words k n
+option_values words (suc k) n = if is_option (name_of (name_word words k)) n then Some (value_word words k, 2 * k + 2) else option_values words k n
 
 -- the index of the word that gives an option
 abbrev pub index : OptionValues → OptionName → Option ℕ
@@ -48,7 +48,7 @@ has values n = is_some (values n)
 -- What a word is as a value of some type. There is none where it breaks the type's rule.
 
 abbrev pub number_as : ValueType → List ℕ → Option ℕ
-number_as (value_type.Number least most) word = kept (number_rule least most word) (value_of word)
+number_as (value_type.Number least most) word = kept (number_rule least most word) (number_in_word word)
 number_as _ word = None
 
 abbrev pub list_as : ValueType → List ℕ → Option (List ℕ)
@@ -63,8 +63,8 @@ pedigree_in word = kept (ped_rule word) (ped_of word)
 abbrev pub value : {X : Type 0} → (List ℕ → Option X) → OptionValues → OptionName → Option X
 value read values n = option_and_then (λ w. read w.0) (values n)
 
-abbrev pub number : OptionValues → OptionName → Option ℕ
-number values n = value (number_as (value_type_of n)) values n
+abbrev pub number_value : OptionValues → OptionName → Option ℕ
+number_value values n = value (number_as (value_type_of n)) values n
 
 abbrev pub list : OptionValues → OptionName → Option (List ℕ)
 list values n = value (list_as (value_type_of n)) values n

@@ -5,7 +5,7 @@ ghost use Rattle.std.specs.Option.{option_map};
 ghost use Rattle.ped_words.specs.Pedigrees.{most_ranks};
 ghost use Rattle.ped_words.specs.Table.{value_type_of, name_of};
 ghost use Rattle.ped_words.specs.Given.{HasCount, IsPlace, IsPlaced, IsPlacedList, IsSmall, values_in};
-ghost use Rattle.ped_words.specs.Values.{IsInRange, has, is_name, list_as, number, number_as, pedigree, shape, show, word_at};
+ghost use Rattle.ped_words.specs.Values.{IsInRange, has, is_option, list_as, number_value, number_as, pedigree, shape, show, word_at};
 
 use crate::number::{number_in, number_list};
 use crate::rule::WordError;
@@ -45,7 +45,7 @@ pub(crate) fn text_at(words: &[String], index: usize) -> &str
 
 /// Whether a word names this option.
 fn is_name(word: &str, name: OptionName) -> bool
-    ensures { result ≡ is_name (name_of word.now) name }
+    ensures { result ≡ is_option (name_of word.now) name }
 {
     match OptionName::of_word(word) {
         Some(other) => other.is(name),
@@ -139,7 +139,7 @@ impl<'a> Given<'a> {
 
     /// The number that an option gives.
     pub(crate) fn number(&self, name: OptionName) -> Option<u64>
-        ensures value { result ≡ number (values_in self.now) name }
+        ensures value { result ≡ number_value (values_in self.now) name }
         ensures range { IfSome result (IsInRange (value_type_of name)) }
     {
         match self.placed(name) {
@@ -152,7 +152,7 @@ impl<'a> Given<'a> {
     pub(crate) fn small_number(&self, name: OptionName, default: u32) -> u32
         requires small { IsSmall (value_type_of name) }
         requires within { IsInRange (value_type_of name) default }
-        ensures value { result ≡ unwrap_or (number (values_in self.now) name) default }
+        ensures value { result ≡ unwrap_or (number_value (values_in self.now) name) default }
         ensures range { IsInRange (value_type_of name) result }
     {
         match self.number(name) {

@@ -16,4 +16,4 @@ mod value;
 
 pub use command::{Command, Settings};
 pub use read::read_words;
-pub use rule::WordError;
+pub use rule::{WordError, rule_text};

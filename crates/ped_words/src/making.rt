@@ -2,7 +2,7 @@
 
 ghost use Rattle.std.specs.Prelude.{◌≡◌, ◌<◌, ◌^◌, IfErr, IfOk, None, length, true};
 ghost use Rattle.ped_words.specs.Commands.{AreLawful, IsLawful, IsWorkers};
-ghost use Rattle.ped_words.specs.Making.{budget_of, depth_of, gamma_error, gamma_fits, gamma_of, limits_of, made, rounds_of, settings_of, unfit, workers_of};
+ghost use Rattle.ped_words.specs.Making.{budget_of, depth_of, gamma_error, gamma_fits, gamma_of, limits_of, made_command, rounds_of, settings_of, unfit, workers_of};
 ghost use Rattle.ped_words.specs.Rules.{IsRefusal, IsUnlessMemory, breaks};
 ghost use Rattle.ped_words.specs.Table.{value_type_of};
 ghost use Rattle.ped_words.specs.Given.{values_in};
@@ -36,7 +36,7 @@ impl<'a> Given<'a> {
     /// The command that all pairs give.
     pub(crate) fn command(&self, alloc: Global, verb: Verb) -> Result<Command, WordError>
         requires few { length self.now.words < 2 ^ 32 }
-        ensures value { IsUnlessMemory (made verb (values_in self.now) (length self.now.words)) result }
+        ensures value { IsUnlessMemory (made_command verb (values_in self.now) (length self.now.words)) result }
         ensures lawful { IfOk result IsLawful }
     {
         match verb {
@@ -72,7 +72,7 @@ impl<'a> Given<'a> {
     /// The command `sim`, which needs a number.
     fn simulation(&self, alloc: Global) -> Result<Command, WordError>
         requires { length self.now.words < 2 ^ 32 }
-        ensures value { IsUnlessMemory (made Verb.Sim (values_in self.now) (length self.now.words)) result }
+        ensures value { IsUnlessMemory (made_command Verb.Sim (values_in self.now) (length self.now.words)) result }
         ensures lawful { IfOk result IsLawful }
     {
         let Some(number) = self.number(OptionName::Number) else {
@@ -88,7 +88,7 @@ impl<'a> Given<'a> {
     /// The command `replay`, which needs a pedigree.
     fn replay(&self, alloc: Global) -> Result<Command, WordError>
         requires { length self.now.words < 2 ^ 32 }
-        ensures value { IsUnlessMemory (made Verb.Replay (values_in self.now) (length self.now.words)) result }
+        ensures value { IsUnlessMemory (made_command Verb.Replay (values_in self.now) (length self.now.words)) result }
         ensures lawful { IfOk result IsLawful }
     {
         let Some(at) = self.pedigree(alloc)? else {
@@ -101,7 +101,7 @@ impl<'a> Given<'a> {
     /// The command `hash`, which needs a pedigree.
     fn hash(&self, alloc: Global) -> Result<Command, WordError>
         requires { length self.now.words < 2 ^ 32 }
-        ensures value { IsUnlessMemory (made Verb.Hash (values_in self.now) (length self.now.words)) result }
+        ensures value { IsUnlessMemory (made_command Verb.Hash (values_in self.now) (length self.now.words)) result }
         ensures lawful { IfOk result IsLawful }
     {
         let Some(at) = self.pedigree(alloc)? else {
@@ -117,7 +117,7 @@ impl<'a> Given<'a> {
     /// The command `gen`, which needs a shape and a size that fits it.
     fn generation(&self) -> Result<Command, WordError>
         requires { length self.now.words < 2 ^ 32 }
-        ensures value { IsUnlessMemory (made Verb.Gen (values_in self.now) (length self.now.words)) result }
+        ensures value { IsUnlessMemory (made_command Verb.Gen (values_in self.now) (length self.now.words)) result }
         ensures lawful { IfOk result IsLawful }
     {
         let (Some(shape), Some((size, at))) = (self.shape(), self.placed(OptionName::Size)) else {
@@ -132,7 +132,7 @@ impl<'a> Given<'a> {
     /// The command `stream`, which needs a pedigree and a count that its ranks are enough for.
     fn stream(&self, alloc: Global) -> Result<Command, WordError>
         requires { length self.now.words < 2 ^ 32 }
-        ensures value { IsUnlessMemory (made Verb.Stream (values_in self.now) (length self.now.words)) result }
+        ensures value { IsUnlessMemory (made_command Verb.Stream (values_in self.now) (length self.now.words)) result }
         ensures lawful { IfOk result IsLawful }
     {
         let Some(at) = self.pedigree(alloc)? else {
@@ -157,7 +157,7 @@ impl<'a> Given<'a> {
     /// The command `batch`, which needs seeds.
     fn batch(&self, alloc: Global) -> Result<Command, WordError>
         requires { length self.now.words < 2 ^ 32 }
-        ensures value { IsUnlessMemory (made Verb.Batch (values_in self.now) (length self.now.words)) result }
+        ensures value { IsUnlessMemory (made_command Verb.Batch (values_in self.now) (length self.now.words)) result }
         ensures lawful { IfOk result IsLawful }
     {
         let Some((seeds, _)) = self.list(alloc, OptionName::Seeds)? else {

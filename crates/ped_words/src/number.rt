@@ -2,7 +2,7 @@ ghost use Rattle.std.specs.Prelude.{◌≡◌, ◌≤◌, None, Some, IfOk, IfEr
 ghost use Rattle.std.specs.Char.{is_ascii_digit};
 ghost use Rattle.std.specs.List.{list_all};
 ghost use Rattle.std.specs.Option.{option_map};
-ghost use Rattle.ped_words.specs.Numbers.{AreValues, are_few, is_number, list_rule, number_rule, numbers_of, parts_of, value_of};
+ghost use Rattle.ped_words.specs.Numbers.{AreValues, are_few, is_number, list_rule, number_rule, numbers_of, parts_of, number_in_word};
 
 use crate::rule::Rule;
 use std::alloc::{AllocError, Global};
@@ -25,7 +25,7 @@ fn all_digits(bytes: &[u8]) -> bool
 /// The number that a word is. It may be from `least` to `most`.
 pub(crate) fn number_in(word: &str, least: u64, most: u64) -> Result<u64, Rule>
     ensures range { IfOk result (λ n. (least ≤ n) × (n ≤ most)) }
-    ensures ok { IfOk result (λ n. (number_rule least most word.now ≡ None) × (n ≡ value_of word.now)) }
+    ensures ok { IfOk result (λ n. (number_rule least most word.now ≡ None) × (n ≡ number_in_word word.now)) }
     ensures err { IfErr result (λ rule. number_rule least most word.now ≡ Some rule) }
 {
     if !is_number(word) {

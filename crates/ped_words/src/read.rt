@@ -3,7 +3,7 @@ ghost use Rattle.ped_words.specs.Commands.{IsLawful};
 ghost use Rattle.ped_words.specs.Judging.{broken_pair, first_broken, name_rule, pairs_in};
 ghost use Rattle.ped_words.specs.Reading.{reading};
 ghost use Rattle.ped_words.specs.Rules.{IsRefusal, IsUnlessMemory};
-ghost use Rattle.ped_words.specs.Given.{count_of, values_in};
+ghost use Rattle.ped_words.specs.Given.{given_count, values_in};
 ghost use Rattle.ped_words.specs.Values.{has, option_values};
 ghost use Rattle.ped_words.specs.Table.{name_of};
 
@@ -56,7 +56,7 @@ fn judge_pair(alloc: Global, verb: Verb, words: &[String], pair: u32) -> Result<
     requires within { pair < pairs_in (map string_bytes words.now) }
     requires small { 2 * pair + 2 < 2 ^ 32 }
     ensures broken { OnOk result (broken_pair verb (map string_bytes words.now) pair ≡ None) }
-    ensures counted { OnOk result (count_of (option_values (map string_bytes words.now) (pair + 1)) ≡ count_of (option_values (map string_bytes words.now) pair) + 1) }
+    ensures counted { OnOk result (given_count (option_values (map string_bytes words.now) (pair + 1)) ≡ given_count (option_values (map string_bytes words.now) pair) + 1) }
     ensures valued { OnOk result (2 * pair + 2 < length words.now) }
     ensures err { IfErr result (IsRefusal (broken_pair verb (map string_bytes words.now) pair)) }
 {

@@ -1,5 +1,5 @@
 ghost use Rattle.std.specs.Prelude.{◌≡◌};
-ghost use Rattle.ped_words.specs.Rules.{number_of, text_rule};
+ghost use Rattle.ped_words.specs.Rules.{number_of, rule_of, rule_text, text_of, text_rule};
 
 use ped_path::PedTextError;
 use std::alloc::{AllocError, AllocFailed};
@@ -58,6 +58,39 @@ impl Rule {
         }
     }
 
+    /// The rule of this number. Of a number that none has it is the last.
+    fn of_number(number: u8) -> Rule
+        ensures { result ≡ rule_of number }
+    {
+        match number {
+            1 => Rule::NoCommand,
+            2 => Rule::UnknownCommand,
+            3 => Rule::UnknownOption,
+            4 => Rule::OptionTwice,
+            5 => Rule::MissingValue,
+            6 => Rule::BadValue,
+            7 => Rule::OutOfRange,
+            8 => Rule::MissingOption,
+            _ => Rule::StrayWord,
+        }
+    }
+
+    fn text(self) -> &'static str
+        ensures { result.now ≡ text_of self }
+    {
+        match self {
+            Rule::NoCommand => "no command",
+            Rule::UnknownCommand => "unknown command",
+            Rule::UnknownOption => "unknown option",
+            Rule::OptionTwice => "option twice",
+            Rule::MissingValue => "missing value",
+            Rule::BadValue => "bad value",
+            Rule::OutOfRange => "out of range",
+            Rule::MissingOption => "missing option",
+            Rule::StrayWord => "stray word",
+        }
+    }
+
     /// This rule is broken at the word of this index.
     pub(crate) fn at(self, at: u32) -> WordError
         ensures { result ≡ WordError.Bad (number_of self) at }
@@ -80,6 +113,13 @@ impl Rule {
             PedTextError::Memory => None,
         }
     }
+}
+
+/// What a number of `WordError::Bad` says, in words: that of `no command` is 1. A number that no rule has is taken for 9.
+pub fn rule_text(number: u8) -> &'static str
+    ensures { result.now ≡ rule_text number }
+{
+    Rule::of_number(number).text()
 }
 
 impl From<AllocError> for WordError {

@@ -1,6 +1,6 @@
 ghost use Rattle.std.specs.Prelude.{◌≡◌, ◌==◌};
 ghost use Rattle.ped_words.specs.declared.table.ValueType.TheVariants as value_type;
-ghost use Rattle.ped_words.specs.Table.{verb_of, name_of, place, takes, value_type_of};
+ghost use Rattle.ped_words.specs.Table.{verb_of, name_of, place, takes_option, value_type_of};
 
 use dotmix::MOST_ROUNDS;
 use serial_meaning::MOST_DEPTH;
@@ -85,7 +85,7 @@ impl Verb {
 
     /// Whether this command has the option.
     pub(crate) fn takes(self, name: OptionName) -> bool
-        ensures { result ≡ takes self name }
+        ensures { result ≡ takes_option self name }
     {
         match name {
             OptionName::Seed | OptionName::Gamma => {

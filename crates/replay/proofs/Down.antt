@@ -6,7 +6,7 @@ use Rattle.serial_meaning.specs.Open.{opened}
 use Rattle.serial_meaning.specs.Plan.{PlanView}
 use Rattle.serial_meaning.specs.declared.event.Fault.{Fault}
 use Rattle.serial_meaning.specs.declared.origin.Origin.{Origin}
-use Rattle.strand_meaning.specs.Strands.{Strand, Found, Reached, Missing, Blocked, child_on_way, strand_of, blocks, last_step, entered, next_step, by_child, walk_in, strand_at}
+use Rattle.strand_meaning.specs.Strands.{Strand, Found, Reached, Missing, Blocked, child_on_way, strand_of, blocks, last_step, entered_child, next_step, by_child, walk_in, strand_at}
 use Rattle.serial_runner.specs.Nodes.{shown_by, node_toward}
 use Rattle.serial_runner.specs.declared.node.Node.{Node}
 use Rattle.replay.specs.Descents.{seen_from, IsOnWayTo, Leads}
@@ -24,13 +24,13 @@ module _ (plan : PlanView) (j : List ℕ) where
       here : Found
       here = last_step (blocks (opened plan o) j) (strand_of o (opened plan o) j)
 
-      by_next : (c : Origin) → child_on_way j (opened plan o).items ≡ Some c → (n : Option Origin) → entered j c ≡ n → next_step n f ≡ next_step n g
+      by_next : (c : Origin) → child_on_way j (opened plan o).items ≡ Some c → (n : Option Origin) → entered_child j c ≡ n → next_step n f ≡ next_step n g
       by_next c e None t = refl
       by_next c e (Some next) t = h next (goes-further plan j o on.known c next e t)
 
       by_way : (c : Option Origin) → child_on_way j (opened plan o).items ≡ c → by_child c j here f ≡ by_child c j here g
       by_way None e = refl
-      by_way (Some c) e = by_next c e (entered j c) refl
+      by_way (Some c) e = by_next c e (entered_child j c) refl
 
   -- More steps than ranks follow the path change nothing.
   enough : (s t : ℕ) (o : Origin) → IsOnWayTo plan j o → length j ≤ length (path_of o) + s → length j ≤ length (path_of o) + t → walk_in plan s j o ≡ walk_in plan t j o
@@ -81,12 +81,12 @@ module _ (plan : PlanView) (o : Origin) (j : List ℕ) (on : IsOnWayTo plan j o)
   pub is_missing : m.child ≡ None → m.joined ≡ None → m.strand ≡ None → seen_from plan o j ≡ Missing
   is_missing e h g = found-none e ∙ ap (λ (f : Option Fault). last_step f m.strand) h ∙ ap (last_step None) g
 
-  pub leads_down : (c next : Origin) → m.child ≡ Some c → entered j c ≡ Some next → Leads plan o j (Ok (Down next))
+  pub leads_down : (c next : Origin) → m.child ≡ Some c → entered_child j c ≡ Some next → Leads plan o j (Ok (Down next))
   leads_down c next e h =
       let f = goes-further plan j o on.known c next (sym child-is ∙ e) h in
       (f.on, f.longer, sym (found ∙ ap (λ (d : Option Origin). by_child d j (last_step m.joined m.strand) below) e ∙ ap (λ (n : Option Origin). next_step n below) h))
 
-  pub leads_nowhere : (c : Origin) → m.child ≡ Some c → entered j c ≡ None → seen_from plan o j ≡ Missing
+  pub leads_nowhere : (c : Origin) → m.child ≡ Some c → entered_child j c ≡ None → seen_from plan o j ≡ Missing
   leads_nowhere c e h = found ∙ ap (λ (d : Option Origin). by_child d j (last_step m.joined m.strand) below) e ∙ ap (λ (n : Option Origin). next_step n below) h
 
 -- The walk begins at main.

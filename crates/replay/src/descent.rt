@@ -4,7 +4,7 @@ ghost use Rattle.std.specs.Prelude.{◌≡◌, IfOk, IfErr};
 ghost use Rattle.std.specs.Arc.{arc_value};
 ghost use Rattle.serial_meaning.specs.Eval.{elision};
 ghost use Rattle.strand_meaning.specs.StrandLaws.{IsWholeUpTo, strand_in};
-ghost use Rattle.strand_meaning.specs.Strands.{entered, strand_at};
+ghost use Rattle.strand_meaning.specs.Strands.{entered_child, strand_at};
 ghost use Rattle.replay.specs.Descents.{IsOnWayTo, Leads};
 ghost use Rattle.replay.specs.Replays.{IsReplayOf};
 
@@ -30,7 +30,7 @@ pub(crate) enum Way {
 /// The instance below a child: a spawned one itself; of a loop the iteration that the pedigree names next, where it doesn't end there and
 /// there is that iteration.
 fn enter(alloc: Global, child: Origin, at: &Pedigree) -> Result<Option<Origin>, ReplayError>
-    ensures ok { IfOk result (λ next. next ≡ entered at.now child) }
+    ensures ok { IfOk result (λ next. next ≡ entered_child at.now child) }
     ensures err { IfErr result (λ e. e ≡ ReplayError.Memory) }
 {
     let Origin::Loop {

@@ -6,12 +6,12 @@ use Rattle.strand_machine.specs.Tasks.{TaskView, fresh}
 use Rattle.sched_core.specs.Cores.{plan_of}
 use Rattle.sched_core.specs.Moves.{job}
 use Rattle.sched_core.specs.Nodes.{new_node}
-use Rattle.sched_core.specs.Workers.{WorkerView, only}
+use Rattle.sched_core.specs.Workers.{WorkerView, worker_with}
 use Rattle.sched_core.specs.declared.state.CoreState.{CoreState}
 
 -- so many workers, of which the first has this task
 abbrev pub hired : TaskView → ℕ → List WorkerView
-hired main workers = only (Some (job main 0)) ∷ replicate (workers - 1) (only None)
+hired main workers = worker_with (Some (job main 0)) ∷ replicate (workers - 1) (worker_with None)
 
 pub record IsBegun (plan : PlanView) (workers : ℕ) (s : CoreState) : Type 0 where
   pub plan_is : plan_of s ≡ plan

@@ -2,7 +2,7 @@
 use Rattle.std.specs.Prelude.{ℕ, List, map, filter, flat_map, length, slice_get}
 use Rattle.std.specs.List.{range_with_len}
 use Rattle.sched_meaning.specs.Core.{Core}
-use Rattle.sched_meaning.specs.Simulation.{goes_on, stalled_places}
+use Rattle.sched_meaning.specs.Simulation.{is_progress, stalled_places}
 use Rattle.sched_meaning.specs.declared.event.CoreEvent.{CoreEvent}
 use Rattle.sched_meaning.specs.declared.event.CoreEvent.TheVariants.{Run, Pop, Steal, Look}
 
@@ -10,7 +10,7 @@ abbrev pub numbers : Core → List ℕ
 numbers c = range_with_len 0 (length c.workers)
 
 abbrev pub going : Core → List CoreEvent → List CoreEvent
-going c events = filter (goes_on c) events
+going c events = filter (is_progress c) events
 
 abbrev pub runs : Core → List ℕ → List CoreEvent
 runs c ws = going c (map (λ w. Run w) ws)

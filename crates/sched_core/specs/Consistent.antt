@@ -13,7 +13,7 @@ use Rattle.sched_meaning.specs.declared.event.CoreEvent.{CoreEvent}
 use Rattle.sched_core.specs.Cores.{core_of, origins_of, plan_of, task_in}
 use Rattle.sched_core.specs.Nodes.{missing}
 use Rattle.sched_core.specs.Workers.{WorkerView}
-use Rattle.sched_core.specs.declared.node.Child.{Child}
+use Rattle.sched_core.specs.declared.node.NodeChild.{NodeChild}
 use Rattle.sched_core.specs.declared.node.Link.{Link}
 use Rattle.sched_core.specs.declared.node.SpawnNode.{SpawnNode}
 use Rattle.sched_core.specs.declared.state.CoreState.{CoreState}
@@ -25,7 +25,7 @@ Everywhere P xs = (k : ℕ) (x : _) → slice_get xs k ≡ Some x → P x
 -- Jobs
 
 -- these are the origins of the children, in order
-abbrev pub Awaits : List Origin → List Child → List Origin → Type 0
+abbrev pub Awaits : List Origin → List NodeChild → List Origin → Type 0
 Awaits begun [] [] = Unit {0}
 Awaits begun [] (o ∷ os) = ⊥
 Awaits begun (c ∷ cs) [] = ⊥
@@ -59,7 +59,7 @@ IsHeard plan given o None = Contains given o → ⊥
 IsHeard plan given o (Some a) = IsGiven plan given o a
 
 -- a child knows its place
-pub record IsChild (plan : PlanView) (given : List Origin) (nodes : List SpawnNode) (n place : ℕ) (child : Child) : Type 0 where
+pub record IsChild (plan : PlanView) (given : List Origin) (nodes : List SpawnNode) (n place : ℕ) (child : NodeChild) : Type 0 where
   pub node : SpawnNode
   pub there : slice_get nodes child.number ≡ Some node
   pub link : node.link ≡ Some (record { parent = n; place = place })
@@ -68,7 +68,7 @@ pub record IsChild (plan : PlanView) (given : List Origin) (nodes : List SpawnNo
 -- at the place that it knows it is awaited
 pub record IsAwaited (nodes : List SpawnNode) (n : ℕ) (l : Link) : Type 0 where
   pub parent : SpawnNode
-  pub child : Child
+  pub child : NodeChild
   pub there : slice_get nodes l.parent ≡ Some parent
   pub at : slice_get parent.children l.place ≡ Some child
   pub number : child.number ≡ n
@@ -80,7 +80,7 @@ IsLinked nodes n (Some l) = IsAwaited nodes n l
 
 pub record IsNode (plan : PlanView) (given : List Origin) (nodes : List SpawnNode) (n : ℕ) (node : SpawnNode) : Type 0 where
   pub unanswered : node.unanswered ≡ missing node.children
-  pub children : (place : ℕ) (child : Child) → slice_get node.children place ≡ Some child → IsChild plan given nodes n place child
+  pub children : (place : ℕ) (child : NodeChild) → slice_get node.children place ≡ Some child → IsChild plan given nodes n place child
   pub link : (Contains given node.origin → ⊥) → IsLinked nodes n node.link
   pub first : n ≡ 0 → node.link ≡ None
 

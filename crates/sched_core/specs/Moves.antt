@@ -19,8 +19,8 @@ job t n = record { task = t; number = n }
 
 -- Workers
 
-abbrev pub HandsOut : Job → Job → WorkerView → WorkerView → Type 0
-HandsOut child rest w next = next ≡ record w { current = Some child; deque = w.deque ++ rest ∷ [] }
+abbrev pub HandsOutJob : Job → Job → WorkerView → WorkerView → Type 0
+HandsOutJob child rest w next = next ≡ record w { current = Some child; deque = w.deque ++ rest ∷ [] }
 
 abbrev pub Stalls : Job → WorkerView → WorkerView → Type 0
 Stalls rest w next = next ≡ record w { stalled = w.stalled ++ rest ∷ [] }
@@ -52,13 +52,13 @@ pub record WorkerChanges (n : ℕ) (R : WorkerView → WorkerView → Type 0) (w
 
 -- Stops
 
-abbrev pub goes_to : Option Link → AnswerView → CoreState → CoreState → Type 0
-goes_to None answer s next = (next.root ≡ Some answer) × (next.nodes.items ≡ s.nodes.items)
-goes_to (Some l) answer s next = (next.root ≡ s.root) × NodeChanges l.parent (Hears l.place answer) s.nodes.items next.nodes.items
+abbrev pub AnswerGoes : Option Link → AnswerView → CoreState → CoreState → Type 0
+AnswerGoes None answer s next = (next.root ≡ Some answer) × (next.nodes.items ≡ s.nodes.items)
+AnswerGoes (Some l) answer s next = (next.root ≡ s.root) × NodeChanges l.parent (Hears l.place answer) s.nodes.items next.nodes.items
 
 -- An answer goes to the node that this link names, or is main's.
-pub record Delivers (link : Option Link) (answer : AnswerView) (s next : CoreState) : Type 0 where
-  pub goes : goes_to link answer s next
+pub record DeliversAnswer (link : Option Link) (answer : AnswerView) (s next : CoreState) : Type 0 where
+  pub goes : AnswerGoes link answer s next
   pub given : next.given ≡ s.given
   pub plan : next.plan ≡ s.plan
   pub workers : next.workers.items ≡ s.workers.items
@@ -68,7 +68,7 @@ pub record Delivers (link : Option Link) (answer : AnswerView) (s next : CoreSta
 pub record PutsAnswer (number : ℕ) (answer : AnswerView) (s next : CoreState) : Type 0 where
   pub node : SpawnNode
   pub there : slice_get s.nodes.items number ≡ Some node
-  pub goes : goes_to node.link answer s next
+  pub goes : AnswerGoes node.link answer s next
   pub given : next.given ≡ s.given ++ answer.origin ∷ []
   pub plan : next.plan ≡ s.plan
   pub workers : next.workers.items ≡ s.workers.items
@@ -78,7 +78,7 @@ pub record PutsAnswer (number : ℕ) (answer : AnswerView) (s next : CoreState) 
 pub record BeginsTask (w number : ℕ) (child rest : TaskView) (s next : CoreState) : Type 0 where
   pub begun : ℕ
   pub nodes : BeginsChild number child.task.origin s.nodes.items next.nodes.items
-  pub workers : WorkerChanges w (HandsOut (job child begun) (job rest number)) s.workers.items next.workers.items
+  pub workers : WorkerChanges w (HandsOutJob (job child begun) (job rest number)) s.workers.items next.workers.items
   pub begun_is : begun ≡ length s.nodes.items
   pub plan : next.plan ≡ s.plan
   pub given : next.given ≡ s.given

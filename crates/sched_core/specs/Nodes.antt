@@ -2,7 +2,7 @@
 use Rattle.std.specs.Prelude.{◌≡◌, ℕ, ◌+◌, ◌-◌, List, [], ◌∷◌, ◌++◌, Option, Some, None, length, slice_get, slice_set}
 use Rattle.serial_meaning.specs.Answer.{AnswerView}
 use Rattle.serial_meaning.specs.declared.origin.Origin.{Origin}
-use Rattle.sched_core.specs.declared.node.Child.{Child}
+use Rattle.sched_core.specs.declared.node.NodeChild.{NodeChild}
 use Rattle.sched_core.specs.declared.node.Link.{Link}
 use Rattle.sched_core.specs.declared.node.SpawnNode.{SpawnNode}
 
@@ -15,7 +15,7 @@ abbrev pub awaiting : ℕ → SpawnNode → SpawnNode
 awaiting number n = record n { children = n.children ++ record { number = number; answer = None } ∷ []; unanswered = n.unanswered + 1 }
 
 -- the node once this child has answered
-abbrev pub hearing : ℕ → Child → AnswerView → SpawnNode → SpawnNode
+abbrev pub hearing : ℕ → NodeChild → AnswerView → SpawnNode → SpawnNode
 hearing place child answer n = record n { children = slice_set n.children place (record child { answer = Some answer }); unanswered = n.unanswered - 1 }
 
 -- the node once its task has taken the answers
@@ -27,7 +27,7 @@ missing_one None = 1
 missing_one (Some a) = 0
 
 -- how many children have no answer
-abbrev pub missing : List Child → ℕ
+abbrev pub missing : List NodeChild → ℕ
 missing [] = 0
 missing (c ∷ cs) = missing_one c.answer + missing cs
 
@@ -36,7 +36,7 @@ and_answer None answers = answers
 and_answer (Some a) answers = a ∷ answers
 
 -- the answers that are there, in order
-abbrev pub answers_in : List Child → List AnswerView
+abbrev pub answers_in : List NodeChild → List AnswerView
 answers_in [] = []
 answers_in (c ∷ cs) = and_answer c.answer (answers_in cs)
 
@@ -56,6 +56,6 @@ pub record BeginsChild (parent : ℕ) (o : Origin) (nodes next : List SpawnNode)
 
 -- The child at this place has answered.
 pub record Hears (place : ℕ) (answer : AnswerView) (n next : SpawnNode) : Type 0 where
-  pub child : Child
+  pub child : NodeChild
   pub there : slice_get n.children place ≡ Some child
   pub next_is : next ≡ hearing place child answer n

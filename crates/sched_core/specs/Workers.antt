@@ -8,5 +8,5 @@ pub record WorkerView : Type 0 where
   pub stalled : List Job
 
 -- a worker with no other task than this
-abbrev pub only : Option Job → WorkerView
-only current = record { current = current; deque = []; stalled = [] }
+abbrev pub worker_with : Option Job → WorkerView
+worker_with current = record { current = current; deque = []; stalled = [] }

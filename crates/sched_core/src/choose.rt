@@ -1,6 +1,6 @@
 // The choices of a simulation: the events that may happen and go on with the work.
 ghost use Rattle.std.specs.Prelude.{◌≡◌, ◌≤◌, [], ◌∷◌, ◌++◌, cond, false, None, IfOk, OnOk, length, map, slice_get};
-ghost use Rattle.sched_meaning.specs.Simulation.{choices, goes_on, may_resume, picked, stalled_places};
+ghost use Rattle.sched_meaning.specs.Simulation.{choices, is_progress, may_resume, picked, stalled_places};
 ghost use Rattle.sched_meaning.specs.declared.event.CoreEvent.TheVariants as event;
 ghost use Rattle.sched_core.specs.Chosen as chosen;
 ghost use Rattle.sched_core.specs.Cores.{core_of, worker_of};
@@ -95,7 +95,7 @@ impl CoreState {
     /// Whether a look of this worker at this place goes on with the work.
     fn may_resume(&self, w: u32, place: u32) -> bool
         requires consistent { IsConsistent self.now }
-        ensures { result ≡ goes_on (core_of false self.now) (event.Look w place) }
+        ensures { result ≡ is_progress (core_of false self.now) (event.Look w place) }
     {
         self.is_free(w) && self.is_ready(w, place)
     }

@@ -91,6 +91,7 @@ impl Core {
     /// What holds of every core, whatever events led to it: no origin was begun twice, one that was begun and isn't answered is that of
     /// one task in one place, answers are evaluations, there are no more runs than segments, and until the root is answered some event
     /// goes on with the work. It is for who steps a core and rests on that, as to tell that steps can't run out before main's answer is there.
+    /// So a loop `while core.answer().is_none() { core.step(next)?; core.is_sound(); }` knows at its end each of these of the core.
     pub fn is_sound(&self)
         ensures { self.now.spent ≡ false → IsSound self.now }
     {

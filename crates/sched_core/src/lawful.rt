@@ -1,6 +1,6 @@
 // Whether an event may happen.
 ghost use Rattle.std.specs.Prelude.{◌≡◌, ◌&&◌, false, is_none, map, slice_get};
-ghost use Rattle.sched_meaning.specs.Simulation.{goes_on, is_free, may_give, may_run};
+ghost use Rattle.sched_meaning.specs.Simulation.{is_progress, is_free, may_give, may_run};
 ghost use Rattle.sched_meaning.specs.declared.event.CoreEvent.TheVariants as event;
 ghost use Rattle.sched_core.specs.Cores.{core_of, worker_of};
 ghost use Rattle.sched_core.specs.Lawful.{has_waiting, may_happen, may_idle};
@@ -41,14 +41,14 @@ impl CoreState {
 
     /// Whether the worker may pop.
     pub fn may_pop(&self, w: u32) -> bool
-        ensures { result ≡ goes_on (core_of false self.now) (event.Pop w) }
+        ensures { result ≡ is_progress (core_of false self.now) (event.Pop w) }
     {
         self.is_free(w) && self.may_give(w)
     }
 
     /// Whether this thief may steal from this victim.
     pub fn may_steal(&self, thief: u32, victim: u32) -> bool
-        ensures { result ≡ goes_on (core_of false self.now) (event.Steal thief victim) }
+        ensures { result ≡ is_progress (core_of false self.now) (event.Steal thief victim) }
     {
         thief != victim && self.is_free(thief) && self.may_give(victim)
     }

@@ -17,7 +17,7 @@ pub(crate) struct Link {
 
 /// A child that is awaited, by its number, and its answer once it is there.
 #[derive(Drop)]
-pub(crate) struct Child {
+pub(crate) struct NodeChild {
     pub number: usize,
     pub answer: Option<Answer>,
 }
@@ -29,13 +29,13 @@ pub(crate) struct SpawnNode {
     /// None of main.
     pub link: Option<Link>,
     /// The children whose answers its task hasn't taken, in order.
-    pub children: Items<Child>,
+    pub children: Items<NodeChild>,
     /// How many of them haven't answered.
     pub unanswered: usize,
 }
 
 /// The answers of children that have answered.
-fn answers_of(children: Items<Child>, alloc: Global) -> Result<Items<Answer>, Memory>
+fn answers_of(children: Items<NodeChild>, alloc: Global) -> Result<Items<Answer>, Memory>
     requires { missing children ≡ 0 }
     ensures { IfOk result (λ answers. answers ≡ answers_in children) }
 {
@@ -74,7 +74,7 @@ impl SpawnNode {
         requires { self.old.unanswered ≤ length self.old.children }
         ensures { OnOk result (self.new ≡ awaiting number self.old) }
     {
-        self.children.0.push(Child {
+        self.children.0.push(NodeChild {
             number,
             answer: None,
         })?;

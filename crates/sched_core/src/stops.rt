@@ -1,6 +1,6 @@
 // What a stop of a task does.
 ghost use Rattle.std.specs.Prelude.{◌≡◌, ◌<◌, Some, None, OnOk, length, slice_get};
-ghost use Rattle.sched_core.specs.Moves.{BeginsTask, CanHear, CanStop, Delivers, PutsAnswer, StopsAt};
+ghost use Rattle.sched_core.specs.Moves.{BeginsTask, CanHear, CanStop, DeliversAnswer, PutsAnswer, StopsAt};
 ghost use Rattle.sched_core.specs.declared.node.SpawnNode.{SpawnNode};
 
 use crate::job::Job;
@@ -13,7 +13,7 @@ use strand_machine::{Memory, Stop, Task, share_origin};
 /// The answer goes to the node that the link names, or is main's.
 fn deliver(state: &mut CoreState, link: Option<Link>, answer: Answer)
     requires { CanHear state.old.nodes.items link }
-    ensures { Delivers link answer state.old state.new }
+    ensures { DeliversAnswer link answer state.old state.new }
 {
     match link {
         Some(link) => state.nodes[link.parent].hear(link.place, answer),

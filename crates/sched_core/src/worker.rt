@@ -33,12 +33,12 @@ impl Model for Worker {
 
 impl Worker {
     ghost use Rattle.std.specs.Prelude.{◌≡◌, ◌≢◌, ◌<◌, [], Some, None, OnOk, is_some, length, nat_eq, not, slice_get};
-    ghost use Rattle.sched_core.specs.Moves.{HandsOut, Stalls, Lets, BacksJob, GivesJob, TakesJob, Leaves};
-    ghost use Rattle.sched_core.specs.Workers.{only};
+    ghost use Rattle.sched_core.specs.Moves.{HandsOutJob, Stalls, Lets, BacksJob, GivesJob, TakesJob, Leaves};
+    ghost use Rattle.sched_core.specs.Workers.{worker_with};
 
     /// A worker with no other task than this.
     pub fn new(alloc: Global, current: Option<Job>) -> Worker
-        ensures { result ≡ only current }
+        ensures { result ≡ worker_with current }
     {
         Worker {
             current,
@@ -81,7 +81,7 @@ impl Worker {
 
     /// The child becomes the current task, and the rest of its parent goes to the deque's back.
     pub fn hand_out(&mut self, child: Job, rest: Job) -> Result<(), Memory>
-        ensures { OnOk result (HandsOut child rest self.old self.new) }
+        ensures { OnOk result (HandsOutJob child rest self.old self.new) }
     {
         self.deque.push_back(rest)?;
         self.current = Some(child);

@@ -43,15 +43,15 @@ may_resume c place None = false
 may_resume c place (Some w) = is_ready c (slice_get w.stalled place)
 
 -- whether an event may happen now and goes on with the work
-abbrev pub goes_on : Core → CoreEvent → Bool
-goes_on c (Run w) = may_run (slice_get c.workers w)
-goes_on c (Pop w) = is_free (slice_get c.workers w) && may_give (slice_get c.workers w)
-goes_on c (Steal thief victim) = not (nat_eq thief victim) && (is_free (slice_get c.workers thief) && may_give (slice_get c.workers victim))
-goes_on c (Look w place) = is_free (slice_get c.workers w) && may_resume c place (slice_get c.workers w)
-goes_on c (Idle w) = false
+abbrev pub is_progress : Core → CoreEvent → Bool
+is_progress c (Run w) = may_run (slice_get c.workers w)
+is_progress c (Pop w) = is_free (slice_get c.workers w) && may_give (slice_get c.workers w)
+is_progress c (Steal thief victim) = not (nat_eq thief victim) && (is_free (slice_get c.workers thief) && may_give (slice_get c.workers victim))
+is_progress c (Look w place) = is_free (slice_get c.workers w) && may_resume c place (slice_get c.workers w)
+is_progress c (Idle w) = false
 
 abbrev pub is_choice : Core → CoreEvent → Bool
-is_choice c e = not (is_answered c (main_origin c.plan)) && goes_on c e
+is_choice c e = not (is_answered c (main_origin c.plan)) && is_progress c e
 
 -- Choices
 

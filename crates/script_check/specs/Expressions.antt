@@ -9,12 +9,12 @@ use Rattle.script_grammar.specs.declared.tree.Expr.TheOpen.{Expr-F}
 use Rattle.script_grammar.specs.declared.tree.SumPart.{SumPart}
 use Rattle.script_grammar.specs.declared.tree.ProductPart.{ProductPart}
 use Rattle.script_check.specs.declared.findings.Violation.{Violation}
-use Rattle.script_check.specs.Names.{Names}
-use Rattle.script_check.specs.Rules.{Declared, wrong_kind, scalar_use, array_use, kind_of}
+use Rattle.script_check.specs.Names.{NameSet}
+use Rattle.script_check.specs.Rules.{Declared, wrong_kind, scalar_use, array_use, kind_of_variable}
 
 -- the violations of a part of a script where these variables are known and those names are pending
 abbrev pub Violations : Type 0
-Violations = Declared → Names → List Violation
+Violations = Declared → NameSet → List Violation
 
 -- what is read of an expression or a right side: its place, its kind, and the violations in it
 pub record Reading : Type 0 where
@@ -39,7 +39,7 @@ all_wanted kind (r ∷ rs) known p = wanted kind r known p ++ all_wanted kind rs
 -- one node, with what is read of its parts in their places
 abbrev pub read_at : Expr-F Reading Reading Reading → Reading
 read_at (node.Number n) = int_at n.at (λ known p. [])
-read_at (node.Var x) = record { at = x.at; kind = λ known. kind_of (known.what x.bytes); violations = λ known p. scalar_use (known.what x.bytes) p x }
+read_at (node.Var x) = record { at = x.at; kind = λ known. kind_of_variable (known.what x.bytes); violations = λ known p. scalar_use (known.what x.bytes) p x }
 read_at (node.Item x i) = int_at x.at (λ known p. array_use (known.what x.bytes) p x ++ wanted Int i known p)
 read_at (node.Neg at e) = int_at at (wanted Int e)
 read_at (node.Same at a b) = int_at at (two_wanted Id a b)

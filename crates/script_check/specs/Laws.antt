@@ -2,7 +2,7 @@
 use Rattle.std.specs.Prelude.{◌≡◌, ℕ, ◌<◌, ◌≤◌, ◌⊎◌, true, List, [], length, All}
 use Rattle.script_grammar.specs.declared.tree.Stmt.{Stmt}
 use Rattle.script_grammar.specs.declared.tree.Script.{Script}
-use Rattle.script_check.specs.Names.{Names, IsWithin, both}
+use Rattle.script_check.specs.Names.{NameSet, IsWithin, union}
 use Rattle.script_check.specs.Rules.{Declared, most_variables}
 use Rattle.script_check.specs.Statements.{Context, judge_all, violations_each, after}
 use Rattle.script_grammar.specs.Text.{IsOfText}
@@ -12,13 +12,13 @@ use Rattle.script_check.specs.Valid.{violations, CheckFault, IsValid}
 -- Statements that are valid from a set are valid from each subset of it, with no more pending after them.
 abbrev pub FewerPendingStaysValid : Type 0
 FewerPendingStaysValid =
-    (statements : List Stmt) (context : Context) (known : Declared) (fewer p : Names) → IsWithin fewer p →
+    (statements : List Stmt) (context : Context) (known : Declared) (fewer p : NameSet) → IsWithin fewer p →
     violations_each (judge_all statements) context known p ≡ [] →
     (violations_each (judge_all statements) context known fewer ≡ []) × IsWithin (after statements fewer) (after statements p)
 
 -- The set that a `while` is judged with has all that its body leaves pending from that set.
 abbrev pub LoopSetIsClosed : Type 0
-LoopSetIsClosed = (body : List Stmt) (p : Names) → let q = both p (after body p) in IsWithin (after body q) q
+LoopSetIsClosed = (body : List Stmt) (p : NameSet) → let q = union p (after body p) in IsWithin (after body q) q
 
 -- A script has one fault at most.
 abbrev pub FaultIsUnique : Type 0

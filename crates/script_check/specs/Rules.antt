@@ -10,9 +10,9 @@ use Rattle.script_check.specs.declared.variable.Variable.{Variable}
 use Rattle.script_check.specs.declared.variable.Variable.TheVariants.{Scalar, Array}
 use Rattle.script_check.specs.Conditions.{number_of}
 use Rattle.script_check.specs.declared.condition.Condition.TheVariants.{VariableTwice, UnknownFunction, UnknownVariable, WrongNumberOfArguments, WrongKind, PendingVariable, LetInABlock, TooManyVariables, ArrayLength}
-use Rattle.script_check.specs.Violations.{broken}
+use Rattle.script_check.specs.Violations.{violation_if}
 use Rattle.script_check.specs.Tables.{Table}
-use Rattle.script_check.specs.Names.{Names}
+use Rattle.script_check.specs.Names.{NameSet}
 
 -- the variables that are known at a place: what the first of each name is
 abbrev pub Declared : Type 0
@@ -27,29 +27,29 @@ is_other_kind Id (Some Id) = false
 is_other_kind wanted None = false
 
 abbrev pub variable_twice : Declared → Name → List Violation
-variable_twice known x = broken (is_some (known.what x.bytes)) (number_of VariableTwice) x.at
+variable_twice known x = violation_if (is_some (known.what x.bytes)) (number_of VariableTwice) x.at
 
 abbrev pub unknown_function : Name → List Violation
-unknown_function f = broken true (number_of UnknownFunction) f.at
+unknown_function f = violation_if true (number_of UnknownFunction) f.at
 
 abbrev pub unknown_variable : Name → List Violation
-unknown_variable x = broken true (number_of UnknownVariable) x.at
+unknown_variable x = violation_if true (number_of UnknownVariable) x.at
 
 -- where the call hasn't as many arguments as parameters
 abbrev pub wrong_number_of_arguments : Bool → Name → List Violation
-wrong_number_of_arguments has_as_many f = broken (not has_as_many) (number_of WrongNumberOfArguments) f.at
+wrong_number_of_arguments has_as_many f = violation_if (not has_as_many) (number_of WrongNumberOfArguments) f.at
 
 abbrev pub wrong_kind : Kind → Option Kind → ℕ → List Violation
-wrong_kind wanted kind at = broken (is_other_kind wanted kind) (number_of WrongKind) at
+wrong_kind wanted kind at = violation_if (is_other_kind wanted kind) (number_of WrongKind) at
 
 abbrev pub wrong_use : Name → List Violation
-wrong_use x = broken true (number_of WrongKind) x.at
+wrong_use x = violation_if true (number_of WrongKind) x.at
 
-abbrev pub pending_variable : Names → Name → List Violation
-pending_variable p x = broken (p x.bytes) (number_of PendingVariable) x.at
+abbrev pub pending_variable : NameSet → Name → List Violation
+pending_variable p x = violation_if (p x.bytes) (number_of PendingVariable) x.at
 
 abbrev pub let_in_a_block : Bool → ℕ → List Violation
-let_in_a_block in_block at = broken in_block (number_of LetInABlock) at
+let_in_a_block in_block at = violation_if in_block (number_of LetInABlock) at
 
 -- a function has at most so many variables at a place
 abbrev pub most_variables : ℕ
@@ -57,25 +57,25 @@ most_variables = 256
 
 -- the name is new where as many are known
 abbrev pub too_many_variables : Declared → Name → List Violation
-too_many_variables known x = broken (is_none (known.what x.bytes) && nat_eq known.count most_variables) (number_of TooManyVariables) x.at
+too_many_variables known x = violation_if (is_none (known.what x.bytes) && nat_eq known.count most_variables) (number_of TooManyVariables) x.at
 
 abbrev pub array_length : Number → List Violation
-array_length n = broken (int_lt n.value (pos 1) || int_lt (pos 4096) n.value) (number_of ArrayLength) n.at
+array_length n = violation_if (int_lt n.value (pos 1) || int_lt (pos 4096) n.value) (number_of ArrayLength) n.at
 
 -- what a known scalar holds
-abbrev pub kind_of : Option Variable → Option Kind
-kind_of (Some (Scalar kind)) = Some kind
-kind_of (Some Array) = None
-kind_of None = None
+abbrev pub kind_of_variable : Option Variable → Option Kind
+kind_of_variable (Some (Scalar kind)) = Some kind
+kind_of_variable (Some Array) = None
+kind_of_variable None = None
 
 -- a name that is read or written as a scalar
-abbrev pub scalar_use : Option Variable → Names → Name → List Violation
+abbrev pub scalar_use : Option Variable → NameSet → Name → List Violation
 scalar_use (Some (Scalar kind)) p x = pending_variable p x
 scalar_use (Some Array) p x = wrong_use x ++ pending_variable p x
 scalar_use None p x = unknown_variable x
 
 -- a name that is read or written as an array
-abbrev pub array_use : Option Variable → Names → Name → List Violation
+abbrev pub array_use : Option Variable → NameSet → Name → List Violation
 array_use (Some (Scalar kind)) p x = wrong_use x ++ pending_variable p x
 array_use (Some Array) p x = pending_variable p x
 array_use None p x = unknown_variable x

@@ -17,8 +17,8 @@ use Rattle.script_grammar.specs.declared.tree.Act.{Act}
 use Rattle.script_check.specs.declared.variable.Variable.TheVariants.{Scalar, Array}
 use Rattle.script_check.specs.Tables.{with_first}
 use Rattle.script_check.specs.Functions.{function_named}
-use Rattle.script_check.specs.Names.{Names, both, after_each, after_act}
-use Rattle.script_check.specs.Rules.{Declared, unknown_function, wrong_number_of_arguments, wrong_kind, let_in_a_block, array_length, kind_of, scalar_use, array_use, declaration}
+use Rattle.script_check.specs.Names.{NameSet, union, after_each, after_act}
+use Rattle.script_check.specs.Rules.{Declared, unknown_function, wrong_number_of_arguments, wrong_kind, let_in_a_block, array_length, kind_of_variable, scalar_use, array_use, declaration}
 use Rattle.script_check.specs.Expressions.{Violations, Reading, wanted, two_wanted, read}
 
 -- Calls
@@ -91,7 +91,7 @@ context functions in_block = record { functions = functions; in_block = in_block
 
 -- what a statement is to those after it, and its violations
 pub record Judged : Type 0 where
-  pub after : Names → Names
+  pub after : NameSet → NameSet
   pub known : List Function → Declared → Declared
   pub violations : Context → Violations
 
@@ -128,7 +128,7 @@ violations_act (act.Let x r) at context known p =
     let_in_a_block context.in_block at ++ (read_right context.functions r).violations known p ++ declaration known x
 violations_act (act.Array x n) at context known p = let_in_a_block context.in_block at ++ declaration known x ++ array_length n
 violations_act (act.Set x r) at context known p =
-    scalar_use (known.what x.bytes) p x ++ wanted_as (kind_of (known.what x.bytes)) (read_right context.functions r) known p
+    scalar_use (known.what x.bytes) p x ++ wanted_as (kind_of_variable (known.what x.bytes)) (read_right context.functions r) known p
 violations_act (act.Store x i e) at context known p = array_use (known.what x.bytes) p x ++ two_wanted Int (read i) (read e) known p
 violations_act (act.Spawn c) at context known p = call context.functions c known p
 violations_act (act.Call c) at context known p = call context.functions c known p
@@ -137,7 +137,7 @@ violations_act (act.Print e) at context known p = (read e).violations known p
 violations_act (act.If e a b) at context known p =
     wanted Int (read e) known p ++ block_violations a context known p ++ block_violations b context (known_each a context.functions known) p
 violations_act (act.While e a) at context known p =
-    let q = both p (after_each (λ (j : Judged). j.after) a p) in
+    let q = union p (after_each (λ (j : Judged). j.after) a p) in
     wanted Int (read e) known q ++ block_violations a context known q
 violations_act (act.Pfor x lo hi target c) at context known p =
     two_wanted Int (read lo) (read hi) known p ++ target_use target known p
@@ -158,5 +158,5 @@ abbrev pub judge_all : List Stmt → List Judged
 judge_all = map judge
 
 -- the names that are pending after statements
-abbrev pub after : List Stmt → Names → Names
+abbrev pub after : List Stmt → NameSet → NameSet
 after ss = after_each (λ (j : Judged). j.after) (judge_all ss)

@@ -7,10 +7,10 @@ use Rattle.script_check.specs.declared.findings.Violation.{Violation}
 use Rattle.script_check.specs.declared.variable.Variable.TheVariants.{Scalar}
 use Rattle.script_check.specs.Conditions.{number_of}
 use Rattle.script_check.specs.declared.condition.Condition.TheVariants.{NoMain, MainHasParameters, FunctionTwice}
-use Rattle.script_check.specs.Violations.{violation, broken, is_before}
+use Rattle.script_check.specs.Violations.{violation, violation_if, is_before}
 use Rattle.script_check.specs.Tables.{no_entries, with_first}
 use Rattle.script_check.specs.Functions.{first_named, function_named, main_name}
-use Rattle.script_check.specs.Names.{nobody}
+use Rattle.script_check.specs.Names.{no_names}
 use Rattle.script_check.specs.Rules.{Declared, declaration}
 use Rattle.script_check.specs.Expressions.{wanted, read}
 use Rattle.script_check.specs.Statements.{context, judge_all, known_each, violations_each}
@@ -28,8 +28,8 @@ abbrev pub function_violations : List Function → Function → List Violation
 function_violations functions f =
     let known = known_params f.params no_entries in
     param_violations f.params no_entries
-    ++ violations_each (judge_all f.body) (context functions false) known nobody
-    ++ wanted f.answer (read f.result) (known_each (judge_all f.body) functions known) nobody
+    ++ violations_each (judge_all f.body) (context functions false) known no_names
+    ++ wanted f.answer (read f.result) (known_each (judge_all f.body) functions known) no_names
 
 abbrev pub all_function_violations : List Function → List Function → List Violation
 all_function_violations functions [] = []
@@ -39,14 +39,14 @@ all_function_violations functions (f ∷ fs) = function_violations functions f +
 abbrev pub functions_twice : List Function → List Function → List Violation
 functions_twice before [] = []
 functions_twice before (f ∷ fs) =
-    broken (is_some (first_named before f.name.bytes)) (number_of FunctionTwice) f.name.at ++ functions_twice (before ++ f ∷ []) fs
+    violation_if (is_some (first_named before f.name.bytes)) (number_of FunctionTwice) f.name.at ++ functions_twice (before ++ f ∷ []) fs
 
 abbrev pub main_with_parameters : List Param → List Violation
 main_with_parameters [] = []
-main_with_parameters (q ∷ params) = broken true (number_of MainHasParameters) q.name.at
+main_with_parameters (q ∷ params) = violation_if true (number_of MainHasParameters) q.name.at
 
 abbrev pub main_violations : Option Function → List Violation
-main_violations None = broken true (number_of NoMain) 0
+main_violations None = violation_if true (number_of NoMain) 0
 main_violations (Some main) = main_with_parameters main.params
 
 -- all violated conditions of a script

@@ -6,9 +6,9 @@ abbrev pub violation : ℕ → ℕ → Violation
 violation number at = record { at = at; number = number }
 
 -- a rule's violation, where it is broken
-abbrev pub broken : Bool → ℕ → ℕ → List Violation
-broken true number at = violation number at ∷ []
-broken false number at = []
+abbrev pub violation_if : Bool → ℕ → ℕ → List Violation
+violation_if true number at = violation number at ∷ []
+violation_if false number at = []
 
 -- whether u comes before v: it stands at a smaller offset, or at the same one with a smaller number
 abbrev pub is_before : Violation → Violation → Bool

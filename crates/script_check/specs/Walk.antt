@@ -16,7 +16,7 @@ use Rattle.script_check.specs.declared.symbols.SymbolTable.{SymbolTable}
 use Rattle.script_check.specs.Spawns.{each_spawns}
 use Rattle.script_check.specs.Tables.{Table, table_of}
 use Rattle.script_check.specs.Functions.{first_named}
-use Rattle.script_check.specs.Names.{Names}
+use Rattle.script_check.specs.Names.{NameSet}
 use Rattle.script_check.specs.Rules.{Declared}
 use Rattle.script_check.specs.Statements.{judge, judge_all, known_each, after}
 use Rattle.script_check.specs.Places.{each_names, finds_all, has_place, place_in, table_of_callees, table_of_places}
@@ -39,20 +39,20 @@ abbrev pub finds : FindingView → Name → Bool
 finds f = has_place f.table f.names
 
 -- the names of a table
-abbrev pub names_of : {A : Type 0} → Table A → Names
+abbrev pub names_of : {A : Type 0} → Table A → NameSet
 names_of table name = is_some (table.what name)
 
 -- the set without a name
-abbrev pub without_name : List ℕ → Names → Names
+abbrev pub without_name : List ℕ → NameSet → NameSet
 without_name x p y = not (bytes_eq x y) && p y
 
 -- the pending set before a change, of the one after it
-abbrev pub undo : Change → Names → Names
+abbrev pub undo : Change → NameSet → NameSet
 undo (Added name) p = without_name name.items p
 undo (Cleared old) p = names_of (table_of old.map)
 
 -- the same before several changes, which are undone from the last to the first
-abbrev pub undone : List Change → Names → Names
+abbrev pub undone : List Change → NameSet → NameSet
 undone [] p = p
 undone (c ∷ cs) p = undo c (undone cs p)
 
@@ -60,14 +60,14 @@ undone (c ∷ cs) p = undo c (undone cs p)
 -- began may still be so, and the set that was pending there.
 pub record WalkState : Type 0 where
   pub known : Declared
-  pub names : Names
+  pub names : NameSet
   pub keeps : Bool
-  pub before : Names
+  pub before : NameSet
 
 abbrev pub known_in : SymbolTable → Declared
 known_in symbols = table_of symbols.known.map
 
-abbrev pub pending_in : SymbolTable → Names
+abbrev pub pending_in : SymbolTable → NameSet
 pending_in symbols = names_of (table_of symbols.pending.map)
 
 abbrev pub state_of : SymbolTable → WalkState

@@ -6,6 +6,7 @@ ghost use Rattle.script_check.specs.Tables.{table_of};
 ghost use Rattle.script_check.specs.Walk.{IsIndex};
 
 use crate::memory::Memory;
+use crate::named::note;
 use crate::names::NameTable;
 use crate::places::put;
 use script_grammar::{Act, Function, Items, Name, Right, Stmt};
@@ -97,11 +98,4 @@ fn in_right(called: &mut Vec<Name>, right: &Right) -> Result<(), Memory>
         Right::Call(_, c) | Right::Spawn(_, c) => note(called, &c.name),
         Right::Value(_) | Right::Draw(_) | Right::New(_) => Ok(()),
     }
-}
-
-fn note(called: &mut Vec<Name>, name: &Name) -> Result<(), Memory>
-    ensures { OnOk result (called.new.items ≡ called.old.items ++ name.now ∷ []) }
-{
-    called.push(name.copy())?;
-    Ok(())
 }

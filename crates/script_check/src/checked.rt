@@ -164,7 +164,8 @@ impl Checked {
         self.kept.first.get(b"main").unwrap_or(0)
     }
 
-    /// The index of the first function of this name. There is none exactly where no function has it.
+    /// The index of the first function of this name. There is none exactly where no function has it. It is for who asks for a function by a name
+    /// that doesn't stand in the script: in `fn f() { return 0; } fn main() { return 0; }` that of `f` is 0, and `g` has none.
     pub fn function_of(&self, name: &Name) -> Option<u32>
         ensures function { result ≡ first_named self.now.functions name.now.bytes }
         ensures within { IfSome result (λ i. i < length self.now.functions) }

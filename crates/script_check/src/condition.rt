@@ -1,7 +1,7 @@
-// The conditions of a valid script, and their numbers.
+// The conditions of a valid script, their numbers, and what they are called.
 
 ghost use Rattle.std.specs.Prelude.{◌≡◌};
-ghost use Rattle.script_check.specs.Conditions.{number_of};
+ghost use Rattle.script_check.specs.Conditions.{condition_of, condition_text, number_of, text_of};
 
 /// The conditions of a valid script, by what violates them. `CheckError` says where each stands.
 #[derive(Clone, Copy)]
@@ -40,4 +40,50 @@ impl Condition {
             Condition::ArrayLength => 12,
         }
     }
+
+    /// The condition of this number. Of a number that none has it is the last.
+    fn of_number(number: u8) -> Condition
+        ensures { result ≡ condition_of number }
+    {
+        match number {
+            1 => Condition::NoMain,
+            2 => Condition::MainHasParameters,
+            3 => Condition::FunctionTwice,
+            4 => Condition::VariableTwice,
+            5 => Condition::UnknownFunction,
+            6 => Condition::UnknownVariable,
+            7 => Condition::WrongNumberOfArguments,
+            8 => Condition::WrongKind,
+            9 => Condition::PendingVariable,
+            10 => Condition::LetInABlock,
+            11 => Condition::TooManyVariables,
+            _ => Condition::ArrayLength,
+        }
+    }
+
+    fn text(self) -> &'static str
+        ensures { result.now ≡ text_of self }
+    {
+        match self {
+            Condition::NoMain => "no main",
+            Condition::MainHasParameters => "main has parameters",
+            Condition::FunctionTwice => "function twice",
+            Condition::VariableTwice => "variable twice",
+            Condition::UnknownFunction => "unknown function",
+            Condition::UnknownVariable => "unknown variable",
+            Condition::WrongNumberOfArguments => "wrong number of arguments",
+            Condition::WrongKind => "wrong kind",
+            Condition::PendingVariable => "pending variable",
+            Condition::LetInABlock => "let in a block",
+            Condition::TooManyVariables => "too many variables",
+            Condition::ArrayLength => "array length",
+        }
+    }
+}
+
+/// What a number of `CheckError::Bad` says, in words: that of `no main` is 1. A number that no condition has is taken for 12.
+pub fn condition_text(number: u8) -> &'static str
+    ensures { result.now ≡ condition_text number }
+{
+    Condition::of_number(number).text()
 }

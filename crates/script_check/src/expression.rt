@@ -2,7 +2,7 @@
 
 ghost use Rattle.std.specs.Prelude.{◌≡◌, ◌∷◌, ◌++◌, map, Some, None};
 ghost use Rattle.script_check.specs.Violations.{noted};
-ghost use Rattle.script_check.specs.Rules.{scalar_use, array_use, kind_of, is_other_kind, wrong_kind};
+ghost use Rattle.script_check.specs.Rules.{scalar_use, array_use, kind_of_variable, is_other_kind, wrong_kind};
 ghost use Rattle.script_check.specs.Expressions.{read, read_sum_part, read_product_part, wanted, all_wanted};
 ghost use Rattle.script_check.specs.Walk.{known_in, pending_in};
 ghost use Rattle.script_grammar.specs.declared.tree.Kind.TheVariants as kind;
@@ -56,7 +56,7 @@ fn is_other_kind(wanted: Kind, kind: Option<Kind>) -> bool
 
 /// A name that is read or written as a scalar, and its kind.
 pub(crate) fn use_scalar(symbols: &SymbolTable, found: &mut Findings, x: &Name) -> Option<Kind>
-    ensures kind { result ≡ kind_of ((known_in symbols.now).what x.now.bytes) }
+    ensures kind { result ≡ kind_of_variable ((known_in symbols.now).what x.now.bytes) }
     ensures found { found.new ≡ noted found.old (scalar_use ((known_in symbols.now).what x.now.bytes) (pending_in symbols.now) x.now) }
 {
     match symbols.variable(x) {

@@ -2,7 +2,7 @@
 
 ghost use Rattle.std.specs.Prelude.{◌≡◌};
 ghost use Rattle.script_check.specs.Conditions.{number_of};
-ghost use Rattle.script_check.specs.Violations.{broken, noted};
+ghost use Rattle.script_check.specs.Violations.{violation_if, noted};
 
 use crate::condition::Condition;
 use std::marker::Model;
@@ -41,7 +41,7 @@ impl Findings {
 
     /// Notes a condition's violation at this place, if it is broken there.
     pub(crate) fn note_if(&mut self, is_broken: bool, condition: Condition, at: u32)
-        ensures { self.new ≡ noted self.old (broken is_broken (number_of condition) at) }
+        ensures { self.new ≡ noted self.old (violation_if is_broken (number_of condition) at) }
     {
         let number = condition.number();
         if is_broken {

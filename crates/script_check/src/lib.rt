@@ -24,6 +24,7 @@ mod variable;
 mod variables;
 
 pub use checked::{Checked, check};
+pub use condition::condition_text;
 pub use error::CheckError;
 pub use finding::finds;
 pub use memory::Memory;

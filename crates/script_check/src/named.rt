@@ -173,7 +173,8 @@ fn in_factors(named: &mut Vec<Name>, parts: &[ProductPart]) -> Result<(), Memory
     Ok(())
 }
 
-fn note(named: &mut Vec<Name>, x: &Name) -> Result<(), Memory>
+/// One name more.
+pub(crate) fn note(named: &mut Vec<Name>, x: &Name) -> Result<(), Memory>
     ensures { OnOk result (named.new.items ≡ named.old.items ++ x.now ∷ []) }
 {
     named.push(x.copy())?;

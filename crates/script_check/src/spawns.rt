@@ -1,7 +1,7 @@
 // What statements leave pending.
 
 ghost use Rattle.std.specs.Prelude.{◌≡◌, IfOk, OnOk};
-ghost use Rattle.script_check.specs.Names.{nobody, both};
+ghost use Rattle.script_check.specs.Names.{no_names, union};
 ghost use Rattle.script_check.specs.Statements.{after, judge};
 ghost use Rattle.script_check.specs.Walk.{state_of, keeps, keeps_all};
 
@@ -20,7 +20,7 @@ pub(crate) fn collect(
     statements: &[Stmt],
 ) -> Result<bool, Memory>
     ensures keeps { IfOk result (λ b. b ≡ keeps_all statements.now) }
-    ensures state { OnOk result (state_of symbols.new ≡ record (state_of symbols.old) { names = both (after statements.now nobody) (state_of symbols.old).names }) }
+    ensures state { OnOk result (state_of symbols.new ≡ record (state_of symbols.old) { names = union (after statements.now no_names) (state_of symbols.old).names }) }
 {
     let mut i = statements.len();
     while i > 0 {
@@ -36,7 +36,7 @@ pub(crate) fn collect(
 #[cycle(spawns)]
 fn collect_one(alloc: Global, symbols: &mut SymbolTable, statement: &Stmt) -> Result<bool, Memory>
     ensures keeps { IfOk result (λ b. b ≡ keeps statement.now) }
-    ensures state { OnOk result (state_of symbols.new ≡ record (state_of symbols.old) { names = both ((judge statement.now).after nobody) (state_of symbols.old).names }) }
+    ensures state { OnOk result (state_of symbols.new ≡ record (state_of symbols.old) { names = union ((judge statement.now).after no_names) (state_of symbols.old).names }) }
 {
     match &statement.act {
         Act::Let(x, Right::Spawn(_, _)) => {

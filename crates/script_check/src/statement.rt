@@ -8,8 +8,8 @@ ghost use Rattle.script_check.specs.declared.variable.Variable.TheVariants.{Scal
 ghost use Rattle.script_check.specs.Violations.{noted};
 ghost use Rattle.script_check.specs.Tables.{with_first};
 ghost use Rattle.script_check.specs.Functions.{function_named};
-ghost use Rattle.script_check.specs.Names.{both, after_right};
-ghost use Rattle.script_check.specs.Rules.{declaration, array_length, scalar_use, array_use, kind_of};
+ghost use Rattle.script_check.specs.Names.{union, after_right};
+ghost use Rattle.script_check.specs.Rules.{declaration, array_length, scalar_use, array_use, kind_of_variable};
 ghost use Rattle.script_check.specs.Expressions.{read, wanted, two_wanted};
 ghost use Rattle.script_check.specs.Statements.{context, judge, judge_all, read_right, wanted_as, kind_or_int, known_each, violations_each, after, target_use, loop_call_of};
 ghost use Rattle.script_check.specs.Walk.{HasBlocks, state_after, state_after_all, keeps, keeps_all, known_in, pending_in, state_of};
@@ -110,7 +110,7 @@ fn judge_set(
 ) -> Result<(), Memory>
     ensures state { OnOk result (state_of symbols.new ≡ record (state_of symbols.old) { names = after_right x.now right.now (state_of symbols.old).names }) }
     ensures found { OnOk result (found.new ≡ noted found.old (scalar_use ((known_in symbols.old).what x.now.bytes) (pending_in symbols.old) x.now
-        ++ wanted_as (kind_of ((known_in symbols.old).what x.now.bytes)) (read_right functions.now right.now) (known_in symbols.old) (pending_in symbols.old))) }
+        ++ wanted_as (kind_of_variable ((known_in symbols.old).what x.now.bytes)) (read_right functions.now right.now) (known_in symbols.old) (pending_in symbols.old))) }
 {
     let kind = use_scalar(symbols, found, x);
     want_right(functions, symbols, found, kind, right);
@@ -198,7 +198,7 @@ fn end_if(
 ) -> Result<(), Memory>
     requires { keeps ≡ (keeps_all a.now || keeps_all b.now) }
     ensures { OnOk result (state_of symbols.new ≡ record (state_of symbols.old) {
-      names = both (after a.now (state_of symbols.old).names) (after b.now (state_of symbols.old).names);
+      names = union (after a.now (state_of symbols.old).names) (after b.now (state_of symbols.old).names);
       keeps = keeps && (state_of symbols.old).keeps;
     }) }
 {
@@ -210,7 +210,7 @@ fn end_if(
 
 /// The beginning of a `while`: its condition and its body are judged with all that an earlier turn may have left pending.
 fn begin_while(alloc: Global, symbols: &mut SymbolTable, body: &[Stmt]) -> Result<(), Memory>
-    ensures { OnOk result (state_of symbols.new ≡ record (state_of symbols.old) { names = both (state_of symbols.old).names (after body.now (state_of symbols.old).names) }) }
+    ensures { OnOk result (state_of symbols.new ≡ record (state_of symbols.old) { names = union (state_of symbols.old).names (after body.now (state_of symbols.old).names) }) }
 {
     collect(alloc, symbols, body)?;
     Ok(())

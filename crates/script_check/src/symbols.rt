@@ -1,7 +1,7 @@
 // What is known and what is pending before a statement.
 
 ghost use Rattle.std.specs.Prelude.{◌≡◌, false, true, OnOk, ◌&&◌};
-ghost use Rattle.script_check.specs.Names.{nobody, only, with_name};
+ghost use Rattle.script_check.specs.Names.{no_names, names_if, with_name};
 ghost use Rattle.script_check.specs.Tables.{no_entries, with_first};
 ghost use Rattle.script_check.specs.Rules.{declaration};
 ghost use Rattle.script_check.specs.Violations.{noted};
@@ -47,7 +47,7 @@ impl SymbolTable {
     /// Nothing known, nothing pending.
     pub(crate) fn new(alloc: Global) -> SymbolTable
         ensures known { known_in result ≡ no_entries }
-        ensures pending { pending_in result ≡ nobody }
+        ensures pending { pending_in result ≡ no_names }
     {
         SymbolTable {
             known: NameTable::new(alloc),
@@ -110,7 +110,7 @@ impl SymbolTable {
 
     /// Nothing is pending any more.
     pub(crate) fn sync(&mut self, alloc: Global) -> Result<(), Memory>
-        ensures { OnOk result (state_of self.new ≡ record (state_of self.old) { names = nobody; keeps = false }) }
+        ensures { OnOk result (state_of self.new ≡ record (state_of self.old) { names = no_names; keeps = false }) }
     {
         let pending = mem::replace(&mut self.pending, NameTable::new(alloc));
         self.block.changes.push(Change::Cleared(pending))?;
@@ -120,7 +120,7 @@ impl SymbolTable {
 
     /// The end of an `if`: what was pending before it stays so if one of the blocks keeps it.
     pub(crate) fn keep_if(&mut self, alloc: Global, keeps: bool) -> Result<(), Memory>
-        ensures { OnOk result (state_of self.new ≡ record (state_of self.old) { names = only keeps (state_of self.old).names; keeps = keeps && (state_of self.old).keeps }) }
+        ensures { OnOk result (state_of self.new ≡ record (state_of self.old) { names = names_if keeps (state_of self.old).names; keeps = keeps && (state_of self.old).keeps }) }
     {
         if !keeps {
             self.sync(alloc)?;

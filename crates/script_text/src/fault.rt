@@ -1,7 +1,7 @@
-// The faults of a text, and their numbers.
+// The faults of a text, their numbers, and what they are called.
 
 ghost use Rattle.std.specs.Prelude.{◌≡◌};
-ghost use Rattle.script_text.specs.Numbers.{number_of};
+ghost use Rattle.script_text.specs.Numbers.{fault_of, fault_text, number_of, text_of};
 
 use crate::error::SyntaxError;
 
@@ -32,6 +32,35 @@ impl TextFault {
         }
     }
 
+    /// The fault of this number. Of a number that none has it is the last.
+    fn of_number(number: u8) -> TextFault
+        ensures { result ≡ fault_of number }
+    {
+        match number {
+            1 => TextFault::NotAscii,
+            2 => TextFault::UnexpectedToken,
+            3 => TextFault::NumberOutOfRange,
+            4 => TextFault::NameTooLong,
+            5 => TextFault::NestedTooDeep,
+            6 => TextFault::UnexpectedEnd,
+            _ => TextFault::TooManyFunctions,
+        }
+    }
+
+    fn text(self) -> &'static str
+        ensures { result.now ≡ text_of self }
+    {
+        match self {
+            TextFault::NotAscii => "not ASCII",
+            TextFault::UnexpectedToken => "unexpected token",
+            TextFault::NumberOutOfRange => "number out of range",
+            TextFault::NameTooLong => "name too long",
+            TextFault::NestedTooDeep => "nested too deep",
+            TextFault::UnexpectedEnd => "unexpected end",
+            TextFault::TooManyFunctions => "too many functions",
+        }
+    }
+
     /// This fault, at the byte of this offset.
     pub(crate) fn at(self, at: u32) -> SyntaxError
         ensures { result ≡ SyntaxError.Bad (number_of self) at }
@@ -41,4 +70,11 @@ impl TextFault {
             at,
         }
     }
+}
+
+/// What a number of `SyntaxError::Bad` says, in words: that of `not ASCII` is 1. A number that no fault has is taken for 7.
+pub fn fault_text(number: u8) -> &'static str
+    ensures { result.now ≡ fault_text number }
+{
+    TextFault::of_number(number).text()
 }

@@ -17,6 +17,7 @@ pub mod laws;
 mod parser;
 
 pub use error::SyntaxError;
+pub use fault::fault_text;
 pub use parser::{next_token, parse};
 pub use script_grammar::{
     Act, Boxed, CallText, Comparison, Expr, Function, Items, Kind, Name, Number, Param,

@@ -14,7 +14,7 @@ use Rattle.serial_meaning.specs.declared.origin.Origin.TheVariants.{Instance, Lo
 use Rattle.serial_meaning.specs.declared.answer.Outcome.{Outcome}
 use Rattle.meet_block.specs.Joined.{Joined}
 use Rattle.strand_machine.specs.Family.{tag}
-use Rattle.crew.specs.Crews.{AreAnswersOf, new_root}
+use Rattle.crew.specs.Crews.{AreRootAnswers, new_root}
 use Rattle.seed_batch.specs.Batch.{main_answer, part, batch, batch_text}
 
 -- The answers of the roots of plans are main's
@@ -30,14 +30,14 @@ is-mains : (plan : PlanView) (a : AnswerView) → tag plan (main_origin plan) �
 is-mains plan a tagged is =
     let same : tag plan (main_origin plan) ≡ tag a.plan a.origin = cc in is-meant (tag a.plan a.origin) a.out a.outcome is ∙ ap meant (sym same)
 
-of-plans : (plans : List PlanView) (answers : List AnswerView) → AreAnswersOf (map new_root plans) answers → answers ≡ map main_answer plans
+of-plans : (plans : List PlanView) (answers : List AnswerView) → AreRootAnswers (map new_root plans) answers → answers ≡ map main_answer plans
 of-plans [] answers h = h
 of-plans (p ∷ ps) [] h = absurd h
 of-plans (p ∷ ps) (a ∷ answers) h = ap₂ (λ x xs. x ∷ xs) (is-mains p a h.0 h.1) (of-plans ps answers h.2)
 
-pub all_are_mains : (plans : List PlanView) (roots : List (Joined AnswerTag)) (answers : List AnswerView) → roots ≡ map new_root plans → AreAnswersOf roots answers →
+pub all_are_mains : (plans : List PlanView) (roots : List (Joined AnswerTag)) (answers : List AnswerView) → roots ≡ map new_root plans → AreRootAnswers roots answers →
     answers ≡ map main_answer plans
-all_are_mains plans roots answers all h = of-plans plans answers (subst (λ (rs : List (Joined AnswerTag)). AreAnswersOf rs answers) all h)
+all_are_mains plans roots answers all h = of-plans plans answers (subst (λ (rs : List (Joined AnswerTag)). AreRootAnswers rs answers) all h)
 
 -- and none of main's answers is a cut
 whole : (o : Origin) (r : Result (List Value) Fault) → IsWhole (outcome_of o r)

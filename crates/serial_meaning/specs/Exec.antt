@@ -17,8 +17,8 @@ use Rattle.script_grammar.specs.declared.tree.Stmt.{Stmt, out-Stmt}
 use Rattle.script_grammar.specs.declared.tree.Act.{Act, out-Act}
 use Rattle.script_grammar.specs.declared.tree.Act.TheOpen as act
 use Rattle.script_grammar.specs.declared.tree.Act.TheOpen.{Act-F}
-use Rattle.serial_meaning.specs.Runs.{Run, done, stopped, happens, ◌then◌}
-use Rattle.serial_meaning.specs.Values.{Env, slot_of, items_of, number, is_true, at_index, value_of, values_of}
+use Rattle.serial_meaning.specs.Runs.{Run, done, run_ends_by, happens, ◌then◌}
+use Rattle.serial_meaning.specs.Values.{Env, slot_of, items_of, as_integer, is_true, at_index, value_of, values_of}
 use Rattle.serial_meaning.specs.Functions.{number_of, function_at, any_spawns}
 use Rattle.serial_meaning.specs.Plan.{PlanView, functions_of, drawn}
 use Rattle.serial_meaning.specs.declared.value.Value.{Value}
@@ -70,14 +70,14 @@ with_item (x ∷ xs) zero n = n ∷ xs
 with_item (x ∷ xs) (suc i) n = x ∷ with_item xs i n
 
 abbrev pub set_item : List ℤ → ℤ → Value → List ℤ
-set_item xs (pos i) v = with_item xs i (number v)
+set_item xs (pos i) v = with_item xs i (as_integer v)
 set_item xs (negsuc i) v = xs
 
 -- the first items replaced by values
 abbrev pub with_front : List ℤ → List Value → List ℤ
 with_front xs [] = xs
 with_front [] (v ∷ vs) = []
-with_front (x ∷ xs) (v ∷ vs) = number v ∷ with_front xs vs
+with_front (x ∷ xs) (v ∷ vs) = as_integer v ∷ with_front xs vs
 
 -- the parameters with their arguments
 abbrev pub bound : List Param → List Value → Env
@@ -127,16 +127,16 @@ shown items a = record { items = items; ending = Ok a }
 module _ {I E K : Type 0} (how : Manner I E K) (plan : PlanView) (path : List ℕ) where
   -- the instance ends by a fault of its own
   abbrev pub fault : {A : Type 0} → FaultKind → State K → Run I E A
-  fault kind s = stopped (how.own (record { kind = kind; at = strand path s }))
+  fault kind s = run_ends_by (how.own (record { kind = kind; at = strand path s }))
 
   -- an event of this strand, and then the next rank
   abbrev pub emit : (List ℕ → Event) → State K → Run I E (State K)
   emit e s = happens (how.event (e (strand path s))) (record s { rank = s.rank + 1 })
 
   -- goes on with what a calculation gives here, unless that is a fault
-  abbrev pub given : {A B : Type 0} → Result A FaultKind → State K → (A → Run I E B) → Run I E B
-  given (Ok v) s go = go v
-  given (Err kind) s go = fault kind s
+  abbrev pub unless_fault : {A B : Type 0} → Result A FaultKind → State K → (A → Run I E B) → Run I E B
+  unless_fault (Ok v) s go = go v
+  unless_fault (Err kind) s go = fault kind s
 
   -- goes on with one step less, unless there is none
   abbrev pub paid_from : {A : Type 0} → ℕ → State K → (State K → Run I E A) → Run I E A
@@ -154,7 +154,7 @@ module _ {I E K : Type 0} (how : Manner I E K) (plan : PlanView) (path : List �
   -- arguments, the depth, the event, the child
   abbrev pub spawn : CallText → State K → Run I E (Value × State K)
   spawn c s =
-      given (values_of c.args s.env) s λ vs.
+      unless_fault (values_of c.args s.env) s λ vs.
       tested (nat_lt (length path + 1) plan.limits.depth) Depth s
       (happens (how.event (event.Spawn (strand path s))) s then λ s.
       how.spawn (origin.Instance (number_of (functions_of plan) c.name.bytes) vs (strand path s)) s.spawned then λ r.
@@ -188,7 +188,7 @@ module _ {I E K : Type 0} (how : Manner I E K) (plan : PlanView) (path : List �
   returned f s =
       paid s λ s.
       implied (any_spawns f.body) s then λ s.
-      given (value_of f.result s.env) s λ v.
+      unless_fault (value_of f.result s.env) s λ v.
       done (v, s)
 
   -- a frame of a function in this instance: variables and syncs of its own, and the instance's rank and steps; a valid script
@@ -201,14 +201,14 @@ module _ {I E K : Type 0} (how : Manner I E K) (plan : PlanView) (path : List �
   -- a call goes on from the caller's rank and steps, and the caller from the callee's last ones
   abbrev pub called : BlockMeaning I E K → ℕ → CallText → State K → Run I E (Value × State K)
   called block calls c s =
-      given (values_of c.args s.env) s λ vs.
+      unless_fault (values_of c.args s.env) s λ vs.
       tested (nat_lt calls most_calls) Calls s
       (frame block (calls + 1) (function_at (functions_of plan) (number_of (functions_of plan) c.name.bytes)) vs s then λ r.
       done (r.0, record s { rank = r.1.rank; steps = r.1.steps }))
 
   -- the right side of a let or an assignment
   abbrev pub right_side : BlockMeaning I E K → ℕ → Right → State K → Run I E (Value × State K)
-  right_side block calls (right.Value e) s = given (value_of e s.env) s λ v. done (v, s)
+  right_side block calls (right.Value e) s = unless_fault (value_of e s.env) s λ v. done (v, s)
   right_side block calls (right.Draw at) s =
       let n = drawn plan (strand path s) in
       emit (λ j. event.Draw j n) s then λ s'.
@@ -224,11 +224,11 @@ module _ {I E K : Type 0} (how : Manner I E K) (plan : PlanView) (path : List �
 
   abbrev pub store : Name → Expr → Expr → State K → Run I E (State K)
   store x i e s =
-      given (value_of i s.env) s λ k.
+      unless_fault (value_of i s.env) s λ k.
       let xs = items_of (slot_of s.env x.bytes) in
-      found (at_index xs (number k)) s
-      (given (value_of e s.env) s λ v.
-      done (set_array s x (set_item xs (number k) v)))
+      found (at_index xs (as_integer k)) s
+      (unless_fault (value_of e s.env) s λ v.
+      done (set_array s x (set_item xs (as_integer k) v)))
 
   abbrev pub fits_depth : ℕ → Bool
   fits_depth zero = true
@@ -260,15 +260,15 @@ module _ {I E K : Type 0} (how : Manner I E K) (plan : PlanView) (path : List �
   does block calls st (act.Spawn c) s = spawn c s then λ p. done p.1
   does block calls st (act.Call c) s = called block calls c s then λ p. done p.1
   does block calls st act.Sync s = join s
-  does block calls st (act.Print e) s = given (value_of e s.env) s λ v. happens (how.event (event.Print (strand path s) v)) s
-  does block calls st (act.If e a b) s = given (value_of e s.env) s λ v. block path calls (if is_true v then a else b) s
+  does block calls st (act.Print e) s = unless_fault (value_of e s.env) s λ v. happens (how.event (event.Print (strand path s) v)) s
+  does block calls st (act.If e a b) s = unless_fault (value_of e s.env) s λ v. block path calls (if is_true v then a else b) s
   does block calls st (act.While e a) s =
-      given (value_of e s.env) s λ v. (if is_true v then (block path calls a s then block path calls (st ∷ [])) else done s)
+      unless_fault (value_of e s.env) s λ v. (if is_true v then (block path calls a s then block path calls (st ∷ [])) else done s)
   does block calls st (act.Pfor x lo hi target c) s =
-      given (value_of lo s.env) s λ l.
-      given (value_of hi s.env) s λ h.
-      given (values_of c.args s.env) s λ vs.
-      looped (number l) (count_of (number h -ℤ number l)) vs target c s
+      unless_fault (value_of lo s.env) s λ l.
+      unless_fault (value_of hi s.env) s λ h.
+      unless_fault (values_of c.args s.env) s λ vs.
+      looped (as_integer l) (count_of (as_integer h -ℤ as_integer l)) vs target c s
   does block calls st (act.Scope a) s = scoped block calls a s
 
   abbrev pub statement : BlockMeaning I E K → ℕ → Stmt → State K → Run I E (State K)

@@ -6,7 +6,7 @@ use Rattle.std.specs.Cmp.Lexicographic.{slice_cmp}
 use Rattle.script_grammar.specs.declared.tree.Function.{Function}
 use Rattle.script_grammar.specs.declared.tree.Kind.{Kind}
 use Rattle.script_grammar.specs.declared.tree.Kind.TheVariants as kind
-use Rattle.serial_meaning.specs.Runs.{Run, done, stopped, happens, ◌then◌}
+use Rattle.serial_meaning.specs.Runs.{Run, done, run_ends_by, happens, ◌then◌}
 use Rattle.serial_meaning.specs.Functions.{function_at}
 use Rattle.serial_meaning.specs.Plan.{PlanView, functions_of}
 use Rattle.serial_meaning.specs.Exec.{Manner, instance}
@@ -62,7 +62,7 @@ put_off instead faulted (Err f) = (instead, Some (least faulted f))
 
 abbrev pub joined : Option Fault → Run Item NodeFault (Option Fault)
 joined None = done None
-joined (Some f) = stopped (ChildFaulted f)
+joined (Some f) = run_ends_by (ChildFaulted f)
 
 abbrev pub loop_end : Result (List Value) Fault → Result (List Value) NodeFault
 loop_end (Ok vs) = Ok vs

@@ -46,15 +46,15 @@ strand_line (event.Spawn j) = line (codes "spawn " ++ ped_text j)
 strand_line (event.Sync j) = line (codes "sync " ++ ped_text j)
 strand_line (event.Loop j) = line (codes "loop " ++ ped_text j)
 
-abbrev pub kind_text : FaultKind → List ℕ
-kind_text Divide = codes "division by zero"
-kind_text Index = codes "index out of range"
-kind_text Depth = codes "depth"
-kind_text Calls = codes "calls"
-kind_text Budget = codes "budget spent"
+abbrev pub fault_kind_text : FaultKind → List ℕ
+fault_kind_text Divide = codes "division by zero"
+fault_kind_text Index = codes "index out of range"
+fault_kind_text Depth = codes "depth"
+fault_kind_text Calls = codes "calls"
+fault_kind_text Budget = codes "budget spent"
 
 abbrev pub fault_line : Fault → List ℕ
-fault_line f = line (codes "fault " ++ ped_text f.at ++ codes ": " ++ kind_text f.kind)
+fault_line f = line (codes "fault " ++ ped_text f.at ++ codes ": " ++ fault_kind_text f.kind)
 
 abbrev pub end_line : Outcome → List ℕ
 end_line (outcome.Value v) = []

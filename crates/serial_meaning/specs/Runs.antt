@@ -9,8 +9,8 @@ pub record Run (I E A : Type 0) : Type 0 where
 abbrev pub done : {I E A : Type 0} → A → Run I E A
 done a = record { items = []; ending = Ok a }
 
-abbrev pub stopped : {I E A : Type 0} → E → Run I E A
-stopped e = record { items = []; ending = Err e }
+abbrev pub run_ends_by : {I E A : Type 0} → E → Run I E A
+run_ends_by e = record { items = []; ending = Err e }
 
 abbrev pub happens : {I E A : Type 0} → I → A → Run I E A
 happens i a = record { items = i ∷ []; ending = Ok a }

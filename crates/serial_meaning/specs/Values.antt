@@ -48,9 +48,9 @@ items_of (Some (Scalar v)) = []
 items_of (Some (Array xs)) = xs
 items_of None = []
 
-abbrev pub number : Value → ℤ
-number (Int n) = n
-number (Id j) = pos 0
+abbrev pub as_integer : Value → ℤ
+as_integer (Int n) = n
+as_integer (Id j) = pos 0
 
 abbrev pub object : Value → List ℕ
 object (Int n) = []
@@ -67,7 +67,7 @@ is_nonzero (pos (suc n)) = true
 is_nonzero (negsuc n) = true
 
 abbrev pub is_true : Value → Bool
-is_true v = is_nonzero (number v)
+is_true v = is_nonzero (as_integer v)
 
 abbrev pub at_index : List ℤ → ℤ → Option ℤ
 at_index xs (pos i) = slice_get xs i
@@ -112,25 +112,25 @@ Meaning = Env → Val
 abbrev pub sums : Env → Value → List (Bool × Meaning) → Val
 sums env v [] = Ok v
 sums env v (p ∷ ps) =
-    p.1 env >>= λ y. added p.0 (number v) (number y) >>= λ z. sums env z ps
+    p.1 env >>= λ y. added p.0 (as_integer v) (as_integer y) >>= λ z. sums env z ps
 
 abbrev pub products : Env → Value → List (ProductSign × Meaning) → Val
 products env v [] = Ok v
 products env v (p ∷ ps) =
-    p.1 env >>= λ y. product p.0 (number v) (number y) >>= λ z. products env z ps
+    p.1 env >>= λ y. product p.0 (as_integer v) (as_integer y) >>= λ z. products env z ps
 
 -- one node, with what its parts give in their places
 abbrev pub value_at : Expr-F Meaning (ProductSign × Meaning) (Bool × Meaning) → Meaning
 value_at (node.Number n) env = Ok (Int n.value)
 value_at (node.Var x) env = Ok (scalar (slot_of env x.bytes))
-value_at (node.Item x i) env = i env >>= λ v. item (items_of (slot_of env x.bytes)) (number v)
-value_at (node.Neg at e) env = e env >>= λ v. Ok (Int (int_wrapping_neg w64 (number v)))
+value_at (node.Item x i) env = i env >>= λ v. item (items_of (slot_of env x.bytes)) (as_integer v)
+value_at (node.Neg at e) env = e env >>= λ v. Ok (Int (int_wrapping_neg w64 (as_integer v)))
 value_at (node.Same at a b) env =
     a env >>= λ x. b env >>= λ y. Ok (truth (bytes_eq (object x) (object y)))
 value_at (node.Older at a b) env =
     a env >>= λ x. b env >>= λ y. Ok (truth (is_lt (slice_cmp nat_cmp (object x) (object y))))
 value_at (node.Compare a how b) env =
-    a env >>= λ x. b env >>= λ y. Ok (truth (compared how (number x) (number y)))
+    a env >>= λ x. b env >>= λ y. Ok (truth (compared how (as_integer x) (as_integer y)))
 value_at (node.Sum first rest) env = first env >>= λ v. sums env v rest
 value_at (node.Product first rest) env = first env >>= λ v. products env v rest
 

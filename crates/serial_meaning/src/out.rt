@@ -99,6 +99,8 @@ impl Out {
     }
 
     /// The event at this index, from 0. There is none exactly where the index is not below the length.
+    ///
+    /// It is for who looks at single events: of a run of `fn main() { print 1; print 2; return 0; }` `get(1)` is the second print, and `get(2)` none.
     pub fn get(&self, i: u64) -> Option<&Event>
         ensures { option_copied result ≡ slice_get self.now i }
     {

@@ -2,7 +2,7 @@ ghost use Rattle.std.specs.Prelude.{◌≡◌, ◌++◌, ◌∷◌, List, [], tr
 ghost use Rattle.std.specs.Fmt.{signed_decimal};
 ghost use Rattle.ped_path.specs.Text.{ped_text};
 ghost use Rattle.serial_meaning.specs.Chunks.{joined};
-ghost use Rattle.serial_meaning.specs.Render.{IsWhole, answer_text, strand_text, event_line, strand_line, line, draw_line, value_text, kind_text, fault_line};
+ghost use Rattle.serial_meaning.specs.Render.{IsWhole, answer_text, strand_text, event_line, strand_line, line, draw_line, value_text, fault_kind_text, fault_line};
 ghost use Rattle.serial_meaning.specs.Columns.{line_in};
 
 use crate::answer::{Answer, Outcome, Strand};
@@ -146,7 +146,7 @@ fn write_fault(fault: &Fault, text: &mut Vec<u8>) -> Result<(), Memory>
 }
 
 fn kind_name(kind: FaultKind) -> &'static str
-    ensures { result.now ≡ kind_text kind }
+    ensures { result.now ≡ fault_kind_text kind }
 {
     match kind {
         FaultKind::Divide => "division by zero",

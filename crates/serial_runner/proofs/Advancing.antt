@@ -17,16 +17,16 @@ use Rattle.strand_meaning.specs.Sound.{IsTask}
 use Rattle.strand_meaning.specs.Task.{Task, start, Stop, Spawn, Wait, End}
 use Rattle.strand_meaning.proofs.SoundSteps.Ends.{tasks_begin}
 use Rattle.strand_meaning.proofs.NextStops.Fewer.{stops_fall}
-use Rattle.strand_meaning.proofs.TakenAnswers.Onward.{answers_keep_tasks}
+use Rattle.strand_meaning.proofs.TakenAnswers.AnswersKeepTasks.{answers_keep_tasks}
 use Rattle.strand_meaning.proofs.NextStops.Stops.{stops_are_sound, stops_keep_origins}
 use Rattle.strand_machine.specs.Family.{tag, tags}
 use Rattle.strand_machine.specs.Faults.{is_fault, EndsByFault}
 use Rattle.strand_machine.specs.Parts.{awaited}
-use Rattle.strand_machine.specs.Stops.{IsStop, WentOn, answer_tags, any_cut, is_cut, went, went_on, view_on}
+use Rattle.strand_machine.specs.Stops.{IsStop, WentOn, answer_tags, any_cut, is_cut, went, with_evaluations, view_on}
 use Rattle.strand_machine.specs.Tasks.{TaskView, fresh}
 use Rattle.strand_machine.specs.declared.stop.Stop as stops
 use Rattle.strand_machine.specs.declared.stop.Stop.TheVariants as stop
-use Rattle.serial_runner.specs.Stacks.{task_of, IsOpenTask, AreBelow, IsStack, root_of, tasks, IsAnswerOf, task_of_answer, with_answer, Follows, Closes, AdvancesTo}
+use Rattle.serial_runner.specs.Stacks.{task_of, IsOpenTask, AreBelow, IsStack, root_of, tasks, IsAnswerOf, task_of_answer, stack_with_answer, Follows, Closes, AdvancesTo}
 use Rattle.serial_runner.specs.declared.open_tasks.OpenTask.{OpenTask}
 use Rattle.serial_runner.specs.declared.stack.Stack.{Stack}
 use Rattle.serial_runner.specs.declared.stack.Advanced.{Advanced}
@@ -158,16 +158,16 @@ module _ (s : Stack) (is : IsStack s) where
         let hands : HandsStop t (Wait rest.task) = stops_hand t (Wait rest.task) is.top.task at.next in
         sym (append-nil (answer_tags s.top.answers)) ∙ is.top.answers ∙ ap (λ (p : PlanView). tags p (handed t)) (sym same.0) ∙ ap (tags rest.task.plan) (sym hands)
 
-    none : (went_on rest).trace.handed ≡ []
+    none : (with_evaluations rest).trace.handed ≡ []
     none = none-heard rest.task.trace.handed (evaluations (eval rest.task.plan) rest.task.trace.handed) _ refl
 
     gone-on : IsSoundStop t (Wait rest.task) → KeepsOrigin t (Wait rest.task) → Follows s (record { top = open_task (view_on rest) []; below = s.below })
     gone-on sound same = record {
       sound = record {
         top = record { task = answers_keep_tasks rest.task sound; idle = refl; goes_on = at.keeps.2; whole = refl; answers = ap (λ (l : List AwaitedChild). tags rest.task.plan (awaited l)) (sym none) };
-        below = below-same t (went_on rest) s.below same is.below;
+        below = below-same t (with_evaluations rest) s.below same is.below;
       };
-      root = root-same t (went_on rest) s.below same;
+      root = root-same t (with_evaluations rest) s.below same;
       stop = Wait rest.task;
       comes = at.next;
       leaves = refl;
@@ -180,7 +180,7 @@ module _ (s : Stack) (is : IsStack s) where
         (gone-on (stops_are_sound t (Wait rest.task) is.top.task at.next) (stops_keep_origins t (Wait rest.task) at.next))
 
   module _ (answer : AnswerView) (give : AnswerTag) (at : IsStop s.top.task (stop.Done answer give)) where
-    to-parent : (f : OpenTask) (fs : List OpenTask) → s.below ≡ f ∷ fs → AreBelow t (f ∷ fs) → Follows s (with_answer answer f fs)
+    to-parent : (f : OpenTask) (fs : List OpenTask) → s.below ≡ f ∷ fs → AreBelow t (f ∷ fs) → Follows s (stack_with_answer answer f fs)
     to-parent f fs e b = record {
       sound = record { top = record { task = b.1.task; idle = b.1.idle; goes_on = b.1.goes_on; whole = more-uncut f.answers answer b.1.whole whole; answers = answers }; below = b.2 };
       root = subst (λ (l : List OpenTask). IsOf (root_of t l) (root_of (task_of f) fs)) (sym e) (refl, refl);
@@ -202,7 +202,7 @@ module _ (s : Stack) (is : IsStack s) where
     IsEnd fs = IsAnswerOf (root_of t fs) answer
 
     -- An end's answer goes to the task below, or is the one of the task at the bottom.
-    pub ended : (result : Result Advanced Memory) → ((f : OpenTask) (fs : List OpenTask) → s.below ≡ f ∷ fs → IfOk result (λ to. to ≡ Goes (with_answer answer f fs))) →
+    pub ended : (result : Result Advanced Memory) → ((f : OpenTask) (fs : List OpenTask) → s.below ≡ f ∷ fs → IfOk result (λ to. to ≡ Goes (stack_with_answer answer f fs))) →
         (s.below ≡ [] → IfOk result (λ to. to ≡ Ends answer)) → IfOk result (AdvancesTo s)
     ended (Err e) parent last = tt
     ended (Ok to) parent last = by_below s.below refl
@@ -213,7 +213,7 @@ module _ (s : Stack) (is : IsStack s) where
         by_below : (fs : List OpenTask) → s.below ≡ fs → AdvancesTo s to
         by_below [] e =
             let closes : Closes s answer = subst IsEnd (sym e) (record { plan = at.keeps.0; origin = at.keeps.1; fault = sound.1 }) in subst (AdvancesTo s) (sym (last e)) closes
-        by_below (f ∷ fs) e = let follows : Follows s (with_answer answer f fs) = to-parent f fs e (subst (AreBelow t) e is.below) in subst (AdvancesTo s) (sym (parent f fs e)) follows
+        by_below (f ∷ fs) e = let follows : Follows s (stack_with_answer answer f fs) = to-parent f fs e (subst (AreBelow t) e is.below) in subst (AdvancesTo s) (sym (parent f fs e)) follows
 
     -- An end by a fault ends all tasks.
     same-task : IsOf t (task_of_answer answer)

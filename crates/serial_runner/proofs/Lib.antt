@@ -3,7 +3,7 @@ pub mod Answered
 pub mod Below
 pub mod Handed
 pub mod Measure
-pub mod Noting
+pub mod ObservedStops
 pub mod Over
 pub mod Places
 pub mod Showing

@@ -15,7 +15,7 @@ use Rattle.strand_meaning.proofs.NextStops.Comes.{stops_come}
 use Rattle.strand_meaning.proofs.SoundSteps.Ends.{tasks_begin}
 use Rattle.strand_meaning.proofs.NextStops.Fewer.{stops_fall, answers_leave_no_more}
 use Rattle.strand_meaning.proofs.NextStops.Stops.{stops_are_one, stops_are_sound, stops_keep_origins}
-use Rattle.strand_meaning.proofs.TakenAnswers.Onward.{answers_keep_tasks}
+use Rattle.strand_meaning.proofs.TakenAnswers.AnswersKeepTasks.{answers_keep_tasks}
 use Rattle.serial_runner.specs.Stacks.{task_of, IsStack, tasks, tasks_after, Follows}
 use Rattle.serial_runner.specs.declared.stack.Stack.{Stack}
 use Rattle.serial_runner.proofs.Handed.{size_of, IsSmaller, HandsStop, stops_hand}

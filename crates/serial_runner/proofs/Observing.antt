@@ -10,10 +10,10 @@ use Rattle.serial_meaning.specs.declared.event.Fault.{Fault}
 use Rattle.serial_meaning.specs.declared.event.Event.{Event}
 use Rattle.serial_meaning.specs.declared.origin.Origin.{Origin}
 use Rattle.serial_meaning.specs.declared.origin.Origin.TheVariants.{Instance, Loop}
-use Rattle.strand_meaning.specs.Observation.{IsInstance, Observation, also, newest, own_fault_of, node_left, IsOnWay, IsAllNoted}
+use Rattle.strand_meaning.specs.Observation.{IsInstance, Observation, also, newest, own_fault_of, node_left, IsOnWay, IsAllObserved}
 use Rattle.strand_meaning.specs.Task.{Task}
 use Rattle.strand_meaning.specs.Strands.{Strand, is_below, events_at, own_events, own_fault_at, joined_fault, last_place, ended_before, child_on_way, is_one_of, strand_of, blocks}
-use Rattle.strand_meaning.proofs.NodesObserved.NoteWords.{events_at-append}
+use Rattle.strand_meaning.proofs.NodesObserved.EventsOfPedigree.{events_at-append}
 use Rattle.strand_machine.specs.Eyes.{new_eye, eye_after, is_none_ahead}
 use Rattle.strand_machine.specs.declared.eye.Eye.{Eye}
 use Rattle.strand_machine.proofs.NodesObserved.Eyes.{looks-append, own-append, places-seen, places-without, past-seen}
@@ -248,7 +248,7 @@ by-child j s c e = ap (λ (d : Option Origin). shown_by d (strand_seen j s) (joi
 
 module _ (plan : PlanView) (o : Origin) (j : List ℕ) (i : IsInstance o) (below : IsBelow (path_of o) j) where
   -- what is seen of the whole instance
-  pub whole_seen : (observation : Observation) → IsAllNoted plan o observation → (s : ObservedInstance) → s ≡ seen (path_of o) j observation → IsSeen plan o j s
+  pub whole_seen : (observation : Observation) → IsAllObserved plan o observation → (s : ObservedInstance) → s ≡ seen (path_of o) j observation → IsSeen plan o j s
   whole_seen observation w s e = ap (node_seen j) (e ∙ same) ∙ from o i j below (opened plan o)
     where
       n : open_tree.Node

@@ -10,22 +10,22 @@ use Rattle.serial_meaning.specs.declared.event.Fault.{Fault}
 use Rattle.serial_meaning.specs.declared.origin.Origin.{Origin}
 use Rattle.strand_meaning.specs.Laws.{IsOf, IsSoundStop, KeepsOrigin, LeavesFewer, ObservationBegins, ObservationGoesOn, AnswersShowNothing}
 use Rattle.strand_meaning.specs.Left.{stops_left}
-use Rattle.strand_meaning.specs.Observation.{IsInstance, no_observation, also, IsOnWay, OnWay, IsAllNoted}
+use Rattle.strand_meaning.specs.Observation.{IsInstance, no_observation, also, IsOnWay, OnWay, IsAllObserved}
 use Rattle.strand_meaning.specs.Trace.{AwaitedChild}
 use Rattle.strand_meaning.specs.Sound.{AreParts, IsTask}
 use Rattle.strand_meaning.specs.Task.{Task, start}
 use Rattle.serial_meaning.proofs.OriginFaults.Origins.{cons-contained}
 use Rattle.strand_meaning.proofs.NextStops.Fewer.{stops_fall, answers_leave_no_more}
-use Rattle.strand_meaning.proofs.TakenAnswers.Onward.{answers_keep_tasks}
+use Rattle.strand_meaning.proofs.TakenAnswers.AnswersKeepTasks.{answers_keep_tasks}
 use Rattle.strand_meaning.proofs.NextStops.Stops.{stops_are_sound, stops_keep_origins}
 use Rattle.strand_machine.specs.Family.{tags}
-use Rattle.strand_machine.specs.Noted.{IsNoted}
+use Rattle.strand_machine.specs.Observed.{IsObserved}
 use Rattle.strand_machine.specs.Parts.{awaited}
-use Rattle.strand_machine.specs.Stops.{stop_of, answer_tags, any_cut, went_on, view_on, WentOn}
+use Rattle.strand_machine.specs.Stops.{stop_of, answer_tags, any_cut, with_evaluations, view_on, WentOn}
 use Rattle.strand_machine.specs.Tasks.{TaskView}
 use Rattle.strand_machine.specs.declared.stop.Stop as stops
 use Rattle.strand_machine.specs.declared.stop.Stop.TheVariants as stop
-use Rattle.strand_machine.specs.declared.note.Noted.{Noted}
+use Rattle.strand_machine.specs.declared.observe.ObservedStop.{ObservedStop}
 use Rattle.strand_machine.specs.declared.eye.Eye.{Eye}
 use Rattle.serial_runner.specs.Nodes.{IsBelow}
 use Rattle.serial_runner.specs.Observed.{with_observation, with_child, seen, begun_walk, origin_of, AreOriginsOf, IsWalk, IsSeen, is_over, WalksOn}
@@ -60,7 +60,7 @@ module _ (plan : PlanView) (o : Origin) (j : List ℕ) (w : NodeWalk) (is : IsWa
   pub of_instance : IsInstance t.origin
   of_instance = subst IsInstance (sym is.origin_is) is.instance
 
-  module _ (s : stops.Stop) (eye : Eye) (events : List Event) (fault joined : Option Fault) (noted : IsNoted w.task j w.observed.eye (record { stop = s; eye = eye; events = events; fault = fault; joined = joined })) where
+  module _ (s : stops.Stop) (eye : Eye) (events : List Event) (fault joined : Option Fault) (noted : IsObserved w.task j w.observed.eye (record { stop = s; eye = eye; events = events; fault = fault; joined = joined })) where
     -- what is seen, but for a child that was handed out
     observation-seen : (observed : ObservedInstance) → observed ≡ with_observation eye events fault joined w.observed → observed ≡ record (seen (path_of o) j (also is.observation noted.observation)) { child = (seen (path_of o) j is.observation).child }
     observation-seen observed e =
@@ -85,12 +85,12 @@ module _ (plan : PlanView) (o : Origin) (j : List ℕ) (w : NodeWalk) (is : IsWa
     all-seen : IsBelow (path_of o) j → (u : Task) → IsOf t u → IsOnWay (also is.observation noted.observation) u → (observed : ObservedInstance) → is_over observed ≡ true → observed ≡ seen (path_of o) j (also is.observation noted.observation) → IsSeen plan o j observed
     all-seen below u same way observed over says = over_seen plan o j is.instance below (also is.observation noted.observation) u (same.0 ∙ is.plan_is) (same.1 ∙ is.origin_is) way observed says over
 
-  module _ (n : Noted) (as_noted : IsNoted w.task j w.observed.eye n) (child rest : TaskView) (stopped : n.stop ≡ stop.Spawn child rest) where
+  module _ (n : ObservedStop) (as_noted : IsObserved w.task j w.observed.eye n) (child rest : TaskView) (stopped : n.stop ≡ stop.Spawn child rest) where
     abbrev s : stops.Stop
     s = stop.Spawn child rest
 
-    noted : IsNoted w.task j w.observed.eye (record n { stop = s })
-    noted = subst (λ (to : stops.Stop). IsNoted w.task j w.observed.eye (record n { stop = to })) stopped as_noted
+    noted : IsObserved w.task j w.observed.eye (record n { stop = s })
+    noted = subst (λ (to : stops.Stop). IsObserved w.task j w.observed.eye (record n { stop = to })) stopped as_noted
 
     -- The child is an origin of the plan.
     pub child_known : IsOriginOf plan child.task.origin
@@ -145,12 +145,12 @@ module _ (plan : PlanView) (o : Origin) (j : List ℕ) (w : NodeWalk) (is : IsWa
         shows : ShowsStop noted.observation.items (stop_of s)
         shows = shown s n.eye n.events n.fault n.joined noted
 
-  module _ (n : Noted) (as_noted : IsNoted w.task j w.observed.eye n) (rest : TaskView) (stopped : n.stop ≡ stop.Wait rest) where
+  module _ (n : ObservedStop) (as_noted : IsObserved w.task j w.observed.eye n) (rest : TaskView) (stopped : n.stop ≡ stop.Wait rest) where
     abbrev at : stops.Stop
     at = stop.Wait rest
 
-    noted_wait : IsNoted w.task j w.observed.eye (record n { stop = at })
-    noted_wait = subst (λ (to : stops.Stop). IsNoted w.task j w.observed.eye (record n { stop = to })) stopped as_noted
+    noted_wait : IsObserved w.task j w.observed.eye (record n { stop = at })
+    noted_wait = subst (λ (to : stops.Stop). IsObserved w.task j w.observed.eye (record n { stop = to })) stopped as_noted
 
     pub it_waits : rest.task.waiting ≡ true
     it_waits = let less : LeavesFewer t (stop_of at) = fewer at n.eye n.events n.fault n.joined noted_wait in less.1
@@ -188,10 +188,10 @@ module _ (plan : PlanView) (o : Origin) (j : List ℕ) (w : NodeWalk) (is : IsWa
         shows : ShowsStop noted_wait.observation.items (stop_of at)
         shows = shown at n.eye n.events n.fault n.joined noted_wait
 
-        no_more : stops_left (went_on rest) ≤ stops_left rest.task
+        no_more : stops_left (with_evaluations rest) ≤ stops_left rest.task
         no_more = answers_leave_no_more rest.task task it_waits
 
-        left : stops_left (went_on rest) < stops_left t
+        left : stops_left (with_evaluations rest) < stops_left t
         left = omega (arith, less.0, no_more)
 
         walk : IsWalk plan o j (record { task = view_on rest; observed = observed })
@@ -210,7 +210,7 @@ module _ (plan : PlanView) (o : Origin) (j : List ℕ) (w : NodeWalk) (is : IsWa
     -- The strand is over.
     pub over_by_wait : IsBelow (path_of o) j → ObservationGoesOn → AnswersShowNothing → (observed : ObservedInstance) → is_over observed ≡ true → observed ≡ with_observation n.eye n.events n.fault n.joined w.observed → WalksOn plan o j w (Ends observed)
     over_by_wait below go nothing observed over b =
-        all-seen at n.eye n.events n.fault n.joined noted_wait below (went_on rest) kept
+        all-seen at n.eye n.events n.fault n.joined noted_wait below (with_evaluations rest) kept
         (nothing rest.task (also is.observation noted_wait.observation) task (subst IsInstance (sym (kept.1 ∙ is.origin_is)) is.instance) on) observed over
         (seen_none (path_of o) j is.observation noted_wait.observation observed shows (observation-seen at n.eye n.events n.fault n.joined noted_wait observed b))
       where
@@ -226,17 +226,17 @@ module _ (plan : PlanView) (o : Origin) (j : List ℕ) (w : NodeWalk) (is : IsWa
         shows : ShowsStop noted_wait.observation.items (stop_of at)
         shows = shown at n.eye n.events n.fault n.joined noted_wait
 
-  module _ (n : Noted) (as_noted : IsNoted w.task j w.observed.eye n) (answer : AnswerView) (give : AnswerTag) (stopped : n.stop ≡ stop.Done answer give) where
+  module _ (n : ObservedStop) (as_noted : IsObserved w.task j w.observed.eye n) (answer : AnswerView) (give : AnswerTag) (stopped : n.stop ≡ stop.Done answer give) where
     abbrev end : stops.Stop
     end = stop.Done answer give
 
-    noted_end : IsNoted w.task j w.observed.eye (record n { stop = end })
-    noted_end = subst (λ (to : stops.Stop). IsNoted w.task j w.observed.eye (record n { stop = to })) stopped as_noted
+    noted_end : IsObserved w.task j w.observed.eye (record n { stop = end })
+    noted_end = subst (λ (to : stops.Stop). IsObserved w.task j w.observed.eye (record n { stop = to })) stopped as_noted
 
     -- The whole instance is seen.
     pub walk_ends : IsBelow (path_of o) j → ObservationGoesOn → (observed : ObservedInstance) → observed ≡ with_observation n.eye n.events n.fault n.joined w.observed → WalksOn plan o j w (Ends observed)
     walk_ends below go observed b = whole_seen plan o j is.instance below (also is.observation noted_end.observation)
-        (subst (λ (q : PlanView). IsAllNoted q o (also is.observation noted_end.observation)) is.plan_is (subst (λ (d : Origin). IsAllNoted t.plan d (also is.observation noted_end.observation)) is.origin_is whole)) observed says
+        (subst (λ (q : PlanView). IsAllObserved q o (also is.observation noted_end.observation)) is.plan_is (subst (λ (d : Origin). IsAllObserved t.plan d (also is.observation noted_end.observation)) is.origin_is whole)) observed says
       where
         shows : ShowsStop noted_end.observation.items (stop_of end)
         shows = shown end n.eye n.events n.fault n.joined noted_end

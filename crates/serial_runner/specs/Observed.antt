@@ -12,8 +12,8 @@ use Rattle.strand_meaning.specs.Observation.{Observation, newest, IsInstance, Is
 use Rattle.strand_meaning.specs.Sound.{IsTask}
 use Rattle.strand_meaning.specs.Strands.{own_events, events_at, child_on_way}
 use Rattle.strand_machine.specs.Eyes.{new_eye, eye_after}
-use Rattle.strand_machine.specs.Noted.{IsNoted}
-use Rattle.strand_machine.specs.declared.note.Noted.{Noted}
+use Rattle.strand_machine.specs.Observed.{IsObserved}
+use Rattle.strand_machine.specs.declared.observe.ObservedStop.{ObservedStop}
 use Rattle.strand_machine.specs.declared.stop.Stop.{Stop}
 use Rattle.strand_machine.specs.Tasks.{fresh}
 use Rattle.strand_machine.specs.declared.eye.Eye.{Eye}
@@ -75,8 +75,8 @@ pub record IsWalk (plan : PlanView) (o : Origin) (j : List ℕ) (w : NodeWalk) :
 
 -- The task of a walk has come to this stop, and this is what is seen then.
 pub record IsStopped (j : List ℕ) (w : NodeWalk) (stop : Stop) (observed : ObservedInstance) : Type 0 where
-  pub noted : Noted
-  pub is_noted : IsNoted w.task j w.observed.eye noted
+  pub noted : ObservedStop
+  pub is_noted : IsObserved w.task j w.observed.eye noted
   pub stops : stop ≡ noted.stop
   pub sees : observed ≡ with_observation noted.eye noted.events noted.fault noted.joined w.observed
 

@@ -56,8 +56,8 @@ tasks_after (Wait rest) ts = on (evaluations (eval rest.plan) rest.trace.handed)
 tasks_after (End out ended) ts = ts
 
 -- the stack once the task at the head of these has one answer more
-abbrev pub with_answer : AnswerView → OpenTask → List OpenTask → Stack
-with_answer answer f fs = record { top = record f { answers = f.answers ++ answer ∷ [] }; below = fs }
+abbrev pub stack_with_answer : AnswerView → OpenTask → List OpenTask → Stack
+stack_with_answer answer f fs = record { top = record f { answers = f.answers ++ answer ∷ [] }; below = fs }
 
 -- one stop of the topmost task
 pub record Follows (s next : Stack) : Type 0 where

@@ -3,7 +3,7 @@ ghost use Rattle.std.specs.Prelude.{◌≡◌, List, [], ◌∷◌, true, IfOk};
 ghost use Rattle.strand_meaning.specs.Laws.{IsFaultOf};
 ghost use Rattle.strand_machine.specs.Faults.{is_fault};
 ghost use Rattle.serial_runner.specs.declared.open_tasks.OpenTask.{OpenTask};
-ghost use Rattle.serial_runner.specs.Stacks.{AreBelow, IsAnswerOf, IsStack, AdvancesTo, root_of, task_of_answer, with_answer};
+ghost use Rattle.serial_runner.specs.Stacks.{AreBelow, IsAnswerOf, IsStack, AdvancesTo, root_of, task_of_answer, stack_with_answer};
 
 use crate::beside::beside;
 use crate::open_tasks::{OpenTask, OpenTasks};
@@ -26,7 +26,7 @@ fn answered(
     taken: Items<Answer>,
     mut below: OpenTasks,
 ) -> Result<Advanced, Memory>
-    ensures parent { (f : OpenTask) (fs : List OpenTask) → below ≡ f ∷ fs → IfOk result (λ advanced. advanced ≡ Advanced.Goes (with_answer answer f fs)) }
+    ensures parent { (f : OpenTask) (fs : List OpenTask) → below ≡ f ∷ fs → IfOk result (λ advanced. advanced ≡ Advanced.Goes (stack_with_answer answer f fs)) }
     ensures last { below ≡ [] → IfOk result (λ advanced. advanced ≡ Advanced.Ends answer) }
 {
     below.spare(taken);

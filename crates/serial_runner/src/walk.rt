@@ -20,7 +20,7 @@ use serial_meaning::{Answer, Origin, Plan};
 use std::alloc::Global;
 use std::sync::Arc;
 use strand_family::path;
-use strand_machine::{Eye, Memory, Noted, Stop, Task, share_origin};
+use strand_machine::{Eye, Memory, ObservedStop, Stop, Task, share_origin};
 use strand_meaning::laws;
 
 /// An instance's task, and what is seen of it so far.
@@ -59,8 +59,8 @@ fn stopped(walk: NodeWalk, alloc: Global, at: &Pedigree) -> Result<(Stop, Observ
 {
     let NodeWalk { task, observed } = walk;
     let seen = observed.eye;
-    let (observed, noted) = beside(observed, task.advance_noted(alloc, at, seen))?;
-    let Noted {
+    let (observed, noted) = beside(observed, task.advance_observed(alloc, at, seen))?;
+    let ObservedStop {
         stop,
         eye,
         events,

@@ -40,8 +40,8 @@ pushed_turn None w = w
 pushed_turn (Some turn) w = pushed w (begun turn Iterated w.top.before)
 
 -- where the instance of a path goes on, of which at most an iteration isn't open yet
-abbrev pub entered : List ℕ → OpenInstances → OpenInstances
-entered path w = pushed_turn (turn_on w.top.looping path) w
+abbrev pub opened_to : List ℕ → OpenInstances → OpenInstances
+opened_to path w = pushed_turn (turn_on w.top.looping path) w
 
 abbrev pub went : OpenInstances → Event → OpenInstances
 went w (event.Print j v) = record w { top = noted w.top (event.Print j v) }
@@ -56,7 +56,7 @@ abbrev pub path_of : Event → List ℕ
 path_of e = take (length (pedigree_of e) - 1) (pedigree_of e)
 
 abbrev pub walked : OpenInstances → Event → OpenInstances
-walked w e = went (entered (path_of e) (left (path_of e) w.top w.under)) e
+walked w e = went (opened_to (path_of e) (left (path_of e) w.top w.under)) e
 
 abbrev pub walked_all : OpenInstances → List Event → OpenInstances
 walked_all w [] = w

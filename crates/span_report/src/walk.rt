@@ -1,7 +1,7 @@
 ghost use Rattle.std.specs.Prelude.{◌≡◌, IfOk, OnOk, reverse};
 ghost use Rattle.span_report.specs.Series.{pedigree_of};
 ghost use Rattle.span_report.specs.Opens.{joined};
-ghost use Rattle.span_report.specs.Walks.{ended, entered, left, open_instances, path_of, pushed, start, walked};
+ghost use Rattle.span_report.specs.Walks.{ended, opened_to, left, open_instances, path_of, pushed, start, walked};
 
 use crate::instance::{Begun, OpenInstance};
 use ped_path::{Ped, Pedigree};
@@ -58,7 +58,7 @@ impl Walk {
 
     /// Goes to the instance of this path: the current one, or the next iteration of the loop that this one is in.
     fn enter(&mut self, alloc: Global, path: &Ped) -> Result<(), Memory>
-        ensures { OnOk result (open_instances self.new ≡ entered path.now (open_instances self.old)) }
+        ensures { OnOk result (open_instances self.new ≡ opened_to path.now (open_instances self.old)) }
     {
         if let Some(turn) = self.top.iteration(alloc, path)? {
             let child = OpenInstance::begin(turn, Begun::Iterated, self.top.before);

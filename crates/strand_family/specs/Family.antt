@@ -42,8 +42,8 @@ Looked before after Ready = HasPassed before.loads after.loads × (after ≡ rec
 Looked before after (NotYet n) = HasStopped before.loads after.loads × (after ≡ record before { ready = false; loads = after.loads })
 
 -- one more child
-abbrev pub handed : FamilyView → Origin → FamilyView
-handed family child = record family { children = family.children ++ child ∷ []; taken = family.taken ++ false ∷ []; ready = false }
+abbrev pub family_with_child : FamilyView → Origin → FamilyView
+family_with_child family child = record family { children = family.children ++ child ∷ []; taken = family.taken ++ false ∷ []; ready = false }
 
 -- so many of the last children have answers that weren't taken
 pub record AwaitsCount (family : FamilyView) (n : ℕ) : Type 0 where

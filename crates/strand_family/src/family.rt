@@ -1,7 +1,7 @@
 ghost use Rattle.std.specs.Prelude.{◌≡◌, ℕ, [], ◌∷◌, ◌++◌, IfOk, OnOk, OnErr, Some, None, true, false, length, slice_get, slice_set};
 ghost use Rattle.std.specs.Arc.{arc_value};
 ghost use Rattle.serial_meaning.specs.Answer.{IsAnswer};
-ghost use Rattle.strand_family.specs.Family.{tag, handed, Looked};
+ghost use Rattle.strand_family.specs.Family.{tag, family_with_child, Looked};
 
 use crate::memory::Memory;
 use crate::start::stands_before;
@@ -122,7 +122,7 @@ impl Family {
     pub fn hand(&mut self, alloc: Global, child: &AnswerKey) -> Result<Give<Answer>, Memory>
         requires { child.now.plan ≡ self.old.plan }
         ensures give { IfOk result (λ give. give ≡ child.now) }
-        ensures handed { OnOk result (self.new ≡ handed self.old child.now.origin) }
+        ensures handed { OnOk result (self.new ≡ family_with_child self.old child.now.origin) }
     {
         Ok(self.join.hand(alloc, child)?)
     }

@@ -4,7 +4,7 @@ pub mod Family
 pub mod Faults
 pub mod Merge
 pub mod Made
-pub mod Noted
+pub mod Observed
 pub mod Parts
 pub mod Effects
 pub mod Stops

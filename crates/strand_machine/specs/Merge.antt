@@ -29,11 +29,11 @@ use Rattle.strand_machine.specs.declared.work.InstanceState.{InstanceState}
 use Rattle.strand_machine.specs.declared.work.Work.{Work}
 
 -- the values of an outcome, or its fault
-abbrev pub ending_of : Outcome → Result (List Value) Fault
-ending_of (outcome.Value v) = Ok (v ∷ [])
-ending_of (outcome.Values vs) = Ok vs
-ending_of (outcome.Fault f) = Err f
-ending_of (outcome.Cut f) = Err f
+abbrev pub result_of_outcome : Outcome → Result (List Value) Fault
+result_of_outcome (outcome.Value v) = Ok (v ∷ [])
+result_of_outcome (outcome.Values vs) = Ok vs
+result_of_outcome (outcome.Fault f) = Err f
+result_of_outcome (outcome.Cut f) = Err f
 
 -- what remains, with the instance's stage changed where an instance remains
 abbrev pub with_stage : (meaning.InstanceState → meaning.InstanceState) → meaning.Work → meaning.Work

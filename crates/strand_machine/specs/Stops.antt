@@ -88,8 +88,8 @@ abbrev pub Advances : TaskView → Stop → Type 0
 Advances t s = advances t.cut t s
 
 -- The task with the answers of its children, which are their evaluations.
-abbrev pub went_on : TaskView → meaning.Task
-went_on t = on (evaluations (eval t.task.plan) t.task.trace.handed) t.task
+abbrev pub with_evaluations : TaskView → meaning.Task
+with_evaluations t = on (evaluations (eval t.task.plan) t.task.trace.handed) t.task
 
 abbrev pub is_cut : Outcome → Bool
 is_cut (outcome.Value v) = false
@@ -118,7 +118,7 @@ pub record IsCutOn (answers : List AnswerView) (t next : TaskView) : Type 0 wher
   pub children : next.children ≡ t.children
 
 abbrev pub resumes : Bool → List AnswerView → TaskView → TaskView → Type 0
-resumes false answers t next = (next.task ≡ went_on t) × (next.children ≡ t.children) × (next.cut ≡ None)
+resumes false answers t next = (next.task ≡ with_evaluations t) × (next.children ≡ t.children) × (next.cut ≡ None)
 resumes true answers t next = IsCutOn answers t next
 
 -- The wait is over, and the task took these answers of its children; or it is as it was, and a look has loaded a number that isn't 0.
@@ -133,7 +133,7 @@ answer_tags (answer ∷ answers) = tag answer.plan answer.origin ∷ answer_tags
 
 -- the task once it went on with its children's answers
 abbrev pub view_on : TaskView → TaskView
-view_on t = record t { task = went_on t }
+view_on t = record t { task = with_evaluations t }
 
 abbrev pub went : Bool → List AnswerView → TaskView → TaskView → Type 0
 went false answers t next = next ≡ view_on t

@@ -18,7 +18,7 @@ use Rattle.strand_meaning.specs.Sound.{IsTask}
 use Rattle.strand_moves.specs.Machines as moves
 use Rattle.strand_moves.specs.Moves.{IsTrailOf}
 use Rattle.strand_moves.specs.declared.instance.Instance.{Instance}
-use Rattle.strand_machine.specs.Family.{FamilyView, handed}
+use Rattle.strand_machine.specs.Family.{FamilyView, family_with_child}
 use Rattle.strand_machine.specs.Parts.{awaited, destination_of}
 use Rattle.strand_machine.specs.declared.body.Body.{Body}
 use Rattle.strand_machine.specs.declared.destination.Destination.{Destination}
@@ -136,7 +136,7 @@ abbrev pub waiting : Body → Body
 waiting b = record b { waiting = true; advanced = true }
 
 abbrev pub with_child : Body → Origin → Destination → Body
-with_child b o p = record b { family = handed b.family o; trace = add_child o (destination_of p) b.trace; advanced = true }
+with_child b o p = record b { family = family_with_child b.family o; trace = add_child o (destination_of p) b.trace; advanced = true }
 
 -- the fault in the trace, or else so
 abbrev pub ended_by : Option Fault → Outcome → Outcome

@@ -2,7 +2,7 @@
 ghost use Rattle.std.specs.Prelude.{◌≡◌, IfOk, OnOk};
 ghost use Rattle.serial_meaning.specs.Laws.{IsOriginOf};
 ghost use Rattle.strand_moves.specs.Moves.{IsTrailOf};
-ghost use Rattle.strand_machine.specs.Family.{handed};
+ghost use Rattle.strand_machine.specs.Family.{family_with_child};
 ghost use Rattle.strand_machine.specs.Made.{IsSoundMade, made};
 ghost use Rattle.strand_machine.specs.Stops.{IsStep};
 ghost use Rattle.strand_machine.specs.Tasks.{IsSound, view_of, fresh, gone, waiting, with_child};
@@ -54,7 +54,7 @@ fn begin_child(family: &mut Family, alloc: Global, child: Child) -> Result<Task,
     requires known { IsOriginOf family.old.plan child.origin }
     requires trail { IsTrailOf family.old.plan child.origin child.trail }
     ensures child { IfOk result (λ task. task ≡ fresh family.old.plan child.origin) }
-    ensures family { OnOk result (family.new ≡ handed family.old child.origin) }
+    ensures family { OnOk result (family.new ≡ family_with_child family.old child.origin) }
 {
     let Child { origin, trail } = child;
     let plan = match family.share_plan() {

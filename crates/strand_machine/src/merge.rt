@@ -6,9 +6,9 @@ ghost use Rattle.strand_meaning.specs.Cuts.{or_ends};
 ghost use Rattle.strand_meaning.specs.Found.{FindsAt, functions_in};
 ghost use Rattle.strand_meaning.specs.Machine.{Spawned, Looped, Half};
 ghost use Rattle.strand_meaning.specs.Trace.{AwaitedChild, heard};
-ghost use Rattle.strand_meaning.specs.Task.{takes, changed, answered, more_values};
+ghost use Rattle.strand_meaning.specs.Task.{takes, changed, frame_with_answer, more_values};
 ghost use Rattle.strand_moves.specs.Machines.{IsInstance, machine_of, path_of};
-ghost use Rattle.strand_machine.specs.Merge.{BecomesStage, BecomesWork, KeepsRest, StageFinds, Stands, TakesAnswers, WorkFinds, Works, end_of, ending_of, merge_of, with_stage};
+ghost use Rattle.strand_machine.specs.Merge.{BecomesStage, BecomesWork, KeepsRest, StageFinds, Stands, TakesAnswers, WorkFinds, Works, end_of, result_of_outcome, merge_of, with_stage};
 ghost use Rattle.strand_machine.specs.Parts.{destination_of, awaited_child};
 ghost use Rattle.strand_machine.specs.Stops.{is_cut};
 ghost use Rattle.strand_machine.specs.Tasks.{stage_of, work_of};
@@ -42,7 +42,7 @@ fn is_cut(outcome: &Outcome) -> bool
 
 /// The values of a loop's answer, or its fault.
 fn ending(alloc: Global, outcome: Outcome) -> Result<Result<Items<Value>, Fault>, Memory>
-    ensures { IfOk result (λ ending. ending ≡ ending_of outcome) }
+    ensures { IfOk result (λ ending. ending ≡ result_of_outcome outcome) }
 {
     Ok(match outcome {
         Outcome::Value(value) => Ok(Items(vec![in alloc; value]?)),
@@ -74,7 +74,7 @@ fn merge_spawned(
     requires sound { IsInstance plan.now instance.old }
     requires found { FindsAt plan.now height target.now (functions_in (machine_of plan.now instance.old)) }
     ensures machine { (p : PlanView) → machine_of p instance.new
-        ≡ changed height (answered target.now (ending_of outcome)) (machine_of p instance.old) }
+        ≡ changed height (frame_with_answer target.now (result_of_outcome outcome)) (machine_of p instance.old) }
     ensures path { path_of instance.new ≡ path_of instance.old }
     ensures sound { (p : PlanView) → IsInstance p instance.old → IsInstance p instance.new }
 {
@@ -101,7 +101,7 @@ fn spawned(
 )
     requires stands { Stands plan.now stage.old }
     requires found { StageFinds plan.now (Spawned height target.now) (stage_of plan.now stage.old) }
-    ensures { BecomesStage (takes (Spawned height target.now) (ending_of outcome)) stage.old stage.new }
+    ensures { BecomesStage (takes (Spawned height target.now) (result_of_outcome outcome)) stage.old stage.new }
 {
     match stage {
         InstanceState::Running(instance) => merge_spawned(instance, plan, height, target, outcome),
@@ -147,7 +147,7 @@ fn looped(
 ) -> Result<(), Memory>
     requires stands { Stands plan.now stage.old }
     requires found { StageFinds plan.now (Looped target.now) (stage_of plan.now stage.old) }
-    ensures { OnOk result (BecomesStage (takes (Looped target.now) (ending_of outcome)) stage.old stage.new) }
+    ensures { OnOk result (BecomesStage (takes (Looped target.now) (result_of_outcome outcome)) stage.old stage.new) }
 {
     match ending(alloc, outcome)? {
         Ok(values) => filled(stage, alloc, plan, target, &values),
@@ -166,7 +166,7 @@ fn merge_stage(
 ) -> Result<(), Memory>
     requires stands { Stands plan.now stage.old }
     requires found { StageFinds plan.now (destination_of place) (stage_of plan.now stage.old) }
-    ensures { OnOk result (BecomesStage (takes (destination_of place) (ending_of outcome)) stage.old stage.new) }
+    ensures { OnOk result (BecomesStage (takes (destination_of place) (result_of_outcome outcome)) stage.old stage.new) }
 {
     match place {
         Destination::Spawned(height, target) => {
@@ -191,7 +191,7 @@ fn merge_work(
 ) -> Result<(), Memory>
     requires works { Works plan.now work.old }
     requires found { WorkFinds plan.now (destination_of place) (work_of plan.now work.old) }
-    ensures { OnOk result (BecomesWork (with_stage (takes (destination_of place) (ending_of outcome))) work.old work.new) }
+    ensures { OnOk result (BecomesWork (with_stage (takes (destination_of place) (result_of_outcome outcome))) work.old work.new) }
 {
     match work {
         Work::Runs(stage) => {
@@ -224,7 +224,7 @@ impl Heard {
     ) -> Result<(), Memory>
         requires { trace.old.handed ≡ [] }
         ensures trace { OnOk result ((p : AwaitedChild) → p.after ≡ after
-            → trace.new ≡ heard p (record { items = events; ending = ending_of outcome.now }) trace.old) }
+            → trace.new ≡ heard p (record { items = events; ending = result_of_outcome outcome.now }) trace.old) }
         ensures ended { OnOk result (end_of trace.new.fault self.new.by_cut ≡ or_ends (end_of trace.old.fault self.old.by_cut) outcome.now) }
         ensures cut { OnOk result (self.new.cut ≡ (self.old.cut || is_cut outcome.now)) }
     {
@@ -268,7 +268,7 @@ fn add_values(values: &mut Items<Value>, more: Items<Value>) -> Result<(), Memor
 
 /// The values of a part of a loop.
 fn add(values: &mut Items<Value>, outcome: Outcome) -> Result<(), Memory>
-    ensures { OnOk result (values.new ≡ more_values Half (ending_of outcome) values.old) }
+    ensures { OnOk result (values.new ≡ more_values Half (result_of_outcome outcome) values.old) }
 {
     match outcome {
         Outcome::Value(value) => Ok(values.0.push(value)?),
@@ -295,8 +295,8 @@ fn merge_value(
 ) -> Result<(), Memory>
     requires works { Works plan.now work.old }
     requires found { WorkFinds plan.now (destination_of place) (work_of plan.now work.old) }
-    ensures values { OnOk result (values.new ≡ more_values (destination_of place) (ending_of outcome) values.old) }
-    ensures work { OnOk result (BecomesWork (with_stage (takes (destination_of place) (ending_of outcome))) work.old work.new) }
+    ensures values { OnOk result (values.new ≡ more_values (destination_of place) (result_of_outcome outcome) values.old) }
+    ensures work { OnOk result (BecomesWork (with_stage (takes (destination_of place) (result_of_outcome outcome))) work.old work.new) }
 {
     if let Destination::Half = place {
         return add(values, outcome);

@@ -123,7 +123,7 @@ pub(crate) fn go(parts: &mut Parts, alloc: Global, mut instance: Instance) -> Re
             }
             Ok(MoveResult::Went(effects)) => return show(parts, alloc, instance, effects),
             Ok(MoveResult::Returned(value)) => {
-                instance.end();
+                instance.discard();
                 return Ok(returned(parts, value));
             }
             Ok(MoveResult::Faulted(own)) => return Ok(faulted(parts, own)),

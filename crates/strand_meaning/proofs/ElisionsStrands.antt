@@ -1,4 +1,4 @@
 pub mod ItemsRise
-pub mod Under
+pub mod EventsBelowPath
 pub mod Passing
 pub mod ElisionStrands

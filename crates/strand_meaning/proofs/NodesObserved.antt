@@ -1,3 +1,3 @@
-pub mod Noted
+pub mod StopsObserved
 pub mod NodeAnswers
-pub mod NoteWords
+pub mod EventsOfPedigree

@@ -1,10 +1,10 @@
 pub mod Depth
 pub mod Closing
 pub mod Finishing
-pub mod Own
+pub mod ChildrenFollowEvents
 pub mod Begun
 pub mod Steps
 pub mod Loops
-pub mod Passed
+pub mod LoopsEndByRest
 pub mod Starts
 pub mod Ends

@@ -1,3 +1,3 @@
 pub mod AnswerRuns
-pub mod Onward
+pub mod AnswersKeepTasks
 pub mod Cutting

@@ -1,8 +1,8 @@
 pub mod Variables
-pub mod Keeps
-pub mod Shown
-pub mod Changed
+pub mod UntouchedStays
+pub mod RestAfterEffects
+pub mod ChangesCommute
 pub mod Clears
 pub mod Moves
-pub mod Taken
+pub mod MovesBeforeAnswers
 pub mod SoundMoves

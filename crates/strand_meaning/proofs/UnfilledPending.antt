@@ -1,4 +1,4 @@
 pub mod Standing
 pub mod PendingMoves
-pub mod Alike
+pub mod AlikeButEvents
 pub mod PendingAnswers

@@ -19,7 +19,7 @@ use Rattle.strand_meaning.specs.Answers.{evaluation_of}
 use Rattle.strand_meaning.specs.Clear.{IsClearPlan}
 use Rattle.strand_meaning.specs.Machine.{Spawned, Effect, Machine, Reached, Stands, Gives, move}
 use Rattle.strand_meaning.specs.Trace.{AwaitedChild}
-use Rattle.strand_meaning.specs.Task.{Running, changed, answered, Task, Stop, Spawn, Wait, End, MoveOrStop, Passes, Stops, start, step, IsNext, on}
+use Rattle.strand_meaning.specs.Task.{Running, changed, frame_with_answer, Task, Stop, Spawn, Wait, End, MoveOrStop, Passes, Stops, start, step, IsNext, on}
 use Rattle.strand_meaning.specs.Rest.{evaluations}
 use Rattle.strand_meaning.specs.Left.{stops_left, moves_left}
 use Rattle.strand_meaning.specs.Observation.{IsInstance, Observation, no_observation, also, Shows, IsOnWay, OnWay}
@@ -75,7 +75,7 @@ abbrev pub MovesLeaveUnfilledAlone : Type 0
 MovesLeaveUnfilledAlone =
     (plan : PlanView) (path : List ℕ) (parts : List AwaitedChild) (m : Machine) (p : AwaitedChild) (owner : ℕ) (target : Option Name) (ended : Result (List Value) Fault) →
     IsSoundStage plan parts (Running m) → Contains parts p → p.place ≡ Spawned owner target →
-    move plan path (changed owner (answered target ended) m) ≡ changed_run (changed owner (answered target ended)) (move plan path m)
+    move plan path (changed owner (frame_with_answer target ended) m) ≡ changed_run (changed owner (frame_with_answer target ended)) (move plan path m)
 
 -- The unfilled variables of each frame of a task are in the set by which validity judges the statement at which it stands; at an implied sync,
 -- and at the `return` that brings one, in the set that validity has at the end of the statements before it.

@@ -11,11 +11,12 @@ use Rattle.script_grammar.specs.declared.tree.Stmt.{Stmt, out-Stmt}
 use Rattle.script_grammar.specs.declared.tree.Act.{Act, out-Act}
 use Rattle.script_grammar.specs.declared.tree.Act.TheOpen as act
 use Rattle.script_grammar.specs.declared.tree.Act.TheOpen.{Act-F}
-use Rattle.serial_meaning.specs.Runs.{Run, done, stopped, happens}
+use Rattle.script_check.specs.Spawns.{spawns_in}
+use Rattle.serial_meaning.specs.Runs.{Run, done, run_ends_by, happens}
 use Rattle.serial_meaning.specs.Values.{Env, value_of}
-use Rattle.serial_meaning.specs.Functions.{number_of, function_at, any_spawns}
+use Rattle.serial_meaning.specs.Functions.{number_of, function_at}
 use Rattle.serial_meaning.specs.Plan.{PlanView, functions_of}
-use Rattle.serial_meaning.specs.Exec.{State, Manner, BlockMeaning, with_slot, bound, given, paid, implied, join_at, goes_out, statement}
+use Rattle.serial_meaning.specs.Exec.{State, Manner, BlockMeaning, with_slot, bound, unless_fault, paid, implied, join_at, goes_out, statement}
 use Rattle.serial_meaning.specs.Open.{filler, is_empty_loop}
 use Rattle.serial_meaning.specs.declared.value.Value.{Value}
 use Rattle.serial_meaning.specs.declared.value.Value.TheVariants.{Int}
@@ -73,7 +74,7 @@ handing plan place = record {
 
 -- what stands inside isn't done, but left for the next moves
 abbrev pub inside : BlockMeaning Effect Exit Bool
-inside here calls sts s = stopped (Inside here calls sts s)
+inside here calls sts s = run_ends_by (Inside here calls sts s)
 
 abbrev pub destination_of : ℕ → Act-F Act Stmt → Destination
 destination_of height (act.Let x r) = Spawned height (Some x)
@@ -175,10 +176,6 @@ abbrev pub back : List Frame → Option Name → Value → ℕ → ℕ → Reach
 back [] target v rank steps = Gives v
 back (caller ∷ below) target v rank steps = Stands (record { rank = rank; steps = steps; top = record caller { env = with_scalar target v caller.env }; below = below })
 
-abbrev pub spawns_in : Option Function → Bool
-spawns_in (Some f) = any_spawns f.body
-spawns_in None = false
-
 module _ (plan : PlanView) where
   -- a new frame over the one that calls
   abbrev pub calling : Option Name → CallText → List Stmt → Machine → List Stmt → State Bool → Machine
@@ -190,13 +187,13 @@ module _ (plan : PlanView) where
   }
 
   -- what a statement goes inside to: a callee's body, the turn of a loop, which then stands again, a scope, or a block
-  abbrev pub entered : Stmt → Act-F Act Stmt → List Stmt → Machine → List Stmt → State Bool → Machine
-  entered st (act.Let x (right.Call at c)) left m inner s = calling (Some x) c left m inner s
-  entered st (act.Set x (right.Call at c)) left m inner s = calling (Some x) c left m inner s
-  entered st (act.Call c) left m inner s = calling None c left m inner s
-  entered st (act.While e a) left m inner s = with_left m (inner ++ st ∷ left) s
-  entered st (act.Scope a) left m inner s = into_level m left inner s
-  entered st a left m inner s = with_left m (inner ++ left) s
+  abbrev pub machine_inside : Stmt → Act-F Act Stmt → List Stmt → Machine → List Stmt → State Bool → Machine
+  machine_inside st (act.Let x (right.Call at c)) left m inner s = calling (Some x) c left m inner s
+  machine_inside st (act.Set x (right.Call at c)) left m inner s = calling (Some x) c left m inner s
+  machine_inside st (act.Call c) left m inner s = calling None c left m inner s
+  machine_inside st (act.While e a) left m inner s = with_left m (inner ++ st ∷ left) s
+  machine_inside st (act.Scope a) left m inner s = into_level m left inner s
+  machine_inside st a left m inner s = with_left m (inner ++ left) s
 
   abbrev pub reached : (State Bool → Machine) → (List Stmt → State Bool → Machine) → Result (State Bool) Exit → Result Reached Fault
   reached on into (Ok s) = Ok (Stands (on s))
@@ -220,13 +217,13 @@ module _ (plan : PlanView) where
 
     -- the value of a return
     abbrev pub value_run : Option Function → Machine → Run Effect Exit (Value × State Bool)
-    value_run (Some f) m = given (handing plan (Spawned (length m.below) None)) plan (here_of path m) (value_of f.result m.top.env) (state_of m) λ v. done (v, state_of m)
+    value_run (Some f) m = unless_fault (handing plan (Spawned (length m.below) None)) plan (here_of path m) (value_of f.result m.top.env) (state_of m) λ v. done (v, state_of m)
     value_run None m = done (Int (pos 0), state_of m)
 
     abbrev pub statement_move : Machine → Stmt → List Stmt → Run Effect Fault Reached
     statement_move m st left =
         let a = out-Act (out-Stmt st).act in
-        let r = act_run m st a in record { items = r.items; ending = reached (with_left m left) (entered st a left m) r.ending }
+        let r = act_run m st a in record { items = r.items; ending = reached (with_left m left) (machine_inside st a left m) r.ending }
 
     abbrev pub return_move : Machine → Bool → Run Effect Fault Reached
     return_move m false = let r = return_run m in record { items = r.items; ending = reached (with_returning m) (λ inner s. m) r.ending }

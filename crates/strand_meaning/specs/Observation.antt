@@ -121,7 +121,7 @@ pub record IsOnWay (observation : Observation) (t : Task) : Type 0 where
   pub joined : observation.joined ≡ None
 
 -- All that an instance showed is noted: its node has these items and ends by these faults.
-pub record IsAllNoted (plan : PlanView) (o : Origin) (observation : Observation) : Type 0 where
+pub record IsAllObserved (plan : PlanView) (o : Origin) (observation : Observation) : Type 0 where
   pub items : (opened plan o).items ≡ observation.items
   pub fault : own_fault_of (opened plan o).ending ≡ observation.fault
   pub joined : joined_fault (opened plan o).ending ≡ observation.joined
@@ -129,4 +129,4 @@ pub record IsAllNoted (plan : PlanView) (o : Origin) (observation : Observation)
 abbrev pub OnWay : Observation → Task → Stop → Type 0
 OnWay observation t (Spawn child rest) = IsOnWay observation rest
 OnWay observation t (Wait rest) = IsOnWay observation rest
-OnWay observation t (End out ended) = IsAllNoted t.plan t.origin observation
+OnWay observation t (End out ended) = IsAllObserved t.plan t.origin observation

@@ -1,5 +1,5 @@
 -- Where a frame stands in the statements of its function, and which variables validity has pending there (docs/LANGUAGE.md, "Pending
--- variables"): `Names` of `script_check` is the set that the judge of statements carries along.
+-- variables"): `NameSet` of `script_check` is the set that the judge of statements carries along.
 use Rattle.std.specs.Prelude.{◌≡◌, ℕ, true, List, [], ◌∷◌, ◌++◌, Some, Contains}
 use Rattle.script_grammar.specs.declared.tree.Expr.{Expr}
 use Rattle.script_grammar.specs.declared.tree.Function.{Function}
@@ -9,7 +9,7 @@ use Rattle.script_grammar.specs.declared.tree.Act.{Act, out-Act}
 use Rattle.script_grammar.specs.declared.tree.Act.TheOpen as act
 use Rattle.script_grammar.specs.declared.tree.Act.TheOpen.{Act-F}
 use Rattle.script_check.specs.Names as check
-use Rattle.script_check.specs.Names.{nobody, both}
+use Rattle.script_check.specs.Names.{no_names, union}
 use Rattle.script_check.specs.Statements.{judge, after}
 use Rattle.serial_meaning.specs.Names.{Names}
 use Rattle.serial_meaning.specs.Functions.{function_at}
@@ -21,32 +21,32 @@ act_of st = out-Act (out-Stmt st).act
 
 -- A block inside a statement before which `before` is pending; the set that validity judges the block from; and what comes after the block,
 -- before the statements after that one: a `while` comes again.
-pub data HasBlock (st : Stmt) (before : check.Names) : List Stmt → check.Names → List Stmt → Type 0 where
+pub data HasBlock (st : Stmt) (before : check.NameSet) : List Stmt → check.NameSet → List Stmt → Type 0 where
   Then : (e : Expr) (yes no : List Stmt) → act_of st ≡ act.If e yes no → HasBlock st before yes before []
   Else : (e : Expr) (yes no : List Stmt) → act_of st ≡ act.If e yes no → HasBlock st before no before []
-  LoopBody : (e : Expr) (body : List Stmt) → act_of st ≡ act.While e body → HasBlock st before body (both before (after body before)) (st ∷ [])
+  LoopBody : (e : Expr) (body : List Stmt) → act_of st ≡ act.While e body → HasBlock st before body (union before (after body before)) (st ∷ [])
 
 -- Validity judges these statements from a set, and comes to those that are left, with what comes after the blocks that they stand in; `now` is
 -- pending before them.
-pub data ComesTo : (from : check.Names) → (statements : List Stmt) → (left : List Stmt) → (now : check.Names) → Type 0 where
-  Here : {now : check.Names} {left : List Stmt} → ComesTo now left left now
-  Past : {from now : check.Names} {st : Stmt} {sts left : List Stmt} → ComesTo ((judge st).after from) sts left now → ComesTo from (st ∷ sts) left now
-  Within : {from inner now : check.Names} {st next : Stmt} {sts block again left : List Stmt} →
+pub data ComesTo : (from : check.NameSet) → (statements : List Stmt) → (left : List Stmt) → (now : check.NameSet) → Type 0 where
+  Here : {now : check.NameSet} {left : List Stmt} → ComesTo now left left now
+  Past : {from now : check.NameSet} {st : Stmt} {sts left : List Stmt} → ComesTo ((judge st).after from) sts left now → ComesTo from (st ∷ sts) left now
+  Within : {from inner now : check.NameSet} {st next : Stmt} {sts block again left : List Stmt} →
       HasBlock st from block inner again → ComesTo inner block (next ∷ left) now → ComesTo from (st ∷ sts) (next ∷ (left ++ (again ++ sts))) now
 
 -- The same of a function's statements, inside these open scopes, the innermost first. A scope's block is judged from what is pending before it.
-pub data FrameStandsAt (body : List Stmt) : List Level → List Stmt → check.Names → Type 0 where
-  Outside : {left : List Stmt} {now : check.Names} → ComesTo nobody body left now → FrameStandsAt body [] left now
-  InScope : {level : Level} {levels : List Level} {st : Stmt} {block left : List Stmt} {before now : check.Names} →
+pub data FrameStandsAt (body : List Stmt) : List Level → List Stmt → check.NameSet → Type 0 where
+  Outside : {left : List Stmt} {now : check.NameSet} → ComesTo no_names body left now → FrameStandsAt body [] left now
+  InScope : {level : Level} {levels : List Level} {st : Stmt} {block left : List Stmt} {before now : check.NameSet} →
       FrameStandsAt body levels (st ∷ level.left) before → act_of st ≡ act.Scope block → ComesTo before block left now → FrameStandsAt body (level ∷ levels) left now
 
 -- the set by which a statement is judged: a `while` by all that is pending before one of its turns
-abbrev pub judged_by : Act-F Act Stmt → check.Names → check.Names
-judged_by (act.While e body) now = both now (after body now)
+abbrev pub judged_by : Act-F Act Stmt → check.NameSet → check.NameSet
+judged_by (act.While e body) now = union now (after body now)
 judged_by _ now = now
 
 -- the set by which the first of these statements is judged, or the one at their end
-abbrev pub set_at : List Stmt → check.Names → check.Names
+abbrev pub set_at : List Stmt → check.NameSet → check.NameSet
 set_at [] now = now
 set_at (st ∷ sts) now = judged_by (act_of st) now
 
@@ -54,7 +54,7 @@ set_at (st ∷ sts) now = judged_by (act_of st) now
 pub record ArePending (plan : PlanView) (names : Names) (a : Frame) (left : List Stmt) : Type 0 where
   pub function : Function
   pub of_plan : function_at (functions_of plan) a.function ≡ Some function
-  pub now : check.Names
+  pub now : check.NameSet
   pub stands : FrameStandsAt function.body a.levels left now
   pub pending : (name : List ℕ) → Contains names name → set_at left now name ≡ true
 

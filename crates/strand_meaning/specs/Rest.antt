@@ -7,7 +7,7 @@ use Rattle.serial_meaning.specs.Runs.{Run, done, after_items, ◌then◌}
 use Rattle.serial_meaning.specs.Values.{value_of}
 use Rattle.serial_meaning.specs.Functions.{function_at}
 use Rattle.serial_meaning.specs.Plan.{PlanView, functions_of}
-use Rattle.serial_meaning.specs.Exec.{State, given, paid, implied, goes_out, leaves, exec}
+use Rattle.serial_meaning.specs.Exec.{State, unless_fault, paid, implied, goes_out, leaves, exec}
 use Rattle.serial_meaning.specs.Eval.{Evaluation, path_of, turns, eval_below, eval, depth_left}
 use Rattle.serial_meaning.specs.Open.{Item, Happened, Child, Opened, Closed, NodeFault, Own, ChildFaulted, put_off_all}
 use Rattle.serial_meaning.specs.declared.value.Value.{Value}
@@ -17,7 +17,8 @@ use Rattle.serial_meaning.specs.declared.event.Event.{Event}
 use Rattle.serial_meaning.specs.declared.origin.Origin.{Origin}
 use Rattle.serial_meaning.specs.declared.origin.Origin.TheVariants.{Instance, Loop}
 use Rattle.loop_range.specs.Range.{Range}
-use Rattle.strand_meaning.specs.Machine.{Level, Frame, Machine, inside_of, present, with_scalar, spawns_in}
+use Rattle.script_check.specs.Spawns.{spawns_in}
+use Rattle.strand_meaning.specs.Machine.{Level, Frame, Machine, inside_of, present, with_scalar}
 use Rattle.strand_meaning.specs.Trace.{AwaitedChild, Trace}
 use Rattle.strand_meaning.specs.Task.{InstanceState, Running, AtSync, AtLoop, Ended, Work, Splits, Runs, Over, Task, own_instance, takes_all, resumed, more_values}
 
@@ -43,7 +44,7 @@ GaveValues child (p ∷ ps) = GaveValue (child p.child).ending × GaveValues chi
 module _ (plan : PlanView) (child : Origin → Evaluation) (path : List ℕ) where
   -- at the present path of a frame, outside of its scopes
   abbrev pub valued : List ℕ → Option Function → State (Option Fault) → Run Item NodeFault (Value × State (Option Fault))
-  valued here (Some f) s = given (put_off_all plan child) plan here (value_of f.result s.env) s λ v. done (v, s)
+  valued here (Some f) s = unless_fault (put_off_all plan child) plan here (value_of f.result s.env) s λ v. done (v, s)
   valued here None s = done (Int (pos 0), s)
 
   -- a return, or what is left of it after its sync
@@ -114,8 +115,8 @@ module _ (child : Origin → Evaluation) where
   closed_at (Opened j ∷ items) ending = closed_at items ending
   closed_at (Closed j ∷ items) ending = closed_at items ending
 
-  abbrev pub closed : {A : Type 0} → Run Item NodeFault A → Run Event Fault A
-  closed r = closed_at r.items r.ending
+  abbrev pub closed_run : {A : Type 0} → Run Item NodeFault A → Run Event Fault A
+  closed_run r = closed_at r.items r.ending
 
 -- What a task gives in the end
 
@@ -147,7 +148,7 @@ abbrev pub work_run : PlanView → Origin → List AwaitedChild → Work → Lis
 work_run plan o parts (Splits left) values = turns_left (eval plan) o left then λ vs. done (values ++ vs)
 work_run plan o parts (Runs stage) values =
     let child = children_of plan (own_instance o) in
-    closed child (rest_open plan child (path_of (own_instance o)) parts stage) then λ v. done (all_with o values v)
+    closed_run child (rest_open plan child (path_of (own_instance o)) parts stage) then λ v. done (all_with o values v)
 work_run plan o parts (Over v gone_on) values = done (values ++ v ∷ [])
 
 -- Pieces with each child's evaluation in its place, and then what remains, up to the first fault.

@@ -117,9 +117,9 @@ iteration_on_way j function rest first path count (Some k) =
     if nat_lt k count && nat_lt (length path + 1) (length j) then Some (iteration function rest first path k) else None
 
 -- the instance that is entered of a child on the way, if there is one
-abbrev pub entered : List ℕ → Origin → Option Origin
-entered j (Instance function args path) = Some (Instance function args path)
-entered j (Loop function rest first path range) = iteration_on_way j function rest first path (range.hi - range.lo) (slice_get j (length path))
+abbrev pub entered_child : List ℕ → Origin → Option Origin
+entered_child j (Instance function args path) = Some (Instance function args path)
+entered_child j (Loop function rest first path range) = iteration_on_way j function rest first path (range.hi - range.lo) (slice_get j (length path))
 
 abbrev pub next_step : Option Origin → (Origin → Found) → Found
 next_step None go = Missing
@@ -127,7 +127,7 @@ next_step (Some o) go = go o
 
 abbrev pub by_child : Option Origin → List ℕ → Found → (Origin → Found) → Found
 by_child None j here go = here
-by_child (Some o) j here go = next_step (entered j o) go
+by_child (Some o) j here go = next_step (entered_child j o) go
 
 -- The walk down from an instance to a pedigree. Each child's path is longer than its parent's, so as many steps as the pedigree has ranks
 -- are enough.

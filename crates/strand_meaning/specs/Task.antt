@@ -196,9 +196,9 @@ with_answer None v env = env
 with_answer (Some x) v env = replaced env x.bytes (Scalar v)
 
 -- a frame that takes the answer of a child that it spawned
-abbrev pub answered : Option Name → Result (List Value) Fault → Frame → Frame
-answered target (Ok vs) a = record a { env = with_answer target (first_of vs) a.env }
-answered target (Err f) a = record a { faulted = Some (least a.faulted f) }
+abbrev pub frame_with_answer : Option Name → Result (List Value) Fault → Frame → Frame
+frame_with_answer target (Ok vs) a = record a { env = with_answer target (first_of vs) a.env }
+frame_with_answer target (Err f) a = record a { faulted = Some (least a.faulted f) }
 
 abbrev pub in_machine : (Machine → Machine) → InstanceState → InstanceState
 in_machine change (Running m) = Running (change m)
@@ -210,7 +210,7 @@ abbrev pub with_values : Option Name → List Value → Machine → Machine
 with_values target vs m = record m { top = record m.top { env = filled target vs m.top.env } }
 
 abbrev pub takes : Destination → Result (List Value) Fault → InstanceState → InstanceState
-takes (Spawned height target) ended stage = in_machine (changed height (answered target ended)) stage
+takes (Spawned height target) ended stage = in_machine (changed height (frame_with_answer target ended)) stage
 takes (Looped target) (Ok vs) stage = in_machine (with_values target vs) stage
 takes (Looped target) (Err f) stage = Ended (Err (ChildFaulted f))
 takes Half ended stage = stage

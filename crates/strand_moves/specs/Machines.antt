@@ -22,8 +22,8 @@ abbrev pub IsInstance : PlanView → Instance → Type 0
 IsInstance plan i = running.IsInstance plan i.running.value
 
 -- Moves in a row that showed nothing, or an event, which the sink took; the cursor then passed its next statement, if one was left.
-abbrev pub Comes : {S : Type 0} → (Event → S → S) → PlanView → Instance → S → Instance → S → Option Stmt → Type 0
-Comes after plan i start now sent next = rows.Comes after plan i.running.value start now.running.value sent next
+abbrev pub ComesToStatement : {S : Type 0} → (Event → S → S) → PlanView → Instance → S → Instance → S → Option Stmt → Type 0
+ComesToStatement after plan i start now sent next = rows.ComesToStatement after plan i.running.value start now.running.value sent next
 
 abbrev pub HasPassedStatement : PlanView → Instance → Option Stmt → Type 0
 HasPassedStatement plan i next = rows.HasPassedStatement plan i.running.value next

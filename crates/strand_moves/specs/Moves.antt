@@ -15,7 +15,7 @@ use Rattle.serial_meaning.specs.Exec.{does}
 use Rattle.serial_meaning.specs.Plan.{PlanView}
 use Rattle.serial_meaning.specs.declared.event.Fault.{Fault}
 use Rattle.serial_meaning.specs.declared.origin.Origin.{Origin}
-use Rattle.strand_meaning.specs.Machine.{Spawned, Looped, Effect, Opens, Closes, Emitted, Handed, Syncs, Loops, Machine, Reached, Stands, Gives, handing, inside, destination_of, state_of, with_left, entered, reached}
+use Rattle.strand_meaning.specs.Machine.{Spawned, Looped, Effect, Opens, Closes, Emitted, Handed, Syncs, Loops, Machine, Reached, Stands, Gives, handing, inside, destination_of, state_of, with_left, machine_inside, reached}
 use Rattle.strand_values.specs.declared.halt.Halt as values
 use Rattle.strand_values.specs.declared.halt.Halt.TheVariants as halt
 use Rattle.strand_moves.specs.declared.effects.Effects.{Effects}
@@ -75,7 +75,7 @@ present_pedigree here m = here ++ m.rank ∷ []
 -- what a statement does at a present path that is paid and stands no longer among those left
 unfoldable pub acted : PlanView → List ℕ → Machine → Stmt → Act-F Act Stmt → Run Effect Fault Reached
 acted plan here m st a =
-    let r = does (handing plan (destination_of (length m.below) a)) plan here inside (length m.below) st a (state_of m) in record { items = r.items; ending = reached plan (with_left m m.top.left) (entered plan st a m.top.left m) r.ending }
+    let r = does (handing plan (destination_of (length m.below) a)) plan here inside (length m.below) st a (state_of m) in record { items = r.items; ending = reached plan (with_left m m.top.left) (machine_inside plan st a m.top.left m) r.ending }
 
 -- a call, or a spawn, whose value goes to a variable, if any
 abbrev pub call_to : Option Name → CallText → Act-F Act Stmt

@@ -46,7 +46,7 @@ abbrev pub unpassed : PlanView → Running → Option Stmt → Machine
 unpassed plan i next = let m = machine_of plan i in record m { top = record m.top { left = with_next next m.top.left } }
 
 -- They lead to an instance whose cursor then passed its next statement, if one was left.
-pub record Comes {S : Type 0} (after : Event → S → S) (plan : PlanView) (first : Running) (start : S) (now : Running) (sent : S) (next : Option Stmt) : Type 0 where
+pub record ComesToStatement {S : Type 0} (after : Event → S → S) (plan : PlanView) (first : Running) (start : S) (now : Running) (sent : S) (next : Option Stmt) : Type 0 where
   pub before : Running
   pub row : Row after plan first start before sent
   pub sound : IsInstance plan before

@@ -18,13 +18,13 @@ use Rattle.strand_moves.specs.Rows.{unpassed}
 use Rattle.strand_moves.specs.Running.{machine_of, path_of}
 
 -- a spawn, as a move
-abbrev pub handed : Result Spawning values.Halt → Result MoveResult values.Halt
-handed (Ok s) = Ok (moved.Went (effect.Spawned s.event s.spawned))
-handed (Err h) = Err h
+abbrev pub spawn_as_move : Result Spawning values.Halt → Result MoveResult values.Halt
+spawn_as_move (Ok s) = Ok (moved.Went (effect.Spawned s.event s.spawned))
+spawn_as_move (Err h) = Err h
 
 -- It is that move, where there was memory for its box.
 abbrev pub IsHanded : Result Spawning values.Halt → Result MoveResult values.Halt → Type 0
-IsHanded done result = (result ≡ handed done) ⊎ (result ≡ Err halt.Memory)
+IsHanded done result = (result ≡ spawn_as_move done) ⊎ (result ≡ Err halt.Memory)
 
 -- A statement does what this spawn does, whose value goes to a variable, if any.
 abbrev pub DoesAs : Stmt → Option Name → CallText → Type 0

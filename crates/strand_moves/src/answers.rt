@@ -5,7 +5,7 @@ ghost use Rattle.std.specs.Option.{option_copied};
 ghost use Rattle.serial_meaning.specs.Open.{least};
 ghost use Rattle.serial_meaning.specs.Plan.{PlanView};
 ghost use Rattle.strand_meaning.specs.Found.{FindsAt, FindsInnermost, functions_in};
-ghost use Rattle.strand_meaning.specs.Task.{answered, changed, with_answer, with_values};
+ghost use Rattle.strand_meaning.specs.Task.{frame_with_answer, changed, with_answer, with_values};
 ghost use Rattle.strand_values.specs.Environments.{with_variables};
 ghost use Rattle.strand_moves.specs.Found.{FindsTarget};
 ghost use Rattle.strand_moves.specs.Running.{IsInstance, machine_of, path_of};
@@ -19,7 +19,7 @@ use strand_values::Target;
 impl Running {
     /// Takes the fault of a child of the frame with `height` others below it.
     pub fn take_fault(&mut self, height: usize, fault: Fault)
-        ensures machine { (plan : PlanView) (target : _) → machine_of plan self.new ≡ changed height (answered target (Err fault)) (machine_of plan self.old) }
+        ensures machine { (plan : PlanView) (target : _) → machine_of plan self.new ≡ changed height (frame_with_answer target (Err fault)) (machine_of plan self.old) }
         ensures path { path_of self.new ≡ path_of self.old }
         ensures sound { (plan : PlanView) → IsInstance plan self.old → IsInstance plan self.new }
     {
@@ -34,14 +34,14 @@ impl Running {
     pub fn take_value(&mut self, plan: &Plan, height: usize, target: Option<&Target>, value: Value)
         requires sound { IsInstance plan.now self.old }
         requires found { FindsAt plan.now height (option_copied target) (functions_in (machine_of plan.now self.old)) }
-        ensures machine { (p : PlanView) → machine_of p self.new ≡ changed height (answered (option_copied target.entry) (Ok (value ∷ []))) (machine_of p self.old) }
+        ensures machine { (p : PlanView) → machine_of p self.new ≡ changed height (frame_with_answer (option_copied target.entry) (Ok (value ∷ []))) (machine_of p self.old) }
         ensures path { path_of self.new ≡ path_of self.old }
         ensures sound { (p : PlanView) → IsInstance p self.old → IsInstance p self.new }
     {
         if height == self.below.len() {
-            replace(plan.places(), &mut self.top, target, value);
+            set_answer(plan.places(), &mut self.top, target, value);
         } else if height < self.below.len() {
-            replace(plan.places(), &mut self.below[height], target, value);
+            set_answer(plan.places(), &mut self.below[height], target, value);
         }
     }
 
@@ -72,7 +72,7 @@ impl Running {
 
 /// Gives a variable that is there a new value.
 #[inline(always)]
-fn replace(places: &[u16], frame: &mut Frame, target: Option<&Target>, value: Value)
+fn set_answer(places: &[u16], frame: &mut Frame, target: Option<&Target>, value: Value)
     requires { FindsTarget places.now frame.old.env (option_copied target) }
     ensures { frame.new ≡ record frame.old { env = with_variables frame.old.env (with_answer (option_copied target.entry) value frame.old.env.variables) } }
 {

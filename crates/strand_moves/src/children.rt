@@ -22,7 +22,7 @@ ghost use Rattle.serial_meaning.specs.declared.event.FaultKind.{FaultKind};
 ghost use Rattle.strand_values.specs.declared.halt.Halt.TheVariants.{Fault};
 ghost use Rattle.strand_moves.specs.Moves.{IsTrailOf, MovesTrail, Shows, spawn_to};
 ghost use Rattle.strand_moves.specs.Rows.{HasPassedStatement};
-ghost use Rattle.strand_moves.specs.Spawns.{DoesAs, HasSpawned, IsHanded, SpawnsTrail, handed};
+ghost use Rattle.strand_moves.specs.Spawns.{DoesAs, HasSpawned, IsHanded, SpawnsTrail, spawn_as_move};
 ghost use Rattle.strand_moves.specs.declared.effects.Effects.TheVariants as effect;
 
 use crate::calls::function_in;
@@ -52,7 +52,7 @@ impl Running {
     ) -> Result<Spawning, Halt>
         requires strand { IsStrand plan.now self.old }
         requires finds { FindsSpawn plan.now places.now self.old.top.env (option_copied target) call.now }
-        ensures shows { (st : Stmt) → Acts plan.now st (spawn_to (option_copied target.entry) call.now) self.old self.new (handed result) }
+        ensures shows { (st : Stmt) → Acts plan.now st (spawn_to (option_copied target.entry) call.now) self.old self.new (spawn_as_move result) }
         ensures same { (kind : FaultKind) → result ≡ Err (Fault kind) → self.new ≡ self.old }
         ensures child { IfOk result (λ s. IsTrailOf plan.now s.spawned.child.origin s.spawned.child.trail) }
         ensures stays { Stays self.old self.new }

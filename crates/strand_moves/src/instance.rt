@@ -6,7 +6,7 @@ ghost use Rattle.dotmix.specs.Trails.{FitsGamma};
 ghost use Rattle.serial_meaning.specs.Plan.{PlanView, functions_of};
 ghost use Rattle.strand_meaning.specs.Machine.{Stands, begun, move};
 ghost use Rattle.strand_meaning.specs.Found.{FindsAt, FindsInnermost, functions_in};
-ghost use Rattle.strand_meaning.specs.Task.{answered, changed, with_values};
+ghost use Rattle.strand_meaning.specs.Task.{frame_with_answer, changed, with_values};
 
 use crate::effects::{MoveResult, Spawning};
 use crate::event_sink::EventSink;
@@ -26,7 +26,7 @@ pub struct Instance {
 }
 
 impl Instance {
-    ghost use Rattle.strand_moves.specs.Machines.{Comes, HasPassedStatement, HasSpawned, IsInstance, machine_of, path_of, unpassed};
+    ghost use Rattle.strand_moves.specs.Machines.{ComesToStatement, HasPassedStatement, HasSpawned, IsInstance, machine_of, path_of, unpassed};
     ghost use Rattle.strand_moves.specs.Moves.{run_of, MovesTrail};
     ghost use Rattle.strand_moves.specs.Spawns.{SpawnsTrail};
 
@@ -70,7 +70,7 @@ impl Instance {
         sink: &mut S,
     ) -> Result<Option<&'a Stmt>, Memory>
         requires { IsInstance plan.now self.old }
-        ensures { IfOk result (λ next. Comes S.after plan.now self.old sink.old self.new sink.new (option_copied next)) }
+        ensures { IfOk result (λ next. ComesToStatement S.after plan.now self.old sink.old self.new sink.new (option_copied next)) }
     {
         self.running.row(alloc, plan, sink)
     }
@@ -111,7 +111,7 @@ impl Instance {
 
     /// It has ended. It is taken apart here, since to drop it by its box copies its frame twice.
     #[inline(always)]
-    pub fn end(self) {
+    pub fn discard(self) {
         let Running {
             trail,
             top,
@@ -132,7 +132,7 @@ impl Instance {
 
     /// Takes the fault of a child of the frame with `height` others below it.
     pub fn take_fault(&mut self, height: usize, fault: Fault)
-        ensures machine { (plan : PlanView) (target : _) → machine_of plan self.new ≡ changed height (answered target (Err fault)) (machine_of plan self.old) }
+        ensures machine { (plan : PlanView) (target : _) → machine_of plan self.new ≡ changed height (frame_with_answer target (Err fault)) (machine_of plan self.old) }
         ensures path { path_of self.new ≡ path_of self.old }
         ensures sound { (plan : PlanView) → IsInstance plan self.old → IsInstance plan self.new }
     {
@@ -143,7 +143,7 @@ impl Instance {
     pub fn take_value(&mut self, plan: &Plan, height: usize, target: Option<&Target>, value: Value)
         requires sound { IsInstance plan.now self.old }
         requires found { FindsAt plan.now height (option_copied target) (functions_in (machine_of plan.now self.old)) }
-        ensures machine { (p : PlanView) → machine_of p self.new ≡ changed height (answered (option_copied target.entry) (Ok (value ∷ []))) (machine_of p self.old) }
+        ensures machine { (p : PlanView) → machine_of p self.new ≡ changed height (frame_with_answer (option_copied target.entry) (Ok (value ∷ []))) (machine_of p self.old) }
         ensures path { path_of self.new ≡ path_of self.old }
         ensures sound { (p : PlanView) → IsInstance p self.old → IsInstance p self.new }
     {

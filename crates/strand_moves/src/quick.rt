@@ -12,7 +12,7 @@ ghost use Rattle.strand_moves.specs.Acts.{Costs, Stays};
 ghost use Rattle.strand_moves.specs.Cursors.{left_of};
 ghost use Rattle.strand_moves.specs.Running.{IsInstance, IsStrand, KeepsNames, statements_of};
 ghost use Rattle.strand_moves.specs.Quick.{HasCalled, HasEmitted, EndsFrame, HasGone, IsDone, IsQuiet, IsEmittedTo, IsWent, StaysThere, emitted, is_fork, quiet, emitted_if_any};
-ghost use Rattle.strand_moves.specs.Rows.{Comes};
+ghost use Rattle.strand_moves.specs.Rows.{ComesToStatement};
 
 use crate::effects::{Effects, MoveResult};
 use crate::event_sink::EventSink;
@@ -126,7 +126,7 @@ impl Running {
         sink: &mut S,
     ) -> Result<Option<&'a Stmt>, Memory>
         requires { IsInstance plan.now self.old }
-        ensures { IfOk result (λ next. Comes S.after plan.now self.old sink.old self.new sink.new (option_copied next)) }
+        ensures { IfOk result (λ next. ComesToStatement S.after plan.now self.old sink.old self.new sink.new (option_copied next)) }
     {
         let places = plan.places();
         let mut text = self.top.statements(plan);

@@ -10,7 +10,7 @@ use Rattle.script_grammar.specs.declared.tree.ProductPart.{ProductPart}
 use Rattle.script_grammar.specs.declared.tree.ProductSign.{ProductSign}
 use Rattle.script_check.specs.Places.{all_true, every_at, every_in, every_in_factor, every_in_summand, has_place}
 use Rattle.serial_meaning.specs.Runs.{◌>>=◌}
-use Rattle.serial_meaning.specs.Values.{Env, Meaning, slot_of, scalar, items_of, number, item, product, added, sums, products, value_at, product_at, sum_at, value_of, sum_part, product_part}
+use Rattle.serial_meaning.specs.Values.{Env, Meaning, slot_of, scalar, items_of, as_integer, item, product, added, sums, products, value_at, product_at, sum_at, value_of, sum_part, product_part}
 use Rattle.serial_meaning.specs.declared.environment.Slot.{Slot}
 use Rattle.serial_meaning.specs.declared.event.FaultKind.{FaultKind}
 use Rattle.serial_meaning.specs.declared.value.Value.{Value}
@@ -67,7 +67,7 @@ module _ (is : Name → Bool) (slot : Name → Option Slot) (env : Env) (same : 
         let one = fine x (sym (summand-is (part x)) ∙ h.0) in
         rw (sum_part_by-is (part x), sum_part-is (part x))
         (both-then (meaning_by slot (part x).operand []) (value_of (part x).operand env) _ _ one
-        (λ y. and-then (added (part x).minus (number v) (number y)) _ _ (λ z. sums-same part fine xs z h.1)))
+        (λ y. and-then (added (part x).minus (as_integer v) (as_integer y)) _ _ (λ z. sums-same part fine xs z h.1)))
 
     products-same : (part : X → ProductPart) → ((x : X) → FineProduct (part x)) → (xs : List X) (v : Value) → all_true (map (every_in_factor is) (map part xs)) ≡ true →
         products [] v (map (product_part_by slot) (map part xs)) ≡ products env v (map product_part (map part xs))
@@ -77,7 +77,7 @@ module _ (is : Name → Bool) (slot : Name → Option Slot) (env : Env) (same : 
         let one = fine x (sym (factor-is (part x)) ∙ h.0) in
         rw (product_part_by-is (part x), product_part-is (part x))
         (both-then (meaning_by slot (part x).operand []) (value_of (part x).operand env) _ _ one
-        (λ y. and-then (product (part x).sign (number v) (number y)) _ _ (λ z. products-same part fine xs z h.1)))
+        (λ y. and-then (product (part x).sign (as_integer v) (as_integer y)) _ _ (λ z. products-same part fine xs z h.1)))
 
   abbrev known_of_layer : Expr-F Expr ProductPart SumPart → Bool
   known_of_layer d = every_at is (map-Expr Expr ProductPart SumPart Bool Bool Bool (every_in is) (every_in_factor is) (every_in_summand is) d)
@@ -108,7 +108,7 @@ module _ (is : Name → Bool) (slot : Name → Option Slot) (env : Env) (same : 
     node-fine (node.Var x) a = ap (λ o. Ok (scalar o)) (same x a)
     node-fine (node.Item x i) a =
         let h = and_parts (is x) (every_in is (expr i)) a in
-        both-then (meaning_by slot (expr i) []) (value_of (expr i) env) _ _ (e i h.1) (λ v. ap (λ o. item (items_of o) (number v)) (same x h.0))
+        both-then (meaning_by slot (expr i) []) (value_of (expr i) env) _ _ (e i h.1) (λ v. ap (λ o. item (items_of o) (as_integer v)) (same x h.0))
     node-fine (node.Neg at x) a = both-then (meaning_by slot (expr x) []) (value_of (expr x) env) _ _ (e x a) (λ v. refl)
     node-fine (node.Same at x y) a = let h = and_parts (every_in is (expr x)) (every_in is (expr y)) a in two-fine x y _ h.0 h.1
     node-fine (node.Older at x y) a = let h = and_parts (every_in is (expr x)) (every_in is (expr y)) a in two-fine x y _ h.0 h.1

@@ -7,7 +7,7 @@ use Rattle.script_grammar.specs.declared.tree.ProductSign.{ProductSign}
 use Rattle.script_grammar.specs.declared.tree.SumPart.{SumPart}
 use Rattle.std.specs.Result.{IsErrAnd}
 use Rattle.serial_meaning.specs.Runs.{◌>>=◌}
-use Rattle.serial_meaning.specs.Values.{Val, Env, Meaning, number, added, product, sums, products, sum_part, product_part, value_of}
+use Rattle.serial_meaning.specs.Values.{Val, Env, Meaning, as_integer, added, product, sums, products, sum_part, product_part, value_of}
 use Rattle.serial_meaning.specs.declared.value.Value.{Value}
 use Rattle.serial_meaning.specs.declared.value.Value.TheVariants.{Int}
 use Rattle.serial_meaning.specs.declared.event.FaultKind.{FaultKind}
@@ -37,25 +37,25 @@ ended f (Err k) (halt.Fault kind) out g = let same : k ≡ kind = cc in out k �
 
 module _ (env : Env) where
   at_sum : (rest : List SumPart) (i : ℕ) (p : SumPart) (v : Value) → i < length rest → p ≡ get_or rest i p →
-      sums env v (map sum_part (drop i rest)) ≡ (value_of p.operand env >>= λ y. added p.minus (number v) (number y) >>= λ z. sums env z (map sum_part (drop (suc i) rest)))
+      sums env v (map sum_part (drop i rest)) ≡ (value_of p.operand env >>= λ y. added p.minus (as_integer v) (as_integer y) >>= λ z. sums env z (map sum_part (drop (suc i) rest)))
   at_sum [] i p v h e = absurd (omega arith)
   at_sum (q ∷ qs) zero p v h e =
-      let Goes : SumPart → Type 0 = λ s. sums env v (sum_part q ∷ map sum_part qs) ≡ (value_of s.operand env >>= λ y. added s.minus (number v) (number y) >>= λ z. sums env z (map sum_part qs)) in
-      subst Goes (sym e) (ap (λ (m : Bool × Meaning). m.1 env >>= λ y. added m.0 (number v) (number y) >>= λ z. sums env z (map sum_part qs)) (summand q))
+      let Goes : SumPart → Type 0 = λ s. sums env v (sum_part q ∷ map sum_part qs) ≡ (value_of s.operand env >>= λ y. added s.minus (as_integer v) (as_integer y) >>= λ z. sums env z (map sum_part qs)) in
+      subst Goes (sym e) (ap (λ (m : Bool × Meaning). m.1 env >>= λ y. added m.0 (as_integer v) (as_integer y) >>= λ z. sums env z (map sum_part qs)) (summand q))
   at_sum (q ∷ qs) (suc i) p v h e = at_sum qs i p v (omega arith) e
 
   at_product : (rest : List ProductPart) (i : ℕ) (p : ProductPart) (v : Value) → i < length rest → p ≡ get_or rest i p →
-      products env v (map product_part (drop i rest)) ≡ (value_of p.operand env >>= λ y. product p.sign (number v) (number y) >>= λ z. products env z (map product_part (drop (suc i) rest)))
+      products env v (map product_part (drop i rest)) ≡ (value_of p.operand env >>= λ y. product p.sign (as_integer v) (as_integer y) >>= λ z. products env z (map product_part (drop (suc i) rest)))
   at_product [] i p v h e = absurd (omega arith)
   at_product (q ∷ qs) zero p v h e =
-      let Goes : ProductPart → Type 0 = λ s. products env v (product_part q ∷ map product_part qs) ≡ (value_of s.operand env >>= λ y. product s.sign (number v) (number y) >>= λ z. products env z (map product_part qs)) in
-      subst Goes (sym e) (ap (λ (m : ProductSign × Meaning). m.1 env >>= λ y. product m.0 (number v) (number y) >>= λ z. products env z (map product_part qs)) (factor q))
+      let Goes : ProductPart → Type 0 = λ s. products env v (product_part q ∷ map product_part qs) ≡ (value_of s.operand env >>= λ y. product s.sign (as_integer v) (as_integer y) >>= λ z. products env z (map product_part qs)) in
+      subst Goes (sym e) (ap (λ (m : ProductSign × Meaning). m.1 env >>= λ y. product m.0 (as_integer v) (as_integer y) >>= λ z. products env z (map product_part qs)) (factor q))
   at_product (q ∷ qs) (suc i) p v h e = at_product qs i p v (omega arith) e
 
   -- the number of an operand goes into the chain
-  goes : (f : ℤ → Val) (g : Value → Val) (w : Val) (m s : ℤ) → numbered w ≡ Ok m → f m ≡ Ok (Int s) → (w >>= λ y. f (number y) >>= g) ≡ g (Int s)
+  goes : (f : ℤ → Val) (g : Value → Val) (w : Val) (m s : ℤ) → numbered w ≡ Ok m → f m ≡ Ok (Int s) → (w >>= λ y. f (as_integer y) >>= g) ≡ g (Int s)
   goes f g (Err kind) m s h k = absurd (cc)
-  goes f g (Ok y) m s h k = let e : number y ≡ m = cc in rw (e, k) refl
+  goes f g (Ok y) m s h k = let e : as_integer y ≡ m = cc in rw (e, k) refl
 
   pub next_sum : (rest : List SumPart) (i : ℕ) (p : SumPart) (n : ℤ) (d : Val) (m s : ℤ) → i < length rest → p ≡ get_or rest i p → numbered (value_of p.operand env) ≡ Ok m → added p.minus n m ≡ Ok (Int s) →
       d ≡ sums env (Int n) (map sum_part (drop i rest)) → d ≡ sums env (Int s) (map sum_part (drop (suc i) rest))
@@ -69,18 +69,18 @@ module _ (env : Env) where
   pub sum_ends : (rest : List SumPart) (i : ℕ) (p : SumPart) (n : ℤ) (d : Val) (h : Halt) (r : Result ℤ Halt) → i < length rest → p ≡ get_or rest i p →
       Gives {A = ℤ} (Err h) (numbered (value_of p.operand env)) → IsErrAnd r (λ e. e ≡ h) → d ≡ sums env (Int n) (map sum_part (drop i rest)) → Gives (integral r) d
   sum_ends rest i p n d h r k e g so from =
-      let f : Val → Val = λ w. w >>= λ y. added p.minus n (number y) >>= λ z. sums env z (map sum_part (drop (suc i) rest)) in
+      let f : Val → Val = λ w. w >>= λ y. added p.minus n (as_integer y) >>= λ z. sums env z (map sum_part (drop (suc i) rest)) in
       given r h d so (subst (λ x. Gives {A = Value} (Err h) x) (sym (from ∙ at_sum rest i p (Int n) k e)) (ended f (value_of p.operand env) h (λ kind. refl) g))
 
   pub product_ends : (rest : List ProductPart) (i : ℕ) (p : ProductPart) (n : ℤ) (d : Val) (h : Halt) (r : Result ℤ Halt) → i < length rest → p ≡ get_or rest i p →
       Gives {A = ℤ} (Err h) (numbered (value_of p.operand env)) → IsErrAnd r (λ e. e ≡ h) → d ≡ products env (Int n) (map product_part (drop i rest)) → Gives (integral r) d
   product_ends rest i p n d h r k e g so from =
-      let f : Val → Val = λ w. w >>= λ y. product p.sign n (number y) >>= λ z. products env z (map product_part (drop (suc i) rest)) in
+      let f : Val → Val = λ w. w >>= λ y. product p.sign n (as_integer y) >>= λ z. products env z (map product_part (drop (suc i) rest)) in
       given r h d so (subst (λ x. Gives {A = Value} (Err h) x) (sym (from ∙ at_product rest i p (Int n) k e)) (ended f (value_of p.operand env) h (λ kind. refl) g))
 
-  stops : (f : ℤ → Val) (g : Value → Val) (w : Val) (m : ℤ) (kind : FaultKind) → numbered w ≡ Ok m → f m ≡ Err kind → (w >>= λ y. f (number y) >>= g) ≡ Err kind
+  stops : (f : ℤ → Val) (g : Value → Val) (w : Val) (m : ℤ) (kind : FaultKind) → numbered w ≡ Ok m → f m ≡ Err kind → (w >>= λ y. f (as_integer y) >>= g) ≡ Err kind
   stops f g (Err k) m kind h e = absurd (cc)
-  stops f g (Ok y) m kind h e = let same : number y ≡ m = cc in rw (same, e) refl
+  stops f g (Ok y) m kind h e = let same : as_integer y ≡ m = cc in rw (same, e) refl
 
   -- and so does a division by 0
   pub product_stops : (rest : List ProductPart) (i : ℕ) (p : ProductPart) (n : ℤ) (d : Val) (m : ℤ) (kind : FaultKind) (r : Result ℤ Halt) → i < length rest → p ≡ get_or rest i p →

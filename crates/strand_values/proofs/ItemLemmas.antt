@@ -3,7 +3,7 @@ use Rattle.std.proofs.Common.{◌≡◌, ℕ, zero, suc, ◌<◌, ◌≤◌, min
 use Rattle.std.specs.Prelude.{ℤ, pos, negsuc, IsSome, slice_get}
 use lib.IntN.{nat_abs}
 use Rattle.std.proofs.lemmas.List.{take-append-drop}
-use Rattle.serial_meaning.specs.Values.{number, at_index, items_of}
+use Rattle.serial_meaning.specs.Values.{as_integer, at_index, items_of}
 use Rattle.serial_meaning.specs.Exec.{with_item, set_item, with_front, zeros}
 use Rattle.serial_meaning.specs.declared.environment.Slot.{Slot}
 use Rattle.serial_meaning.specs.declared.environment.Slot.TheVariants.{Array}
@@ -23,10 +23,10 @@ front_of_none [] = refl
 front_of_none (v ∷ vs) = refl
 
 pub front_step : (i : ℕ) (xs : List ℤ) (vs : List Value) (v : Value) → i < length xs → i < length vs → v ≡ get_or vs i v →
-    take i xs ++ with_front (drop i xs) (drop i vs) ≡ take (suc i) (slice_set xs i (number v)) ++ with_front (drop (suc i) (slice_set xs i (number v))) (drop (suc i) vs)
+    take i xs ++ with_front (drop i xs) (drop i vs) ≡ take (suc i) (slice_set xs i (as_integer v)) ++ with_front (drop (suc i) (slice_set xs i (as_integer v))) (drop (suc i) vs)
 front_step i [] vs v h k e = absurd (omega arith)
 front_step i (x ∷ xs) [] v h k e = absurd (omega arith)
-front_step zero (x ∷ xs) (w ∷ ws) v h k e = ap (λ (u : Value). number u ∷ with_front xs ws) (sym e)
+front_step zero (x ∷ xs) (w ∷ ws) v h k e = ap (λ (u : Value). as_integer u ∷ with_front xs ws) (sym e)
 front_step (suc i) (x ∷ xs) (w ∷ ws) v h k e = ap (λ l. x ∷ l) (front_step i xs ws v (omega arith) (omega arith) e)
 
 pub front_done : (i : ℕ) (xs : List ℤ) (vs : List Value) → min (length xs) (length vs) ≤ i → take i xs ++ with_front (drop i xs) (drop i vs) ≡ xs
@@ -54,7 +54,7 @@ no_index_of_none : (k : ℤ) → IsSome (at_index [] k) → ⊥
 no_index_of_none (pos i) h = not_some ℤ h
 no_index_of_none (negsuc i) h = not_some ℤ h
 
-stored : (xs : List ℤ) (k : ℤ) (v : Value) → IsSome (at_index xs k) → with_item xs (nat_abs k) (number v) ≡ set_item xs k v
+stored : (xs : List ℤ) (k : ℤ) (v : Value) → IsSome (at_index xs k) → with_item xs (nat_abs k) (as_integer v) ≡ set_item xs k v
 stored xs (pos i) v h = refl
 stored xs (negsuc i) v h = absurd (not_some ℤ h)
 
@@ -62,7 +62,7 @@ stored xs (negsuc i) v h = absurd (not_some ℤ h)
 pub item_there : (s t : Option Slot) (k : ℤ) → s ≡ t → IsSome (at_index (items_of s) k) → IsSome (at_index (items_of t) k)
 item_there s t k e h = let P : Option Slot → Type 0 = λ u. IsSome (at_index (items_of u) k) in subst P e h
 
-pub stored_there : (s t : Option Slot) (k : ℤ) (v : Value) → s ≡ t → IsSome (at_index (items_of s) k) → Array (with_item (items_of t) (nat_abs k) (number v)) ≡ Array (set_item (items_of s) k v)
+pub stored_there : (s t : Option Slot) (k : ℤ) (v : Value) → s ≡ t → IsSome (at_index (items_of s) k) → Array (with_item (items_of t) (nat_abs k) (as_integer v)) ≡ Array (set_item (items_of s) k v)
 stored_there s t k v e h = ap (λ xs. Array xs) (stored (items_of t) k v (item_there s t k e h) ∙ ap (λ u. set_item (items_of u) k v) (sym e))
 
 -- which is there, since it has an item

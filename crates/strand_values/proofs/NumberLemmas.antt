@@ -16,7 +16,7 @@ use Rattle.script_grammar.specs.declared.tree.ProductSign.TheVariants as sign
 use Rattle.script_grammar.specs.declared.tree.ProductPart.{ProductPart}
 use Rattle.script_grammar.specs.declared.tree.SumPart.{SumPart}
 use Rattle.serial_meaning.specs.Runs.{◌>>=◌}
-use Rattle.serial_meaning.specs.Values.{Val, Env, Meaning, number, object, truth, compared, added, over, product, sums, products, sum_part, product_part, value_of, value_at, product_at, sum_at}
+use Rattle.serial_meaning.specs.Values.{Val, Env, Meaning, as_integer, object, truth, compared, added, over, product, sums, products, sum_part, product_part, value_of, value_at, product_at, sum_at}
 use Rattle.serial_meaning.specs.declared.value.Value.{Value}
 use Rattle.serial_meaning.specs.declared.value.Value.TheVariants.{Int}
 use Rattle.strand_values.specs.Gives.{Gives, numbered, integral}
@@ -40,10 +40,10 @@ truth_is_int true = refl
 truth_is_int false = refl
 
 pub comparison_is_int : (how : Comparison) (left right : Val) →
-    (left >>= λ x. right >>= λ y. Ok (truth (compared how (number x) (number y)))) ≡ integral (numbered (left >>= λ x. right >>= λ y. Ok (truth (compared how (number x) (number y)))))
+    (left >>= λ x. right >>= λ y. Ok (truth (compared how (as_integer x) (as_integer y)))) ≡ integral (numbered (left >>= λ x. right >>= λ y. Ok (truth (compared how (as_integer x) (as_integer y)))))
 comparison_is_int how (Err kind) right = refl
 comparison_is_int how (Ok x) (Err kind) = refl
-comparison_is_int how (Ok x) (Ok y) = truth_is_int (compared how (number x) (number y))
+comparison_is_int how (Ok x) (Ok y) = truth_is_int (compared how (as_integer x) (as_integer y))
 
 pub truth_of_two_is_int : (f : Value → Value → Bool) (left right : Val) →
     (left >>= λ x. right >>= λ y. Ok (truth (f x y))) ≡ integral (numbered (left >>= λ x. right >>= λ y. Ok (truth (f x y))))
@@ -56,7 +56,7 @@ truth_of_two_is_int f (Ok x) (Ok y) = truth_is_int (f x y)
 sum_begins : (env : Env) (d : Val) (n : ℤ) (ps : List (Bool × Meaning)) → numbered d ≡ Ok n → numbered (d >>= λ v. sums env v ps) ≡ numbered (sums env (Int n) ps)
 sum_begins env (Err kind) n ps h = absurd (cc)
 sum_begins env (Ok v) n [] h = h
-sum_begins env (Ok v) n (p ∷ ps) h = let e : number v ≡ n = cc in rw e refl
+sum_begins env (Ok v) n (p ∷ ps) h = let e : as_integer v ≡ n = cc in rw e refl
 
 pub sum_gives : (env : Env) (d : Val) (n : ℤ) (ps : List (Bool × Meaning)) (r : Result ℤ Halt) → numbered d ≡ Ok n → Gives (integral r) (sums env (Int n) ps) → Gives r (numbered (d >>= λ v. sums env v ps))
 sum_gives env d n ps r h g = rw (sum_begins env d n ps h) (numbered_gives r (sums env (Int n) ps) g)
@@ -64,7 +64,7 @@ sum_gives env d n ps r h g = rw (sum_begins env d n ps h) (numbered_gives r (sum
 product_begins : (env : Env) (d : Val) (n : ℤ) (ps : List (ProductSign × Meaning)) → numbered d ≡ Ok n → numbered (d >>= λ v. products env v ps) ≡ numbered (products env (Int n) ps)
 product_begins env (Err kind) n ps h = absurd (cc)
 product_begins env (Ok v) n [] h = h
-product_begins env (Ok v) n (p ∷ ps) h = let e : number v ≡ n = cc in rw e refl
+product_begins env (Ok v) n (p ∷ ps) h = let e : as_integer v ≡ n = cc in rw e refl
 
 pub product_gives : (env : Env) (d : Val) (n : ℤ) (ps : List (ProductSign × Meaning)) (r : Result ℤ Halt) → numbered d ≡ Ok n → Gives (integral r) (products env (Int n) ps) → Gives r (numbered (d >>= λ v. products env v ps))
 product_gives env d n ps r h g = rw (product_begins env d n ps h) (numbered_gives r (products env (Int n) ps) g)
@@ -77,9 +77,9 @@ IsInt d = d ≡ integral (numbered d)
 goes_int : (r : Val) (f : Value → Val) → IsInt r → ((m : ℤ) → IsInt (f (Int m))) → IsInt (r >>= f)
 goes_int (Err kind) f h g = refl
 goes_int (Ok v) f h g =
-    let e : v ≡ Int (number v) = cc in
+    let e : v ≡ Int (as_integer v) = cc in
     let P : Value → Type 0 = λ x. IsInt (f x) in
-    subst P (sym e) (g (number v))
+    subst P (sym e) (g (as_integer v))
 
 added_is_int : (minus : Bool) (x y : ℤ) → IsInt (added minus x y)
 added_is_int true x y = refl
@@ -95,14 +95,14 @@ one_product_is_int sign.Times x y = refl
 one_product_is_int sign.Over x y = over_is_int (int_wrapping_div w64) x y
 one_product_is_int sign.Modulo x y = over_is_int int_rem x y
 
-more_added : (env : Env) (minus : Bool) (n : ℤ) (d : Val) (ps : List (Bool × Meaning)) → ((m : ℤ) → IsInt (sums env (Int m) ps)) → IsInt (d >>= λ y. added minus n (number y) >>= λ z. sums env z ps)
+more_added : (env : Env) (minus : Bool) (n : ℤ) (d : Val) (ps : List (Bool × Meaning)) → ((m : ℤ) → IsInt (sums env (Int m) ps)) → IsInt (d >>= λ y. added minus n (as_integer y) >>= λ z. sums env z ps)
 more_added env minus n (Err kind) ps f = refl
-more_added env minus n (Ok y) ps f = goes_int (added minus n (number y)) (λ z. sums env z ps) (added_is_int minus n (number y)) f
+more_added env minus n (Ok y) ps f = goes_int (added minus n (as_integer y)) (λ z. sums env z ps) (added_is_int minus n (as_integer y)) f
 
 more_multiplied : (env : Env) (s : ProductSign) (n : ℤ) (d : Val) (ps : List (ProductSign × Meaning)) → ((m : ℤ) → IsInt (products env (Int m) ps)) →
-    IsInt (d >>= λ y. product s n (number y) >>= λ z. products env z ps)
+    IsInt (d >>= λ y. product s n (as_integer y) >>= λ z. products env z ps)
 more_multiplied env s n (Err kind) ps f = refl
-more_multiplied env s n (Ok y) ps f = goes_int (product s n (number y)) (λ z. products env z ps) (one_product_is_int s n (number y)) f
+more_multiplied env s n (Ok y) ps f = goes_int (product s n (as_integer y)) (λ z. products env z ps) (one_product_is_int s n (as_integer y)) f
 
 sums_of_int : (env : Env) (ps : List (Bool × Meaning)) (n : ℤ) → IsInt (sums env (Int n) ps)
 sums_of_int env [] n = refl
@@ -118,7 +118,7 @@ sum_is_int env (Err kind) rest h = refl
 sum_is_int env (Ok v) [] h = absurd (cc)
 sum_is_int env (Ok v) (p ∷ ps) h =
     let q = sum_part p in
-    more_added env q.0 (number v) (q.1 env) (map sum_part ps) (λ m. sums_of_int env (map sum_part ps) m)
+    more_added env q.0 (as_integer v) (q.1 env) (map sum_part ps) (λ m. sums_of_int env (map sum_part ps) m)
 
 pub product_is_int : (env : Env) (d : Val) (rest : List ProductPart) → (length rest == 0) ≡ false →
     (d >>= λ v. products env v (map product_part rest)) ≡ integral (numbered (d >>= λ v. products env v (map product_part rest)))
@@ -126,7 +126,7 @@ product_is_int env (Err kind) rest h = refl
 product_is_int env (Ok v) [] h = absurd (cc)
 product_is_int env (Ok v) (p ∷ ps) h =
     let q = product_part p in
-    more_multiplied env q.0 (number v) (q.1 env) (map product_part ps) (λ m. products_of_int env (map product_part ps) m)
+    more_multiplied env q.0 (as_integer v) (q.1 env) (map product_part ps) (λ m. products_of_int env (map product_part ps) m)
 
 -- The same where there is a number
 
@@ -165,7 +165,7 @@ module _ (env : Env) where
   value_of_product first rest = ap (λ (e : Expr). value_of e env) (sym (variant.rolls-Product first rest)) ∙ by_layer (node.Product first rest)
 
   pub value_of_comparison : (left : Expr) (how : Comparison) (right : Expr) →
-      value_of (variant.Compare left how right) env ≡ (value_of left env >>= λ x. value_of right env >>= λ y. Ok (truth (compared how (number x) (number y))))
+      value_of (variant.Compare left how right) env ≡ (value_of left env >>= λ x. value_of right env >>= λ y. Ok (truth (compared how (as_integer x) (as_integer y))))
   value_of_comparison left how right = ap (λ (e : Expr). value_of e env) (sym (variant.rolls-Compare left how right)) ∙ by_layer (node.Compare left how right)
 
   pub value_of_same : (at : ℕ) (left right : Expr) → value_of (variant.Same at left right) env ≡ (value_of left env >>= λ x. value_of right env >>= λ y. Ok (truth (bytes_eq (object x) (object y))))

@@ -10,7 +10,7 @@ use Rattle.script_grammar.specs.declared.tree.ProductSign.{ProductSign}
 use Rattle.script_grammar.specs.declared.tree.SumPart.{SumPart}
 use Rattle.script_check.specs.Places.{every_in, has_place}
 use Rattle.serial_meaning.specs.Runs.{◌>>=◌}
-use Rattle.serial_meaning.specs.Values.{Val, Meaning, item, items_of, number, product_at, scalar, sum_at, value_at, value_of}
+use Rattle.serial_meaning.specs.Values.{Val, Meaning, item, items_of, as_integer, product_at, scalar, sum_at, value_at, value_of}
 use Rattle.serial_meaning.specs.declared.environment.Slot.{Slot}
 use Rattle.strand_values.specs.Environments.{IsEnvironment, held_at, filled_variables}
 use Rattle.strand_values.specs.declared.entry.Entry.{Entry}
@@ -20,7 +20,7 @@ module _ (slot : Name → Option Slot) where
   abbrev pub found_at : Expr-F Meaning (ProductSign × Meaning) (Bool × Meaning) → Meaning
   found_at (node.Number n) env = value_at (node.Number n) env
   found_at (node.Var x) env = Ok (scalar (slot x))
-  found_at (node.Item x i) env = i env >>= λ v. item (items_of (slot x)) (number v)
+  found_at (node.Item x i) env = i env >>= λ v. item (items_of (slot x)) (as_integer v)
   found_at (node.Neg at e) env = value_at (node.Neg at e) env
   found_at (node.Same at a b) env = value_at (node.Same at a b) env
   found_at (node.Older at a b) env = value_at (node.Older at a b) env

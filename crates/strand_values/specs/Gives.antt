@@ -1,7 +1,7 @@
 -- What a calculation in a running program answers, beside what is defined.
 use Rattle.std.specs.Prelude.{◌≡◌, Bool, Result, Ok, Err}
 use Rattle.std.specs.Prelude.{ℤ}
-use Rattle.serial_meaning.specs.Values.{number, is_true}
+use Rattle.serial_meaning.specs.Values.{as_integer, is_true}
 use Rattle.serial_meaning.specs.declared.event.FaultKind.{FaultKind}
 use Rattle.serial_meaning.specs.declared.value.Value.{Value}
 use Rattle.serial_meaning.specs.declared.value.Value.TheVariants.{Int}
@@ -16,7 +16,7 @@ Gives (Err halt.Memory) defined = Unit {0}
 
 -- the number that a value counts as
 abbrev pub numbered : {E : Type 0} → Result Value E → Result ℤ E
-numbered (Ok v) = Ok (number v)
+numbered (Ok v) = Ok (as_integer v)
 numbered (Err e) = Err e
 
 -- a number as the value that it is

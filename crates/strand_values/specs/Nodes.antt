@@ -8,15 +8,15 @@ use Rattle.std.specs.Cmp.Lexicographic.{slice_cmp}
 use Rattle.script_grammar.specs.declared.tree.Comparison.{Comparison}
 use Rattle.script_grammar.specs.declared.tree.ProductPart.{ProductPart}
 use Rattle.serial_meaning.specs.Runs.{◌>>=◌}
-use Rattle.serial_meaning.specs.Values.{Val, Env, slot_of, items_of, item, number, object, truth, compared, products, product_part}
+use Rattle.serial_meaning.specs.Values.{Val, Env, slot_of, items_of, item, as_integer, object, truth, compared, products, product_part}
 use Rattle.serial_meaning.specs.declared.value.Value.{Value}
 use Rattle.serial_meaning.specs.declared.value.Value.TheVariants.{Int}
 
 abbrev pub item_at : Env → List ℕ → Val → Val
-item_at env name index = index >>= λ v. item (items_of (slot_of env name)) (number v)
+item_at env name index = index >>= λ v. item (items_of (slot_of env name)) (as_integer v)
 
 abbrev pub negated : Val → Val
-negated operand = operand >>= λ v. Ok (Int (int_wrapping_neg w64 (number v)))
+negated operand = operand >>= λ v. Ok (Int (int_wrapping_neg w64 (as_integer v)))
 
 abbrev pub same : Value → Val → Val
 same left right = right >>= λ y. Ok (truth (bytes_eq (object left) (object y)))
@@ -25,7 +25,7 @@ abbrev pub older : Value → Val → Val
 older left right = right >>= λ y. Ok (truth (is_lt (slice_cmp nat_cmp (object left) (object y))))
 
 abbrev pub comparison : ℤ → Comparison → Val → Val
-comparison left how right = right >>= λ y. Ok (truth (compared how left (number y)))
+comparison left how right = right >>= λ y. Ok (truth (compared how left (as_integer y)))
 
-abbrev pub product_of : Env → Val → List ProductPart → Val
-product_of env first rest = first >>= λ v. products env v (map product_part rest)
+abbrev pub product_value : Env → Val → List ProductPart → Val
+product_value env first rest = first >>= λ v. products env v (map product_part rest)

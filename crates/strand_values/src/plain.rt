@@ -114,7 +114,7 @@ fn total(env: &Environment, places: &[u16], first: i64, rest: &[SumPart]) -> Opt
 fn scaled(env: &Environment, places: &[u16], first: &Expr, rest: &[ProductPart]) -> Option<i64>
     requires first { FindsExpression places.now env.now first.now }
     requires rest { all_true (map (every_in_factor (has_place places.now env.now.names)) rest.now) ≡ true }
-    ensures { IfSome result (λ n. numbered (node.product_of env.now.variables (value_of first.now env.now.variables) rest.now) ≡ Ok n) }
+    ensures { IfSome result (λ n. numbered (node.product_value env.now.variables (value_of first.now env.now.variables) rest.now) ≡ Ok n) }
 {
     let first = leaf(env, places, first)?;
     multiplied(env, places, first, rest)

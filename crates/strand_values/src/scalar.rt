@@ -2,14 +2,14 @@ ghost use Rattle.std.specs.Prelude.{◌≡◌};
 ghost use Rattle.std.specs.Str.{bytes_eq};
 ghost use Rattle.std.specs.Ordering.{nat_cmp, is_lt};
 ghost use Rattle.std.specs.Cmp.Lexicographic.{slice_cmp};
-ghost use Rattle.serial_meaning.specs.Values.{number, object, truth, is_true};
+ghost use Rattle.serial_meaning.specs.Values.{as_integer, object, truth, is_true};
 ghost use Rattle.serial_meaning.specs.declared.value.Value.TheVariants.{Int};
 
 use serial_meaning::Value;
 
 /// The integer that a value is. An id, which no valid script takes for an integer, counts as 0.
 pub fn number(value: &Value) -> i64
-    ensures { result ≡ number value.now }
+    ensures { result ≡ as_integer value.now }
 {
     match value {
         Value::Int(number) => *number,

@@ -1,7 +1,7 @@
 // Variables by their places.
 
 ghost use Rattle.std.specs.Prelude.{◌≡◌, IfSome, Ok};
-ghost use Rattle.serial_meaning.specs.Values.{slot_of, scalar, number, items_of, at_index};
+ghost use Rattle.serial_meaning.specs.Values.{slot_of, scalar, as_integer, items_of, at_index};
 ghost use Rattle.serial_meaning.specs.declared.value.Value.TheVariants.{Int};
 ghost use Rattle.strand_values.specs.Environments.{FindsName, held};
 ghost use Rattle.strand_values.specs.Gives.{Gives};
@@ -41,7 +41,7 @@ impl Environment {
     #[inline(always)]
     pub(crate) fn number_of(&self, places: &[u16], name: &Name) -> i64
         requires { FindsName places.now self.now name.now }
-        ensures { result ≡ number (scalar (slot_of self.now.variables name.now.bytes)) }
+        ensures { result ≡ as_integer (scalar (slot_of self.now.variables name.now.bytes)) }
     {
         match self.entry(places, name) {
             Entry::Int(number) => *number,

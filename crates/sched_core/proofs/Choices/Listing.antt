@@ -3,7 +3,7 @@ use Rattle.std.proofs.Common.{◌≡◌, ℕ, ◌+◌, Bool, cond, List, [], ◌
 use Rattle.std.proofs.lemmas.List.FromFn.{filter_of_map_range_with_len_more, length-range_with_len, map-range_with_len_more}
 use Rattle.std.specs.List.{range_with_len}
 use Rattle.sched_meaning.specs.Core.{Core, Worker}
-use Rattle.sched_meaning.specs.Simulation.{goes_on, stalled_places}
+use Rattle.sched_meaning.specs.Simulation.{is_progress, stalled_places}
 use Rattle.sched_meaning.specs.declared.event.CoreEvent.{CoreEvent}
 
 append-none : {A : Type 0} (xs : List A) → xs ++ [] ≡ xs
@@ -26,11 +26,11 @@ pub add-many : (g : ℕ → List CoreEvent) (all now next : List CoreEvent) (n :
 add-many g all now next n h e =
     e ∙ ap (λ l. l ++ g n) h ∙ append_assoc all (flat_map g (range_with_len 0 n)) (g n) ∙ ap (λ l. all ++ l) (sym (ap (flat_map g) (range-more n) ∙ flat-end g (range_with_len 0 n) n))
 
-pub add-one : (c : Core) (f : ℕ → CoreEvent) (all now next : List CoreEvent) (n : ℕ) (test : Bool) → now ≡ all ++ filter (goes_on c) (map f (range_with_len 0 n)) → test ≡ goes_on c (f n) →
-    next ≡ now ++ cond test (f n ∷ []) [] → next ≡ all ++ filter (goes_on c) (map f (range_with_len 0 (n + 1)))
+pub add-one : (c : Core) (f : ℕ → CoreEvent) (all now next : List CoreEvent) (n : ℕ) (test : Bool) → now ≡ all ++ filter (is_progress c) (map f (range_with_len 0 n)) → test ≡ is_progress c (f n) →
+    next ≡ now ++ cond test (f n ∷ []) [] → next ≡ all ++ filter (is_progress c) (map f (range_with_len 0 (n + 1)))
 add-one c f all now next n test h t e =
-    e ∙ ap (λ b. now ++ cond b (f n ∷ []) []) t ∙ ap (λ l. l ++ cond (goes_on c (f n)) (f n ∷ []) []) h ∙ append_assoc all (filter (goes_on c) (map f (range_with_len 0 n))) (cond (goes_on c (f n)) (f n ∷ []) [])
-    ∙ ap (λ l. all ++ l) (sym (filter_of_map_range_with_len_more (goes_on c) f 0 n n (omega arith)))
+    e ∙ ap (λ b. now ++ cond b (f n ∷ []) []) t ∙ ap (λ l. l ++ cond (is_progress c (f n)) (f n ∷ []) []) h ∙ append_assoc all (filter (is_progress c) (map f (range_with_len 0 n))) (cond (is_progress c (f n)) (f n ∷ []) [])
+    ∙ ap (λ l. all ++ l) (sym (filter_of_map_range_with_len_more (is_progress c) f 0 n n (omega arith)))
 
 -- the places of the stalled tasks are as many numbers from 0
 pub places-range : (o : Option Worker) → range_with_len 0 (length (stalled_places o)) ≡ stalled_places o

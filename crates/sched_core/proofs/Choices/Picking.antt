@@ -9,7 +9,7 @@ use Rattle.serial_meaning.specs.Eval.{main_origin}
 use Rattle.serial_meaning.specs.declared.origin.Origin.{Origin}
 use Rattle.sched_meaning.specs.Core.{Core, IsRootAnswered, answered}
 use Rattle.sched_meaning.specs.Same.{same_origin}
-use Rattle.sched_meaning.specs.Simulation.{all_events, choices, goes_on, is_answered, is_choice, picked_of, stalled_places}
+use Rattle.sched_meaning.specs.Simulation.{all_events, choices, is_progress, is_answered, is_choice, picked_of, stalled_places}
 use Rattle.sched_meaning.specs.declared.event.CoreEvent.{CoreEvent}
 use Rattle.sched_meaning.specs.declared.event.CoreEvent.TheVariants.{Run, Pop, Steal, Look}
 use Rattle.sched_meaning.proofs.BegunOnce.Begun.{contains-at}
@@ -63,11 +63,11 @@ module _ (c : Core) (unanswered : IsRootAnswered c → ⊥) where
 
   pub choices-are : choices c ≡ ((runs c (numbers c) ++ pops c (numbers c)) ++ steals c (numbers c)) ++ looks c (numbers c)
   choices-are =
-      filter-same (is_choice c) (goes_on c) (λ e. ap (λ b. not b && goes_on c e) open-root) (all_events c)
-      ∙ filter-more (goes_on c) ((run_events ++ pop_events) ++ steal_events) look_events
-      ∙ ap (λ l. l ++ filter (goes_on c) look_events) (filter-more (goes_on c) (run_events ++ pop_events) steal_events ∙ ap (λ l. l ++ filter (goes_on c) steal_events) (filter-more (goes_on c) run_events pop_events))
-      ∙ ap (λ l. ((runs c (numbers c) ++ pops c (numbers c)) ++ l) ++ filter (goes_on c) look_events) (filter-flat (goes_on c) (λ thief. map (λ victim. Steal thief victim) (numbers c)) (numbers c))
-      ∙ ap (λ l. ((runs c (numbers c) ++ pops c (numbers c)) ++ steals c (numbers c)) ++ l) (filter-flat (goes_on c) (λ w. map (λ place. Look w place) (stalled_places (slice_get c.workers w))) (numbers c))
+      filter-same (is_choice c) (is_progress c) (λ e. ap (λ b. not b && is_progress c e) open-root) (all_events c)
+      ∙ filter-more (is_progress c) ((run_events ++ pop_events) ++ steal_events) look_events
+      ∙ ap (λ l. l ++ filter (is_progress c) look_events) (filter-more (is_progress c) (run_events ++ pop_events) steal_events ∙ ap (λ l. l ++ filter (is_progress c) steal_events) (filter-more (is_progress c) run_events pop_events))
+      ∙ ap (λ l. ((runs c (numbers c) ++ pops c (numbers c)) ++ l) ++ filter (is_progress c) look_events) (filter-flat (is_progress c) (λ thief. map (λ victim. Steal thief victim) (numbers c)) (numbers c))
+      ∙ ap (λ l. ((runs c (numbers c) ++ pops c (numbers c)) ++ steals c (numbers c)) ++ l) (filter-flat (is_progress c) (λ w. map (λ place. Look w place) (stalled_places (slice_get c.workers w))) (numbers c))
 
 -- none is picked of no choices, and else the one at the word's index
 pub picked-none : (es : List CoreEvent) (word : ℕ) → length es ≡ 0 → picked_of es word ≡ None

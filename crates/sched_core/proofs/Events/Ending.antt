@@ -21,7 +21,7 @@ use Rattle.sched_core.specs.Nodes.{hearing}
 use Rattle.sched_core.specs.Consistent.{AreJobs, AreWorkers, Awaits, Goes, IsGiven, IsHeard, IsJob, IsLinked, IsConsistent}
 use Rattle.sched_core.specs.Workers.{WorkerView}
 use Rattle.sched_core.specs.declared.job.Job.{Job}
-use Rattle.sched_core.specs.declared.node.Child.{Child}
+use Rattle.sched_core.specs.declared.node.NodeChild.{NodeChild}
 use Rattle.sched_core.specs.declared.node.Link.{Link}
 use Rattle.sched_core.specs.declared.node.SpawnNode.{SpawnNode}
 use Rattle.sched_core.specs.declared.state.CoreState.{CoreState}
@@ -49,14 +49,14 @@ jobs-map nodes after f v is = record { current = by_current v.current is.current
     by_current None h = tt
     by_current (Some i) h = f i h
 
-awaits-set : (begun : List Origin) (cs : List Child) (os : List Origin) (k : ℕ) (c : Child) (a : Option AnswerView) → slice_get cs k ≡ Some c → Awaits begun cs os → Awaits begun (slice_set cs k (record c { answer = a })) os
+awaits-set : (begun : List Origin) (cs : List NodeChild) (os : List Origin) (k : ℕ) (c : NodeChild) (a : Option AnswerView) → slice_get cs k ≡ Some c → Awaits begun cs os → Awaits begun (slice_set cs k (record c { answer = a })) os
 awaits-set begun [] os k c a h w = absurd (cc)
 awaits-set begun (x ∷ cs) [] k c a h w = absurd w
-awaits-set begun (x ∷ cs) (o ∷ os) zero c a h w = (ap (λ (y : Child). slice_get begun y.number) (sym (some-one x c h)) ∙ w.0, w.1)
+awaits-set begun (x ∷ cs) (o ∷ os) zero c a h w = (ap (λ (y : NodeChild). slice_get begun y.number) (sym (some-one x c h)) ∙ w.0, w.1)
 awaits-set begun (x ∷ cs) (o ∷ os) (suc k) c a h w = (w.0, awaits-set begun cs os k c a h w.1)
 
 -- a parent that heard of a child awaits the same origins
-job-hears : (nodes : List SpawnNode) (l : Link) (parent : SpawnNode) (child : Child) (a : AnswerView) → slice_get nodes l.parent ≡ Some parent → slice_get parent.children l.place ≡ Some child →
+job-hears : (nodes : List SpawnNode) (l : Link) (parent : SpawnNode) (child : NodeChild) (a : AnswerView) → slice_get nodes l.parent ≡ Some parent → slice_get parent.children l.place ≡ Some child →
     (i : Job) → IsJob nodes i → IsJob (slice_set nodes l.parent (hearing l.place child a parent)) i
 job-hears nodes l parent child a at_parent at i is = by_number (same-or i.number l.parent)
   where
@@ -157,7 +157,7 @@ module _ (s next : CoreState) (t : IsConsistent s) (none : s.root ≡ None) (w :
         main-is = some-one own.node.origin (main_origin (plan_of s)) (sym (get-map (λ (n : SpawnNode). n.origin) s.nodes.items j.number own.node own.there) ∙ ap (λ m. slice_get (origins_of s.nodes.items) m) zero-number ∙ first)
 
     -- another's answer
-    pub child-goes : (l : Link) → own.node.link ≡ Some l → (parent : SpawnNode) → slice_get s.nodes.items l.parent ≡ Some parent → (child : Child) → slice_get parent.children l.place ≡ Some child →
+    pub child-goes : (l : Link) → own.node.link ≡ Some l → (parent : SpawnNode) → slice_get s.nodes.items l.parent ≡ Some parent → (child : NodeChild) → slice_get parent.children l.place ≡ Some child →
         next.nodes.items ≡ slice_set s.nodes.items l.parent (hearing l.place child a parent) → next.root ≡ s.root → Goes (Run w) s next
     child-goes l linked parent at_parent child at nodes root =
         goes (Run w) s next t none (ap arc_value p.plan)

@@ -1,7 +1,7 @@
 -- A look by which a task goes on.
 use Rattle.std.specs.Arc.{arc_value}
 use Rattle.std.proofs.Common.{◌≡◌, ℕ, ◌+◌, ◌≤◌, true, false, [], Some, None, All, Contains, inl, slice_get, slice_set, remove, map, refl, sym, ap, ◌∙◌, subst, arith}
-use Rattle.strand_meaning.proofs.TakenAnswers.Onward.{none-handed}
+use Rattle.strand_meaning.proofs.TakenAnswers.AnswersKeepTasks.{none-handed}
 use Rattle.strand_machine.specs.Family.{tags}
 use Rattle.strand_machine.specs.Parts.{awaited}
 use Rattle.strand_machine.specs.Stops.{WentOn, answer_tags, view_on, went}

@@ -9,12 +9,12 @@ use Rattle.strand_machine.specs.declared.stop.Stop.TheVariants as stop
 use Rattle.sched_meaning.specs.declared.event.CoreEvent.TheVariants.{Run}
 use Rattle.sched_meaning.proofs.OneCore.OneStep.{some-one}
 use Rattle.sched_core.specs.Cores.{plan_of}
-use Rattle.sched_core.specs.Moves.{BeginsTask, CanHear, CanStop, HandsOut, Lets, PutsAnswer, Stalls, StallsTask, StopsAt, WorkerChanges, goes_to, job}
+use Rattle.sched_core.specs.Moves.{BeginsTask, CanHear, CanStop, HandsOutJob, Lets, PutsAnswer, Stalls, StallsTask, StopsAt, WorkerChanges, AnswerGoes, job}
 use Rattle.sched_core.specs.Nodes.{awaiting, missing, missing_one, new_node}
 use Rattle.sched_core.specs.Consistent.{Goes, IsAwaited, IsChild, IsHeard, IsJob, IsLinked, IsConsistent}
 use Rattle.sched_core.specs.Workers.{WorkerView}
 use Rattle.sched_core.specs.declared.job.Job.{Job}
-use Rattle.sched_core.specs.declared.node.Child.{Child}
+use Rattle.sched_core.specs.declared.node.NodeChild.{NodeChild}
 use Rattle.sched_core.specs.declared.node.Link.{Link}
 use Rattle.sched_core.specs.declared.node.SpawnNode.{SpawnNode}
 use Rattle.sched_core.specs.declared.state.CoreState.{CoreState}
@@ -26,7 +26,7 @@ use Rattle.sched_core.proofs.Events.Taking.{Both, Keeps, both}
 
 -- What a stop needs
 
-missing-few : (cs : List Child) → missing cs ≤ length cs
+missing-few : (cs : List NodeChild) → missing cs ≤ length cs
 missing-few [] = omega arith
 missing-few (c ∷ cs) = let l : missing cs ≤ length cs = missing-few cs in let m : missing_one c.answer ≤ 1 = one c.answer in omega arith
   where
@@ -34,9 +34,9 @@ missing-few (c ∷ cs) = let l : missing cs ≤ length cs = missing-few cs in le
     one None = omega arith
     one (Some a) = omega arith
 
-missing-at : (cs : List Child) (k : ℕ) (c : Child) → slice_get cs k ≡ Some c → missing_one c.answer ≤ missing cs
+missing-at : (cs : List NodeChild) (k : ℕ) (c : NodeChild) → slice_get cs k ≡ Some c → missing_one c.answer ≤ missing cs
 missing-at [] k c h = absurd (cc)
-missing-at (d ∷ cs) zero c h = let e : missing_one d.answer ≡ missing_one c.answer = ap (λ (x : Child). missing_one x.answer) (some-one d c h) in omega arith
+missing-at (d ∷ cs) zero c h = let e : missing_one d.answer ≡ missing_one c.answer = ap (λ (x : NodeChild). missing_one x.answer) (some-one d c h) in omega arith
 missing-at (d ∷ cs) (suc k) c h = let e : missing_one c.answer ≤ missing cs = missing-at cs k c h in omega arith
 
 module _ (s mid : CoreState) (t : IsConsistent s) (w : ℕ) (j : Job) (lets : WorkerChanges w (Lets j) s.workers.items mid.workers.items) (keeps : Keeps s mid) where
@@ -113,8 +113,8 @@ module _ (s mid : CoreState) (t : IsConsistent s) (w : ℕ) (j : Job) (lets : Wo
           runs = runs;
         })
       where
-        b : Both w (Lets j) (HandsOut (job child p.begun) (job rest j.number)) s.workers.items after.workers.items
-        b = both w (Lets j) (HandsOut (job child p.begun) (job rest j.number)) s.workers.items mid.workers.items after.workers.items lets p.workers
+        b : Both w (Lets j) (HandsOutJob (job child p.begun) (job rest j.number)) s.workers.items after.workers.items
+        b = both w (Lets j) (HandsOutJob (job child p.begun) (job rest j.number)) s.workers.items mid.workers.items after.workers.items lets p.workers
 
         after-is : b.after ≡ record b.worker { current = Some (job child p.begun); deque = b.worker.deque ++ job rest j.number ∷ [] }
         after-is = b.second ∙ ap (λ (v : WorkerView). record v { current = Some (job child p.begun); deque = v.deque ++ job rest j.number ∷ [] }) b.first.1
@@ -136,7 +136,7 @@ module _ (s mid : CoreState) (t : IsConsistent s) (w : ℕ) (j : Job) (lets : Wo
           runs = runs;
         }
 
-        by_link : (o : Option Link) → p.node.link ≡ o → goes_to o answer mid after → Goes (Run w) s next
+        by_link : (o : Option Link) → p.node.link ≡ o → AnswerGoes o answer mid after → Goes (Run w) s next
         by_link None e g =
             root-goes s next t none w lets.worker lets.there j lets.does.0 answer give stops state (ap (λ (n : SpawnNode). n.link) same ∙ e) (nodes ∙ g.1 ∙ keeps.nodes) (root ∙ g.0)
         by_link (Some l) e g =

@@ -13,12 +13,12 @@ use Rattle.sched_core.specs.Cores.{answer_of, core_of, origins_of, plan_of, work
 use Rattle.sched_core.specs.Moves.{job}
 use Rattle.sched_core.specs.Nodes.{new_node}
 use Rattle.sched_core.specs.Consistent.{AreJobs, AreNodes, AreWorkers, IsHeard, IsNode, IsConsistent}
-use Rattle.sched_core.specs.Workers.{only}
+use Rattle.sched_core.specs.Workers.{worker_with}
 use Rattle.sched_core.specs.declared.node.SpawnNode.{SpawnNode}
 use Rattle.sched_core.specs.declared.state.CoreState.{CoreState}
 use Rattle.sched_core.proofs.Events.Taking.{carry-nodes, carry-root, carry-workers}
 
-free-workers : (n : ℕ) → map worker_of (replicate n (only None)) ≡ replicate n free_worker
+free-workers : (n : ℕ) → map worker_of (replicate n (worker_with None)) ≡ replicate n free_worker
 free-workers zero = refl
 free-workers (suc n) = ap (λ l. free_worker ∷ l) (free-workers n)
 
@@ -38,15 +38,15 @@ module _ (plan : PlanView) where
       answers : map (answer_of (plan_of s)) s.given ≡ []
       answers = ap (map (answer_of (plan_of s))) b.given
 
-  free-jobs : (nodes : List SpawnNode) → AreJobs nodes (only None)
+  free-jobs : (nodes : List SpawnNode) → AreJobs nodes (worker_with None)
   free-jobs nodes = record { current = tt; deque = λ k x h. absurd (cc); stalled = λ k x h. absurd (cc) }
 
-  all-free : (nodes : List SpawnNode) (n : ℕ) → AreWorkers nodes (replicate n (only None))
+  all-free : (nodes : List SpawnNode) (n : ℕ) → AreWorkers nodes (replicate n (worker_with None))
   all-free nodes zero k x h = absurd (cc)
-  all-free nodes (suc n) zero x h = subst (AreJobs nodes) (some-one (only None) x h) (free-jobs nodes)
+  all-free nodes (suc n) zero x h = subst (AreJobs nodes) (some-one (worker_with None) x h) (free-jobs nodes)
   all-free nodes (suc n) (suc k) x h = all-free nodes n k x h
 
-  first-jobs : AreJobs (new_node (main_origin plan) None ∷ []) (only (Some (job (fresh plan (main_origin plan)) 0)))
+  first-jobs : AreJobs (new_node (main_origin plan) None ∷ []) (worker_with (Some (job (fresh plan (main_origin plan)) 0)))
   first-jobs = record {
     current = record { node = new_node (main_origin plan) None; there = refl; origin = refl; awaits = tt; uncut = refl };
     deque = λ k x h. absurd (cc);
@@ -54,7 +54,7 @@ module _ (plan : PlanView) where
   }
 
   workers-consistent : (n : ℕ) → AreWorkers (new_node (main_origin plan) None ∷ []) (hired (fresh plan (main_origin plan)) n)
-  workers-consistent n zero x h = subst (AreJobs (new_node (main_origin plan) None ∷ [])) (some-one (only (Some (job (fresh plan (main_origin plan)) 0))) x h) first-jobs
+  workers-consistent n zero x h = subst (AreJobs (new_node (main_origin plan) None ∷ [])) (some-one (worker_with (Some (job (fresh plan (main_origin plan)) 0))) x h) first-jobs
   workers-consistent n (suc k) x h = all-free (new_node (main_origin plan) None ∷ []) (n - 1) k x h
 
   nodes-consistent : AreNodes plan [] (new_node (main_origin plan) None ∷ [])
@@ -79,13 +79,13 @@ replicate-end zero x = refl
 replicate-end (suc k) x = ap (λ l. x ∷ l) (replicate-end k x)
 
 -- one free worker more
-pub hired-more : (main : TaskView) (n : ℕ) → 1 ≤ n → hired main n ++ only None ∷ [] ≡ hired main (n + 1)
+pub hired-more : (main : TaskView) (n : ℕ) → 1 ≤ n → hired main n ++ worker_with None ∷ [] ≡ hired main (n + 1)
 hired-more main zero h = absurd (omega arith)
 hired-more main (suc k) h =
     let e : suc k - 1 ≡ k = omega arith in
     let f : suc k + 1 - 1 ≡ suc k = omega arith in
-    ap (λ m. only (Some (job main 0)) ∷ (replicate m (only None) ++ only None ∷ [])) e ∙ ap (λ l. only (Some (job main 0)) ∷ l) (replicate-end k (only None))
-    ∙ ap (λ m. only (Some (job main 0)) ∷ replicate m (only None)) (sym f)
+    ap (λ m. worker_with (Some (job main 0)) ∷ (replicate m (worker_with None) ++ worker_with None ∷ [])) e ∙ ap (λ l. worker_with (Some (job main 0)) ∷ l) (replicate-end k (worker_with None))
+    ∙ ap (λ m. worker_with (Some (job main 0)) ∷ replicate m (worker_with None)) (sym f)
 
 pub hired-many : (main : TaskView) (n : ℕ) → 1 ≤ n → length (hired main n) ≡ n
-hired-many main n h = let e : length (replicate (n - 1) (only None)) ≡ n - 1 = length-replicate (n - 1) (only None) in omega arith
+hired-many main n h = let e : length (replicate (n - 1) (worker_with None)) ≡ n - 1 = length-replicate (n - 1) (worker_with None) in omega arith

@@ -8,7 +8,7 @@ use Rattle.sched_meaning.proofs.OneCore.OneStep.{some-one}
 use Rattle.sched_core.specs.Cores.{origins_of}
 use Rattle.sched_core.specs.Nodes.{hearing, missing, missing_one}
 use Rattle.sched_core.specs.Consistent.{AreNodes, IsAwaited, IsChild, IsGiven, IsHeard, IsLinked, IsNode}
-use Rattle.sched_core.specs.declared.node.Child.{Child}
+use Rattle.sched_core.specs.declared.node.NodeChild.{NodeChild}
 use Rattle.sched_core.specs.declared.node.Link.{Link}
 use Rattle.sched_core.specs.declared.node.SpawnNode.{SpawnNode}
 use Rattle.sched_core.proofs.Worked.Lists.{get-other, get-set, map-set-same, same-or, set-or}
@@ -22,9 +22,9 @@ heard-more plan given o p None two h = λ c. refuse (Contains-push_cases given p
     refuse (inr e) = two e
 heard-more plan given o p (Some a) two h = record { plan_is = h.plan_is; origin = h.origin; known = h.known; there = Contains-append_left given (p ∷ []) o h.there }
 
-missing-set : (cs : List Child) (k : ℕ) (c d : Child) → slice_get cs k ≡ Some c → missing_one c.answer ≡ 1 → missing_one d.answer ≡ 0 → missing (slice_set cs k d) + 1 ≡ missing cs
+missing-set : (cs : List NodeChild) (k : ℕ) (c d : NodeChild) → slice_get cs k ≡ Some c → missing_one c.answer ≡ 1 → missing_one d.answer ≡ 0 → missing (slice_set cs k d) + 1 ≡ missing cs
 missing-set [] k c d h a b = absurd (cc)
-missing-set (x ∷ cs) zero c d h a b = let e : missing_one x.answer ≡ missing_one c.answer = ap (λ (y : Child). missing_one y.answer) (some-one x c h) in omega arith
+missing-set (x ∷ cs) zero c d h a b = let e : missing_one x.answer ≡ missing_one c.answer = ap (λ (y : NodeChild). missing_one y.answer) (some-one x c h) in omega arith
 missing-set (x ∷ cs) (suc k) c d h a b = let e : missing (slice_set cs k d) + 1 ≡ missing cs = missing-set cs k c d h a b in omega arith
 
 -- The origin of number n is answered. Its node knows of a parent, or it is main's.
@@ -34,14 +34,14 @@ module _ (plan : PlanView) (given : List Origin) (nodes : List SpawnNode) (all :
     more = given ++ node.origin ∷ []
 
     -- a child of another number has its answer as before
-    other-heard : (c : Child) (x : SpawnNode) → slice_get nodes c.number ≡ Some x → (c.number ≡ n → ⊥) → IsHeard plan given x.origin c.answer → IsHeard plan more x.origin c.answer
+    other-heard : (c : NodeChild) (x : SpawnNode) → slice_get nodes c.number ≡ Some x → (c.number ≡ n → ⊥) → IsHeard plan given x.origin c.answer → IsHeard plan more x.origin c.answer
     other-heard c x at two h = heard-more plan given x.origin node.origin c.answer (λ e. two (sym (once n c.number node x there at e))) h
 
     module _ (l : Link) (linked : node.link ≡ Some l) (a : AnswerView) (is : IsGiven plan (given ++ node.origin ∷ []) node.origin a) where
       awaited : IsAwaited nodes n l
       awaited = subst (IsLinked nodes n) linked ((all n node there).link fresh)
 
-      module _ (parent : SpawnNode) (at_parent : slice_get nodes l.parent ≡ Some parent) (child : Child) (at : slice_get parent.children l.place ≡ Some child) where
+      module _ (parent : SpawnNode) (at_parent : slice_get nodes l.parent ≡ Some parent) (child : NodeChild) (at : slice_get parent.children l.place ≡ Some child) where
         abbrev pub after : List SpawnNode
         after = slice_set nodes l.parent (hearing l.place child a parent)
 
@@ -52,7 +52,7 @@ module _ (plan : PlanView) (given : List Origin) (nodes : List SpawnNode) (all :
         child-same = some-one awaited.child child (sym awaited.at ∙ ap (λ (p : SpawnNode). slice_get p.children l.place) parent-same ∙ at)
 
         number : child.number ≡ n
-        number = ap (λ (c : Child). c.number) (sym child-same) ∙ awaited.number
+        number = ap (λ (c : NodeChild). c.number) (sym child-same) ∙ awaited.number
 
         pub origins-after : origins_of after ≡ origins_of nodes
         origins-after = map-set-same (λ (x : SpawnNode). x.origin) nodes l.parent parent (hearing l.place child a parent) at_parent refl
@@ -71,19 +71,19 @@ module _ (plan : PlanView) (given : List Origin) (nodes : List SpawnNode) (all :
                 )
             by_number (inr two) = (x, get-other nodes l.parent k (hearing l.place child a parent) two ∙ h, refl, refl)
 
-        child-after : (k place : ℕ) (c : Child) → (ch : IsChild plan given nodes k place c) → IsHeard plan more ch.node.origin c.answer → IsChild plan more after k place c
+        child-after : (k place : ℕ) (c : NodeChild) → (ch : IsChild plan given nodes k place c) → IsHeard plan more ch.node.origin c.answer → IsChild plan more after k place c
         child-after k place c ch heard =
             let y = node-after c.number ch.node ch.there in
             record { node = y.0; there = y.1; link = y.3 ∙ ch.link; heard = subst (λ p. IsHeard plan more p c.answer) (sym y.2) heard }
 
         -- a child at another place has another number
-        elsewhere : (k place : ℕ) (c : Child) → IsChild plan given nodes k place c → ((k ≡ l.parent) × (place ≡ l.place) → ⊥) → c.number ≡ n → ⊥
+        elsewhere : (k place : ℕ) (c : NodeChild) → IsChild plan given nodes k place c → ((k ≡ l.parent) × (place ≡ l.place) → ⊥) → c.number ≡ n → ⊥
         elsewhere k place c ch two e =
             let same : ch.node ≡ node = some-one ch.node node (sym ch.there ∙ ap (λ m. slice_get nodes m) e ∙ there) in
             let links : record { parent = k; place = place } ≡ l = some-one _ l (sym ch.link ∙ ap (λ (x : SpawnNode). x.link) same ∙ linked) in
             two (ap (λ (x : Link). x.parent) links, ap (λ (x : Link). x.place) links)
 
-        old-child : (k place : ℕ) (c : Child) → IsChild plan given nodes k place c → ((k ≡ l.parent) × (place ≡ l.place) → ⊥) → IsChild plan more after k place c
+        old-child : (k place : ℕ) (c : NodeChild) → IsChild plan given nodes k place c → ((k ≡ l.parent) × (place ≡ l.place) → ⊥) → IsChild plan more after k place c
         old-child k place c ch two = child-after k place c ch (other-heard c ch.node ch.there (elsewhere k place c ch two) ch.heard)
 
         awaited-after : (k : ℕ) (m : Link) → IsAwaited nodes k m → IsAwaited after k m
@@ -101,7 +101,7 @@ module _ (plan : PlanView) (given : List Origin) (nodes : List SpawnNode) (all :
               child = record child { answer = Some a };
               there = at-after e;
               at = ap (λ j. slice_get (slice_set parent.children l.place (record child { answer = Some a })) j) f ∙ get-set parent.children l.place child (record child { answer = Some a }) at;
-              number = ap (λ (c : Child). c.number) (some-one child w.child (sym at ∙ ap (λ j. slice_get parent.children j) (sym f) ∙ children-at e)) ∙ w.number;
+              number = ap (λ (c : NodeChild). c.number) (some-one child w.child (sym at ∙ ap (λ j. slice_get parent.children j) (sym f) ∙ children-at e)) ∙ w.number;
             }
             by_place e (inr two) = record {
               parent = hearing l.place child a parent;
@@ -158,7 +158,7 @@ module _ (plan : PlanView) (given : List Origin) (nodes : List SpawnNode) (all :
                 let e : missing (slice_set parent.children l.place (record child { answer = Some a })) + 1 ≡ missing parent.children = missing-set parent.children l.place child (record child { answer = Some a }) at none refl in
                 let u : parent.unanswered ≡ missing parent.children = old.unanswered in omega arith
 
-            children : (place : ℕ) (c : Child) → slice_get (slice_set parent.children l.place (record child { answer = Some a })) place ≡ Some c → IsChild plan more after l.parent place c
+            children : (place : ℕ) (c : NodeChild) → slice_get (slice_set parent.children l.place (record child { answer = Some a })) place ≡ Some c → IsChild plan more after l.parent place c
             children place c h = by_place (set-or parent.children l.place child (record child { answer = Some a }) place c at h)
               where
                 new : IsChild plan more after l.parent l.place (record child { answer = Some a })
@@ -179,7 +179,7 @@ module _ (plan : PlanView) (given : List Origin) (nodes : List SpawnNode) (all :
 
     -- main's answer is heard by nobody
     module _ (linked : node.link ≡ None) where
-      not-main : (k place : ℕ) (c : Child) → IsChild plan given nodes k place c → c.number ≡ n → ⊥
+      not-main : (k place : ℕ) (c : NodeChild) → IsChild plan given nodes k place c → c.number ≡ n → ⊥
       not-main k place c ch e =
           let same : ch.node ≡ node = some-one ch.node node (sym ch.there ∙ ap (λ m. slice_get nodes m) e ∙ there) in
           let links : Some (record { parent = k; place = place }) ≡ None = sym ch.link ∙ ap (λ (x : SpawnNode). x.link) same ∙ linked in absurd (cc)

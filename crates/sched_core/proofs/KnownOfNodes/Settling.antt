@@ -9,14 +9,14 @@ use Rattle.sched_core.specs.Cores.{origins_of, task_in}
 use Rattle.sched_core.specs.Nodes.{missing, missing_one, settled}
 use Rattle.sched_core.specs.Consistent.{AreNodes, Awaits, IsAwaited, IsChild, IsHeard, IsJob, IsLinked, IsNode}
 use Rattle.sched_core.specs.declared.job.Job.{Job}
-use Rattle.sched_core.specs.declared.node.Child.{Child}
+use Rattle.sched_core.specs.declared.node.NodeChild.{NodeChild}
 use Rattle.sched_core.specs.declared.node.Link.{Link}
 use Rattle.sched_core.specs.declared.node.SpawnNode.{SpawnNode}
 use Rattle.sched_core.proofs.Worked.Lists.{get-other, get-set, map-set-same, same-or, set-or}
 
-none-missing : (cs : List Child) (k : ℕ) (c : Child) → missing cs ≡ 0 → slice_get cs k ≡ Some c → missing_one c.answer ≡ 0
+none-missing : (cs : List NodeChild) (k : ℕ) (c : NodeChild) → missing cs ≡ 0 → slice_get cs k ≡ Some c → missing_one c.answer ≡ 0
 none-missing [] k c e h = absurd (cc)
-none-missing (x ∷ cs) zero c e h = let same : missing_one x.answer ≡ missing_one c.answer = ap (λ (y : Child). missing_one y.answer) (some-one x c h) in omega arith
+none-missing (x ∷ cs) zero c e h = let same : missing_one x.answer ≡ missing_one c.answer = ap (λ (y : NodeChild). missing_one y.answer) (some-one x c h) in omega arith
 none-missing (x ∷ cs) (suc k) c e h = none-missing cs k c (omega arith) h
 
 module _ (plan : PlanView) (given : List Origin) (nodes : List SpawnNode) (all : AreNodes plan given nodes) (n : ℕ) (node : SpawnNode) (there : slice_get nodes n ≡ Some node) (whole : missing node.children ≡ 0) where
@@ -63,7 +63,7 @@ module _ (plan : PlanView) (given : List Origin) (nodes : List SpawnNode) (all :
   link-stays k x h open_yet None w = w
   link-stays k x h open_yet (Some l) w = awaited-stays k x l h open_yet w
 
-  child-stays : (k place : ℕ) (c : Child) → IsChild plan given nodes k place c → IsChild plan given after k place c
+  child-stays : (k place : ℕ) (c : NodeChild) → IsChild plan given nodes k place c → IsChild plan given after k place c
   child-stays k place c ch =
       let y = node-after c.number ch.node ch.there in
       record { node = y.0; there = y.1; link = y.3 ∙ ch.link; heard = subst (λ p. IsHeard plan given p c.answer) (sym y.2) ch.heard }

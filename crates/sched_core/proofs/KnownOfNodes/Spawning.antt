@@ -8,24 +8,24 @@ use Rattle.sched_core.specs.Cores.{origins_of, task_in}
 use Rattle.sched_core.specs.Nodes.{awaiting, missing, missing_one, new_node}
 use Rattle.sched_core.specs.Consistent.{AreNodes, Awaits, IsAwaited, IsChild, IsHeard, IsJob, IsLinked, IsNode}
 use Rattle.sched_core.specs.declared.job.Job.{Job}
-use Rattle.sched_core.specs.declared.node.Child.{Child}
+use Rattle.sched_core.specs.declared.node.NodeChild.{NodeChild}
 use Rattle.sched_core.specs.declared.node.Link.{Link}
 use Rattle.sched_core.specs.declared.node.SpawnNode.{SpawnNode}
 use Rattle.sched_core.proofs.Worked.Lists.{end-or, get-end, get-front, get-other, get-set, length-set, map-append-one, map-set-same, same-or, set-or}
 
-pub awaits-grow : (begun more : List Origin) (cs : List Child) (os : List Origin) → Awaits begun cs os → Awaits (begun ++ more) cs os
+pub awaits-grow : (begun more : List Origin) (cs : List NodeChild) (os : List Origin) → Awaits begun cs os → Awaits (begun ++ more) cs os
 awaits-grow begun more [] [] a = tt
 awaits-grow begun more [] (o ∷ os) a = absurd a
 awaits-grow begun more (c ∷ cs) [] a = absurd a
 awaits-grow begun more (c ∷ cs) (o ∷ os) a = (get-front begun more c.number o a.0, awaits-grow begun more cs os a.1)
 
-pub awaits-end : (begun : List Origin) (cs : List Child) (os : List Origin) (c : Child) (o : Origin) → Awaits begun cs os → slice_get begun c.number ≡ Some o → Awaits begun (cs ++ c ∷ []) (os ++ o ∷ [])
+pub awaits-end : (begun : List Origin) (cs : List NodeChild) (os : List Origin) (c : NodeChild) (o : Origin) → Awaits begun cs os → slice_get begun c.number ≡ Some o → Awaits begun (cs ++ c ∷ []) (os ++ o ∷ [])
 awaits-end begun [] [] c o a e = (e, tt)
 awaits-end begun [] (p ∷ os) c o a e = absurd a
 awaits-end begun (d ∷ cs) [] c o a e = absurd a
 awaits-end begun (d ∷ cs) (p ∷ os) c o a e = (a.0, awaits-end begun cs os c o a.1 e)
 
-missing-end : (cs : List Child) (c : Child) → missing (cs ++ c ∷ []) ≡ missing cs + missing_one c.answer
+missing-end : (cs : List NodeChild) (c : NodeChild) → missing (cs ++ c ∷ []) ≡ missing cs + missing_one c.answer
 missing-end [] c = omega arith
 missing-end (d ∷ cs) c = let e : missing (cs ++ c ∷ []) ≡ missing cs + missing_one c.answer = missing-end cs c in omega arith
 
@@ -41,7 +41,7 @@ pub record Stays (nodes : List SpawnNode) (k : ℕ) (x : SpawnNode) : Type 0 whe
   pub link : node.link ≡ x.link
 
 module _ (plan : PlanView) (given : List Origin) (nodes : List SpawnNode) (all : AreNodes plan given nodes) (n : ℕ) (node : SpawnNode) (there : slice_get nodes n ≡ Some node) (o : Origin) where
-  abbrev pub child : Child
+  abbrev pub child : NodeChild
   child = record { number = length nodes; answer = None }
 
   abbrev pub link : Link
@@ -80,7 +80,7 @@ module _ (plan : PlanView) (given : List Origin) (nodes : List SpawnNode) (all :
           }
       by_number (inr two) = record { node = x; there = at-other k x two h; origin = refl; link = refl }
 
-  child-stays : (k place : ℕ) (c : Child) → IsChild plan given nodes k place c → IsChild plan given after k place c
+  child-stays : (k place : ℕ) (c : NodeChild) → IsChild plan given nodes k place c → IsChild plan given after k place c
   child-stays k place c is =
       let y : Stays after c.number is.node = stays c.number is.node is.there in
       record { node = y.node; there = y.there; link = y.link ∙ is.link; heard = subst (λ p. IsHeard plan given p c.answer) (sym y.origin) is.heard }
@@ -105,7 +105,7 @@ module _ (plan : PlanView) (given : List Origin) (nodes : List SpawnNode) (all :
   link-stays k (Some l) is = awaited-stays k l is
 
   module _ (fresh : Contains given o → ⊥) where
-    more-children : (place : ℕ) (c : Child) → slice_get (node.children ++ child ∷ []) place ≡ Some c → IsChild plan given after n place c
+    more-children : (place : ℕ) (c : NodeChild) → slice_get (node.children ++ child ∷ []) place ≡ Some c → IsChild plan given after n place c
     more-children place c h = by_place (end-or node.children child place c h)
       where
         new-child : IsChild plan given after n (length node.children) child

@@ -12,10 +12,10 @@ use Rattle.script_grammar.specs.declared.tree.Act.{Act, out-Act}
 use Rattle.script_grammar.specs.declared.tree.Act.TheOpen as act
 use Rattle.script_grammar.specs.declared.tree.Act.TheOpen.{Act-F}
 use Rattle.serial_meaning.specs.Runs.{Run, done, goes_on, ◌then◌}
-use Rattle.serial_meaning.specs.Values.{value_of, values_of, slot_of, items_of, number, is_true, at_index}
+use Rattle.serial_meaning.specs.Values.{value_of, values_of, slot_of, items_of, as_integer, is_true, at_index}
 use Rattle.serial_meaning.specs.Functions.{number_of, function_at}
 use Rattle.serial_meaning.specs.Plan.{PlanView, functions_of}
-use Rattle.serial_meaning.specs.Exec.{State, Manner, strand, given, paid_from, tested, has_room, fits_depth, spawn, join_at, implied, frame, called, right_side, found, looped, does, count_of}
+use Rattle.serial_meaning.specs.Exec.{State, Manner, strand, unless_fault, paid_from, tested, has_room, fits_depth, spawn, join_at, implied, frame, called, right_side, found, looped, does, count_of}
 use Rattle.serial_meaning.specs.Eval.{path_of}
 use Rattle.serial_meaning.specs.Open.{is_empty_loop}
 use Rattle.serial_meaning.specs.declared.value.Value.{Value}
@@ -25,9 +25,10 @@ use Rattle.serial_meaning.specs.declared.event.Fault.{Fault}
 use Rattle.serial_meaning.specs.declared.event.Event.TheVariants as event
 use Rattle.serial_meaning.specs.declared.origin.Origin.{Origin}
 use Rattle.serial_meaning.specs.declared.origin.Origin.TheVariants as origin
-use Rattle.strand_meaning.specs.Machine.{Destination, Spawned, Looped, Effect, Opens, Closes, Emitted, Handed, Syncs, Loops, Exit, Faulted, Inside, loop_effects, sync_effects, handing, inside, destination_of, Level, Frame, Machine, Reached, Stands, Gives, inside_of, present, here_of, state_of, with_left, with_leaving, with_returning, back, spawns_in, entered, reached, gives, act_run, return_run, value_run, statement_move, return_move, level_move, end_move, move_at, move}
+use Rattle.script_check.specs.Spawns.{spawns_in}
+use Rattle.strand_meaning.specs.Machine.{Destination, Spawned, Looped, Effect, Opens, Closes, Emitted, Handed, Syncs, Loops, Exit, Faulted, Inside, loop_effects, sync_effects, handing, inside, destination_of, Level, Frame, Machine, Reached, Stands, Gives, inside_of, present, here_of, state_of, with_left, with_leaving, with_returning, back, machine_inside, reached, gives, act_run, return_run, value_run, statement_move, return_move, level_move, end_move, move_at, move}
 use Rattle.strand_meaning.specs.Task.{child_in}
-use Rattle.strand_meaning.proofs.SoundSteps.Own.{present-below}
+use Rattle.strand_meaning.proofs.SoundSteps.ChildrenFollowEvents.{present-below}
 
 -- Paths
 
@@ -169,7 +170,7 @@ module _ (plan : PlanView) (path : List ℕ) (k : ℕ) (In : ℕ → Type 0) (st
   abbrev of-value : Value × State Bool → ℕ
   of-value p = p.1.rank
 
-  rises-given : {A B : Type 0} (rank : B → ℕ) (place : Destination) (o : Result A FaultKind) (s : State Bool) (f : A → Run Effect Exit B) → ((a : A) → Rises rank (f a)) → Rises rank (given (what place) plan path o s f)
+  rises-given : {A B : Type 0} (rank : B → ℕ) (place : Destination) (o : Result A FaultKind) (s : State Bool) (f : A → Run Effect Exit B) → ((a : A) → Rises rank (f a)) → Rises rank (unless_fault (what place) plan path o s f)
   rises-given rank place (Ok a) s f h = h a
   rises-given rank place (Err kind) s f h = tt
 
@@ -284,7 +285,7 @@ module _ (plan : PlanView) (path : List ℕ) (k : ℕ) where
   rises-does height st (act.Set x r) s e =
       let place = Spawned height (Some x) in rises-then plan path k Same refl value_rank state_rank (right_side (handing plan place) plan path inside height r s) _ (λ p. refl) (rises-right plan path k Same refl place height r s e)
   rises-does height st (act.Store x i v) s e =
-      rises-given plan path k Same refl state_rank place (value_of i s.env) s _ (λ n. by_item (at_index (items_of (slot_of s.env x.bytes)) (number n)) _ (rises-given plan path k Same refl state_rank place (value_of v s.env) s _ (λ w. same)))
+      rises-given plan path k Same refl state_rank place (value_of i s.env) s _ (λ n. by_item (at_index (items_of (slot_of s.env x.bytes)) (as_integer n)) _ (rises-given plan path k Same refl state_rank place (value_of v s.env) s _ (λ w. same)))
     where
       place : Destination
       place = Spawned height None
@@ -313,7 +314,7 @@ module _ (plan : PlanView) (path : List ℕ) (k : ℕ) where
   rises-does height st (act.Pfor x lo hi target c) s e =
       rises-given plan path k Same refl state_rank (Looped target) (value_of lo s.env) s _ (λ l. rises-given plan path k Same refl state_rank (Looped target) (value_of hi s.env) s _
       (λ h. rises-given plan path k Same refl state_rank (Looped target) (values_of c.args s.env) s _
-      (λ vs. rises-loop plan path k Same refl target c (number l) (count_of (number h -ℤ number l)) vs s e)))
+      (λ vs. rises-loop plan path k Same refl target c (as_integer l) (count_of (as_integer h -ℤ as_integer l)) vs s e)))
   rises-does height st (act.Scope a) s e =
       rises-tested plan path k (Enters k (act.Scope a)) tt state_rank (Spawned height None) (nat_lt (length path + 1) plan.limits.depth) Depth s _ (refl, tt)
 
@@ -346,14 +347,14 @@ module _ (plan : PlanView) (path : List ℕ) (m : Machine) where
   opens-on k q (inr (inl (inr x))) = inr (inl x)
   opens-on k q (inr (inr x)) = inr (inr x)
 
-  right-on : (st : Stmt) (r : Right) (left sts : List Stmt) (x : Name) (s : State Bool) → s.rank ≡ m.rank → Keeps (entered plan st (act.Let x r) left m sts s) × Keeps (entered plan st (act.Set x r) left m sts s)
+  right-on : (st : Stmt) (r : Right) (left sts : List Stmt) (x : Name) (s : State Bool) → s.rank ≡ m.rank → Keeps (machine_inside plan st (act.Let x r) left m sts s) × Keeps (machine_inside plan st (act.Set x r) left m sts s)
   right-on st (right.Value v) left sts x s e = (stays-at s.rank e, stays-at s.rank e)
   right-on st (right.Draw at) left sts x s e = (stays-at s.rank e, stays-at s.rank e)
   right-on st (right.New at) left sts x s e = (stays-at s.rank e, stays-at s.rank e)
   right-on st (right.Call at c) left sts x s e = (calls-on s.rank e, calls-on s.rank e)
   right-on st (right.Spawn at c) left sts x s e = (stays-at s.rank e, stays-at s.rank e)
 
-  entered-on : (st : Stmt) (a : Act-F Act Stmt) (left sts : List Stmt) (s : State Bool) → Enters m.rank a s.rank → Keeps (entered plan st a left m sts s)
+  entered-on : (st : Stmt) (a : Act-F Act Stmt) (left sts : List Stmt) (s : State Bool) → Enters m.rank a s.rank → Keeps (machine_inside plan st a left m sts s)
   entered-on st (act.Let x r) left sts s e = (right-on st r left sts x s e).0
   entered-on st (act.Array x n) left sts s e = stays-at s.rank e
   entered-on st (act.Set x r) left sts s e = (right-on st r left sts x s e).1
@@ -386,7 +387,7 @@ module _ (plan : PlanView) (path : List ℕ) (m : Machine) where
   statement-on st left =
       let a = out-Act (out-Stmt st).act in
       let r = act_run plan path m st a in
-      reached-on (Enters m.rank a) (enters-here m.rank a) (with_left m left) (entered plan st a left m) rises-on (λ sts s e. entered-on st a left sts s e) r.items r.ending
+      reached-on (Enters m.rank a) (enters-here m.rank a) (with_left m left) (machine_inside plan st a left m) rises-on (λ sts s e. entered-on st a left sts s e) r.items r.ending
       (rises-paid plan (here_of path m) m.rank (Enters m.rank a) (enters-here m.rank a) (λ s. s.rank) (destination_of (length m.below) a) m.steps (state_of m) refl _
       (λ s e. rises-does plan (here_of path m) m.rank (length m.below) st a s e))
 
@@ -421,7 +422,7 @@ module _ (plan : PlanView) (path : List ℕ) (m : Machine) where
   return-on flat true = by_function (function_at (functions_of plan) m.top.function)
     where
       by_value : (f : Function) (o : Result Value FaultKind) →
-          let r : Run Effect Exit (Value × State Bool) = given (handing plan (Spawned (length m.below) None)) plan (here_of path m) o (state_of m) (λ v. done (v, state_of m)) in MovesOn path m r.items (gives plan m r.ending)
+          let r : Run Effect Exit (Value × State Bool) = unless_fault (handing plan (Spawned (length m.below) None)) plan (here_of path m) o (state_of m) (λ v. done (v, state_of m)) in MovesOn path m r.items (gives plan m r.ending)
       by_value f (Ok v) = back-on flat m.below refl m.top.target v m.steps
       by_value f (Err kind) = tt
 

@@ -13,7 +13,7 @@ use Rattle.serial_meaning.specs.declared.origin.Origin.TheVariants.{Instance, Lo
 use Rattle.serial_meaning.specs.declared.answer.Outcome.{Outcome}
 use Rattle.strand_meaning.specs.Machine.{Destination, Spawned, Looped, Half, Level, Frame, Effect, Opens, Closes, Emitted, Handed, Syncs, Loops, Machine, Reached, Stands, Gives, inside_of, present, here_of, begun, move}
 use Rattle.strand_meaning.specs.Trace.{AwaitedChild, add_child}
-use Rattle.strand_meaning.specs.Task.{InstanceState, Running, AtSync, AtLoop, Ended, Work, Splits, Runs, Over, Task, start, begun_stage, own_instance, begins_last, MoveOrStop, Passes, Stops, Stop, Spawn, Wait, End, IsNext, Now, Later, stage_after, child_in, stops_at, passing, moved, waits, ends_unless, faults_after, gave, stage_step, first_half, split_step, over_step, work_step, step, changed, changed_at, answered, takes, joins, resumed, takes_all, resumed_work}
+use Rattle.strand_meaning.specs.Task.{InstanceState, Running, AtSync, AtLoop, Ended, Work, Splits, Runs, Over, Task, start, begun_stage, own_instance, begins_last, MoveOrStop, Passes, Stops, Stop, Spawn, Wait, End, IsNext, Now, Later, stage_after, child_in, stops_at, passing, moved, waits, ends_unless, faults_after, gave, stage_step, first_half, split_step, over_step, work_step, step, changed, changed_at, frame_with_answer, takes, joins, resumed, takes_all, resumed_work}
 use Rattle.strand_meaning.specs.Rest.{evaluations}
 use Rattle.strand_meaning.specs.Sound.{IsEndOf, IsSoundWork, IsTask}
 use Rattle.strand_meaning.specs.Laws.{IsSoundStep}
@@ -316,15 +316,15 @@ module _ (change : Frame → Frame) (keeps : (a : Frame) → (change a).levels �
         by_test false (inr (inl y)) = inr (inl (subst (λ p. AfterLevels p m.top.levels q) (changed-present height m.below) y))
         by_test false (inr (inr y)) = inr (inr (changed-scopes height m.below y))
 
-same-levels : (target : Option Name) (ended : Result (List Value) Fault) (a : Frame) → (answered target ended a).levels ≡ a.levels
+same-levels : (target : Option Name) (ended : Result (List Value) Fault) (a : Frame) → (frame_with_answer target ended a).levels ≡ a.levels
 same-levels target (Ok vs) a = refl
 same-levels target (Err f) a = refl
 
 module _ (w : List ℕ) (q : Origin) where
   takes-region : (place : Destination) (ended : Result (List Value) Fault) (stage : InstanceState) → StageRegion w (takes place ended stage) q → StageRegion w stage q
-  takes-region (Spawned height target) ended (Running m) h = changed-onward (answered target ended) (same-levels target ended) w q height m h
-  takes-region (Spawned height target) ended (AtSync m) h = changed-onward (answered target ended) (same-levels target ended) w q height m h
-  takes-region (Spawned height target) ended (AtLoop m) h = changed-onward (answered target ended) (same-levels target ended) w q height m h
+  takes-region (Spawned height target) ended (Running m) h = changed-onward (frame_with_answer target ended) (same-levels target ended) w q height m h
+  takes-region (Spawned height target) ended (AtSync m) h = changed-onward (frame_with_answer target ended) (same-levels target ended) w q height m h
+  takes-region (Spawned height target) ended (AtLoop m) h = changed-onward (frame_with_answer target ended) (same-levels target ended) w q height m h
   takes-region (Spawned height target) ended (Ended e) h = absurd h
   takes-region (Looped target) (Ok vs) (Running m) h = h
   takes-region (Looped target) (Ok vs) (AtSync m) h = h

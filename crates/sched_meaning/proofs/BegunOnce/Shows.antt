@@ -12,10 +12,10 @@ use Rattle.script_grammar.specs.declared.tree.Act.{Act, out-Act}
 use Rattle.script_grammar.specs.declared.tree.Act.TheOpen as act
 use Rattle.script_grammar.specs.declared.tree.Act.TheOpen.{Act-F}
 use Rattle.serial_meaning.specs.Runs.{Run, done, goes_on, ◌then◌}
-use Rattle.serial_meaning.specs.Values.{value_of, values_of, slot_of, items_of, number, is_true, at_index}
+use Rattle.serial_meaning.specs.Values.{value_of, values_of, slot_of, items_of, as_integer, is_true, at_index}
 use Rattle.serial_meaning.specs.Functions.{number_of, function_at}
 use Rattle.serial_meaning.specs.Plan.{PlanView, functions_of}
-use Rattle.serial_meaning.specs.Exec.{State, Manner, strand, given, paid_from, tested, has_room, fits_depth, spawn, join, implied, frame, called, right_side, found, looped, does, count_of}
+use Rattle.serial_meaning.specs.Exec.{State, Manner, strand, unless_fault, paid_from, tested, has_room, fits_depth, spawn, join, implied, frame, called, right_side, found, looped, does, count_of}
 use Rattle.serial_meaning.specs.Eval.{path_of}
 use Rattle.serial_meaning.specs.Open.{is_zero}
 use Rattle.serial_meaning.specs.declared.value.Value.{Value}
@@ -25,8 +25,9 @@ use Rattle.serial_meaning.specs.declared.event.Fault.{Fault}
 use Rattle.serial_meaning.specs.declared.event.Event.TheVariants as event
 use Rattle.serial_meaning.specs.declared.origin.Origin.{Origin}
 use Rattle.serial_meaning.specs.declared.origin.Origin.TheVariants as origin
-use Rattle.strand_meaning.specs.Machine.{Destination, Spawned, Looped, Effect, Opens, Closes, Emitted, Handed, Syncs, Loops, Exit, Faulted, Inside, loop_effects, sync_effects, handing, inside, destination_of, Level, Frame, Machine, Reached, Stands, Gives, here_of, state_of, with_left, with_leaving, with_returning, back, entered, reached, gives, spawns_in, return_run, value_run, return_move, level_move, end_move, move_at, move}
-use Rattle.strand_meaning.proofs.SoundSteps.Own.{here-below}
+use Rattle.script_check.specs.Spawns.{spawns_in}
+use Rattle.strand_meaning.specs.Machine.{Destination, Spawned, Looped, Effect, Opens, Closes, Emitted, Handed, Syncs, Loops, Exit, Faulted, Inside, loop_effects, sync_effects, handing, inside, destination_of, Level, Frame, Machine, Reached, Stands, Gives, here_of, state_of, with_left, with_leaving, with_returning, back, machine_inside, reached, gives, return_run, value_run, return_move, level_move, end_move, move_at, move}
+use Rattle.strand_meaning.proofs.SoundSteps.ChildrenFollowEvents.{here-below}
 
 -- the children among these
 abbrev pub children : List Effect → List Origin
@@ -81,7 +82,7 @@ module _ (plan : PlanView) (path : List ℕ) (k : ℕ) where
       from items (Err (Faulted x)) q = q
       from items (Err (Inside here calls inner s)) q = q
 
-  hands-given : {A B : Type 0} (place : Destination) (o : Result A FaultKind) (s : State Bool) (f : A → Run Effect Exit B) → ((a : A) → HandsOut (f a)) → HandsOut (given (what place) plan path o s f)
+  hands-given : {A B : Type 0} (place : Destination) (o : Result A FaultKind) (s : State Bool) (f : A → Run Effect Exit B) → ((a : A) → HandsOut (f a)) → HandsOut (unless_fault (what place) plan path o s f)
   hands-given place (Ok a) s f h = h a
   hands-given place (Err x) s f h = refl
 
@@ -155,7 +156,7 @@ module _ (plan : PlanView) (path : List ℕ) (k : ℕ) where
   hands-does height st (act.Array x n) s at_rank = tt
   hands-does height st (act.Set x r) s at_rank = hands-then (right_side (what (Spawned height (Some x))) plan path inside height r s) _ (hands-right height (Some x) height r s at_rank)
   hands-does height st (act.Store x i e) s at_rank =
-      hands-given (Spawned height None) (value_of i s.env) s _ (λ n. by_item (at_index (items_of (slot_of s.env x.bytes)) (number n)) _ (hands-given (Spawned height None) (value_of e s.env) s _ (λ v. tt)))
+      hands-given (Spawned height None) (value_of i s.env) s _ (λ n. by_item (at_index (items_of (slot_of s.env x.bytes)) (as_integer n)) _ (hands-given (Spawned height None) (value_of e s.env) s _ (λ v. tt)))
     where
       by_item : (o : Option ℤ) (r : Run Effect Exit (State Bool)) → HandsOut r → HandsOut (found (what (Spawned height None)) plan path o s r)
       by_item None r h = refl
@@ -173,7 +174,7 @@ module _ (plan : PlanView) (path : List ℕ) (k : ℕ) where
   hands-does height st (act.Scope a) s at_rank = hands-tested (Spawned height None) (nat_lt (length path + 1) plan.limits.depth) Depth s _ (λ h. tt)
   hands-does height st (act.Pfor x lo hi target c) s at_rank =
       hands-given (Looped target) (value_of lo s.env) s _ (λ l. hands-given (Looped target) (value_of hi s.env) s _ (λ h. hands-given (Looped target) (values_of c.args s.env) s _
-      (λ vs. hands-loop target c (number l) (count_of (number h -ℤ number l)) vs s at_rank)))
+      (λ vs. hands-loop target c (as_integer l) (count_of (as_integer h -ℤ as_integer l)) vs s at_rank)))
 
   -- a move, by what its run came to
   hands-reached : (os : List Origin) (into : State Bool → Machine) (inner : List Stmt → State Bool → Machine) (e : Result (State Bool) Exit) → HandsAt os e → MoveHands plan path pedigree os (reached plan into inner e)
@@ -226,7 +227,7 @@ module _ (plan : PlanView) (path : List ℕ) (m : Machine) where
   by_returning true = by_function (function_at (functions_of plan) m.top.function)
     where
       by_value : (f : Function) (o : Result Value FaultKind) →
-          let r : Run Effect Exit (Value × State Bool) = given (handing plan (Spawned (length m.below) None)) plan here o (state_of m) (λ v. done (v, state_of m)) in MoveHands plan here (strand_at path m) (children r.items) (gives plan m r.ending)
+          let r : Run Effect Exit (Value × State Bool) = unless_fault (handing plan (Spawned (length m.below) None)) plan here o (state_of m) (λ v. done (v, state_of m)) in MoveHands plan here (strand_at path m) (children r.items) (gives plan m r.ending)
       by_value f (Ok v) = hands-back plan here m.rank m.below m.top.target v m.rank m.steps
       by_value f (Err x) = refl
 
@@ -250,7 +251,7 @@ module _ (plan : PlanView) (path : List ℕ) (m : Machine) where
   by_left (st ∷ left) =
       let a = out-Act (out-Stmt st).act in
       let r = hands-paid plan here m.rank (destination_of (length m.below) a) m.steps (state_of m) _ (λ s same. hands-does plan here m.rank (length m.below) st a s same) in
-      hands-reached plan here m.rank _ (with_left m left) (entered plan st a left m) _ r
+      hands-reached plan here m.rank _ (with_left m left) (machine_inside plan st a left m) _ r
 
   pub move_hands : MoveHands plan path (strand_at path m) (children (move plan path m).items) (move plan path m).ending
   move_hands = hands-less-deep plan here path (strand_at path m) no-shorter (children (move plan path m).items) (move plan path m).ending (by_left m.top.left)

@@ -10,7 +10,7 @@ use Rattle.strand_meaning.specs.Laws.{IsSoundStop, KeepsOrigin, LeavesFewer}
 use Rattle.strand_meaning.proofs.SoundSteps.Ends.{tasks_begin}
 use Rattle.strand_meaning.proofs.NextStops.Fewer.{stops_fall}
 use Rattle.strand_meaning.proofs.NextStops.Stops.{stops_are_sound, stops_keep_origins}
-use Rattle.strand_meaning.proofs.TakenAnswers.Onward.{answers_keep_tasks, none-handed}
+use Rattle.strand_meaning.proofs.TakenAnswers.AnswersKeepTasks.{answers_keep_tasks, none-handed}
 use Rattle.sched_meaning.specs.Core.{Worker, awaited, gone_on}
 use Rattle.sched_meaning.specs.Steps.{after_stop, WorkerPops, WorkerGives, WorkerTakes, WorkerResumes, WorkerPasses}
 use Rattle.sched_meaning.proofs.BegunOnce.Handed.{IsSmaller, HandsStop, stops_hand, children_in}

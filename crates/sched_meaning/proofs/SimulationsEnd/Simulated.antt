@@ -5,7 +5,7 @@ use Rattle.dotmix.specs.Words.{word}
 use Rattle.serial_meaning.specs.Plan.{PlanView}
 use Rattle.serial_meaning.specs.Eval.{main_origin}
 use Rattle.sched_meaning.specs.Core.{Core, IsRootAnswered}
-use Rattle.sched_meaning.specs.Simulation.{goes_on, is_choice, all_events, picked_of, picked, Goes, Simulates, IsSimWorker}
+use Rattle.sched_meaning.specs.Simulation.{is_progress, is_choice, all_events, picked_of, picked, Goes, Simulates, IsSimWorker}
 use Rattle.sched_meaning.specs.Steps.{Step}
 use Rattle.sched_meaning.specs.declared.event.CoreEvent.{CoreEvent}
 use Rattle.sched_meaning.specs.declared.event.CoreEvent.TheVariants.{Run}
@@ -17,7 +17,7 @@ filter-none test h [] = refl
 filter-none test h (x ∷ xs) = ap (λ b. cond b (x ∷ filter test xs) (filter test xs)) (h x) ∙ filter-none test h xs
 
 nothing-picked : (c : Core) (w : ℕ) → IsRootAnswered c → picked c w ≡ None
-nothing-picked c w a = ap (λ l. picked_of l w) (filter-none (is_choice c) (λ e. ap (λ b. not b && goes_on c e) (answered-is c (main_origin c.plan) a)) (all_events c))
+nothing-picked c w a = ap (λ l. picked_of l w) (filter-none (is_choice c) (λ e. ap (λ b. not b && is_progress c e) (answered-is c (main_origin c.plan) a)) (all_events c))
 
 module _ (c x y : Core) where
   matched-one : (o : Option CoreEvent) → MatchOption o (x ≡ c) (λ e. Step e c x) → MatchOption o (y ≡ c) (λ e. Step e c y) → x ≡ y

@@ -8,7 +8,7 @@ use Rattle.strand_meaning.specs.Task.{Task}
 use Rattle.strand_meaning.proofs.NextStops.Comes.{stops_come}
 use Rattle.sched_meaning.specs.Core.{Worker, Core, gone_on, awaited, answered, IsAnswered, IsRootAnswered}
 use Rattle.sched_meaning.specs.Same.{same_origin}
-use Rattle.sched_meaning.specs.Simulation.{is_answered, is_ready, may_run, is_free, has_task, may_give, may_resume, goes_on, is_choice, stalled_places, all_events, choices}
+use Rattle.sched_meaning.specs.Simulation.{is_answered, is_ready, may_run, is_free, has_task, may_give, may_resume, is_progress, is_choice, stalled_places, all_events, choices}
 use Rattle.sched_meaning.specs.Sound.{IsFruitful}
 use Rattle.sched_meaning.specs.Steps.{after_stop, WorkerRuns, WorkerPops, WorkerGives, WorkerTakes, WorkerResumes, Changes, noted, Happens, Step}
 use Rattle.sched_meaning.specs.Steps as steps
@@ -243,7 +243,7 @@ module _ (c : Core) (unanswered : IsRootAnswered c → ⊥) where
             resumes = record { worker = f.worker; after = after; there = f.is; does = record { free = f.free; there = e; after = refl }; next_is = refl };
           } in (next, record { unanswered = unanswered; happens = inl resumes }, (next, resumes))
 
-  goes-advances : (e : CoreEvent) → goes_on c e ≡ true → Advances c e
+  goes-advances : (e : CoreEvent) → is_progress c e ≡ true → Advances c e
   goes-advances (Run w) h = run-advances w (runner (slice_get c.workers w) h)
   goes-advances (Pop w) h = let b = both-true (is_free (slice_get c.workers w)) (may_give (slice_get c.workers w)) h in pop-advances w (free-one _ b.0) (giver _ b.1)
   goes-advances (Steal thief victim) h =
@@ -255,7 +255,7 @@ module _ (c : Core) (unanswered : IsRootAnswered c → ⊥) where
 
 choice-advances : (c : Core) (e : CoreEvent) → is_choice c e ≡ true → Advances c e
 choice-advances c e h =
-    let b = both-true (not (is_answered c (main_origin c.plan))) (goes_on c e) h in
+    let b = both-true (not (is_answered c (main_origin c.plan))) (is_progress c e) h in
     goes-advances c (λ a. (let t : is_answered c (main_origin c.plan) ≡ true = answered-is c (main_origin c.plan) a in let f : is_answered c (main_origin c.plan) ≡ false = not-true _ b.0 in absurd (cc))) e b.1
 
 -- What may happen is a choice
@@ -266,7 +266,7 @@ has-task (u ∷ ts) t = refl
 
 -- what is to be shown of an event
 record IsListed (c : Core) (e : CoreEvent) : Type 0 where
-  goes : goes_on c e ≡ true
+  goes : is_progress c e ≡ true
   listed : IsIn (all_events c) e
 
 module _ (c : Core) where
@@ -337,7 +337,7 @@ module _ (c : Core) where
   choice-is : (e : CoreEvent) → Advances c e → IsListed c e → is_choice c e ≡ true
   choice-is e a l = by_root (is_answered c (main_origin c.plan)) refl
     where
-      by_root : (b : Bool) → is_answered c (main_origin c.plan) ≡ b → (not b && goes_on c e) ≡ true
+      by_root : (b : Bool) → is_answered c (main_origin c.plan) ≡ b → (not b && is_progress c e) ≡ true
       by_root true h = absurd (a.1.unanswered (is-answered c (main_origin c.plan) h))
       by_root false h = l.goes
 

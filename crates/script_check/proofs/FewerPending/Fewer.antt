@@ -18,14 +18,14 @@ use Rattle.script_check.specs.declared.findings.Violation.{Violation}
 use Rattle.script_check.specs.declared.variable.Variable.{Variable}
 use Rattle.script_check.specs.declared.variable.Variable.TheVariants.{Scalar, Array}
 use Rattle.script_check.specs.Functions.{function_named}
-use Rattle.script_check.specs.Violations.{broken}
-use Rattle.script_check.specs.Names.{Names, IsWithin}
+use Rattle.script_check.specs.Violations.{violation_if}
+use Rattle.script_check.specs.Names.{NameSet, IsWithin}
 use Rattle.script_check.specs.Rules.{Declared, wrong_kind, wrong_use, unknown_function, wrong_number_of_arguments, pending_variable, scalar_use, array_use}
 use Rattle.script_check.specs.Expressions.{Violations, Reading, wanted, two_wanted, all_wanted, read_at, read, read_sum_part, read_product_part}
 use Rattle.script_check.specs.Statements.{arguments, call_of, read_right, wanted_as, loop_arguments, loop_call_of, taken_kind, target_use}
 
 abbrev pub Fine : Violations → Type 0
-Fine f = (known : Declared) (fewer p : Names) → IsWithin fewer p → f known p ≡ [] → f known fewer ≡ []
+Fine f = (known : Declared) (fewer p : NameSet) → IsWithin fewer p → f known p ≡ [] → f known fewer ≡ []
 
 pub nothing_left : {A : Type 0} (xs ys : List A) → xs ++ ys ≡ [] → xs ≡ []
 nothing_left [] ys h = refl
@@ -51,17 +51,17 @@ append_fine f g hf hg known fewer p w h =
 pub pending_fine : (x : Name) → Fine (λ known p. pending_variable p x)
 pending_fine x known fewer p w h = cases (fewer x.bytes) (p x.bytes) (w x.bytes) h
   where
-    cases : (a b : Bool) → (a ≡ true → b ≡ true) → broken b 9 x.at ≡ [] → broken a 9 x.at ≡ []
+    cases : (a b : Bool) → (a ≡ true → b ≡ true) → violation_if b 9 x.at ≡ [] → violation_if a 9 x.at ≡ []
     cases false b i h = refl
     cases true true i h = h
     cases true false i h = absurd (true≢false (sym (i refl)))
 
-scalar_fine : (o : Option Variable) (x : Name) (known : Declared) (fewer p : Names) → IsWithin fewer p → scalar_use o p x ≡ [] → scalar_use o fewer x ≡ []
+scalar_fine : (o : Option Variable) (x : Name) (known : Declared) (fewer p : NameSet) → IsWithin fewer p → scalar_use o p x ≡ [] → scalar_use o fewer x ≡ []
 scalar_fine (Some (Scalar kind)) x known fewer p w h = pending_fine x known fewer p w h
 scalar_fine (Some Array) x known fewer p w h = append_fine (λ k q. wrong_use x) (λ k q. pending_variable q x) (same_fine (λ k. wrong_use x)) (pending_fine x) known fewer p w h
 scalar_fine None x known fewer p w h = h
 
-array_fine : (o : Option Variable) (x : Name) (known : Declared) (fewer p : Names) → IsWithin fewer p → array_use o p x ≡ [] → array_use o fewer x ≡ []
+array_fine : (o : Option Variable) (x : Name) (known : Declared) (fewer p : NameSet) → IsWithin fewer p → array_use o p x ≡ [] → array_use o fewer x ≡ []
 array_fine (Some (Scalar kind)) x known fewer p w h = append_fine (λ k q. wrong_use x) (λ k q. pending_variable q x) (same_fine (λ k. wrong_use x)) (pending_fine x) known fewer p w h
 array_fine (Some Array) x known fewer p w h = pending_fine x known fewer p w h
 array_fine None x known fewer p w h = h

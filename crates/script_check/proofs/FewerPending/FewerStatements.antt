@@ -11,16 +11,16 @@ use Rattle.script_grammar.specs.declared.tree.Stmt.{Stmt}
 use Rattle.script_grammar.specs.declared.tree.Act.{Act, map-Act}
 use Rattle.script_grammar.specs.declared.tree.Act.TheOpen as act
 use Rattle.script_grammar.specs.declared.tree.Act.TheOpen.{Act-F}
-use Rattle.script_check.specs.Names.{Names, IsWithin, both, after_right}
+use Rattle.script_check.specs.Names.{NameSet, IsWithin, union, after_right}
 use Rattle.script_check.specs.Functions.{function_named}
-use Rattle.script_check.specs.Rules.{Declared, kind_of, scalar_use, array_use, declaration, array_length, let_in_a_block}
+use Rattle.script_check.specs.Rules.{Declared, kind_of_variable, scalar_use, array_use, declaration, array_length, let_in_a_block}
 use Rattle.script_check.specs.Expressions.{wanted, two_wanted, read}
 use Rattle.script_check.specs.Statements.{Context, Judged, judge, judge_what, judge_act, judge_all, read_right, wanted_as, target_use, loop_call_of, violations_each, block_violations, known_each, after}
 use Rattle.script_check.proofs.FewerPending.Induction.{Each, Inside, induct, induct_each, judge_open}
 use Rattle.script_check.proofs.FewerPending.Fewer.{Fine, none_fine, same_fine, append_fine, scalar_use_fine, array_use_fine, wanted_fine, two_fine, read_fine, call_fine, loop_call_fine, target_fine, right_fine, wanted_as_fine, nothing_left, nothing_right, both_nothing}
 
-abbrev IsMonotone : (Names → Names) → Type 0
-IsMonotone f = (fewer p : Names) → IsWithin fewer p → IsWithin (f fewer) (f p)
+abbrev IsMonotone : (NameSet → NameSet) → Type 0
+IsMonotone f = (fewer p : NameSet) → IsWithin fewer p → IsWithin (f fewer) (f p)
 
 abbrev FineJudged : Judged → Type 0
 FineJudged j = ((context : Context) → Fine (j.violations context)) × IsMonotone j.after
@@ -34,7 +34,7 @@ either false true true d f g h = refl
 either false true false d f g h = g refl
 either false false c d f g h = absurd (true≢false (sym h))
 
-both_within : (p q r s : Names) → IsWithin p r → IsWithin q s → IsWithin (both p q) (both r s)
+both_within : (p q r s : NameSet) → IsWithin p r → IsWithin q s → IsWithin (union p q) (union r s)
 both_within p q r s f g x h = either (p x) (q x) (r x) (s x) (f x) (g x) h
 
 right_monotone : (x : Name) (r : Right) → IsMonotone (after_right x r)
@@ -72,8 +72,8 @@ open_fine at (act.Let x r) h = (
 )
 open_fine at (act.Array x n) h = (λ context. same_fine (λ k. let_in_a_block context.in_block at ++ declaration k x ++ array_length n), kept)
 open_fine at (act.Set x r) h = (
-  λ context. append_fine (λ k p. scalar_use (k.what x.bytes) p x) (λ k p. wanted_as (kind_of (k.what x.bytes)) (read_right context.functions r) k p)
-      (scalar_use_fine x) (λ known. wanted_as_fine (kind_of (known.what x.bytes)) (read_right context.functions r) (right_fine context.functions r) known),
+  λ context. append_fine (λ k p. scalar_use (k.what x.bytes) p x) (λ k p. wanted_as (kind_of_variable (k.what x.bytes)) (read_right context.functions r) k p)
+      (scalar_use_fine x) (λ known. wanted_as_fine (kind_of_variable (known.what x.bytes)) (read_right context.functions r) (right_fine context.functions r) known),
   right_monotone x r,
 )
 open_fine at (act.Store x i e) h =
@@ -91,7 +91,7 @@ open_fine at (act.If e a b) h = (
 open_fine at (act.While e a) h = (
   λ context known fewer p w.
       append_fine (wanted Int (read e)) (block_violations (judge_all a) context) (wanted_fine Int (read e) (read_fine e)) (each_fine a h (record context { in_block = true })) known
-      (both fewer (after a fewer)) (both p (after a p)) (both_within fewer (after a fewer) p (after a p) w (each_monotone a h fewer p w)),
+      (union fewer (after a fewer)) (union p (after a p)) (both_within fewer (after a fewer) p (after a p) w (each_monotone a h fewer p w)),
   λ fewer p w. both_within fewer (after a fewer) p (after a p) w (each_monotone a h fewer p w),
 )
 open_fine at (act.Pfor x lo hi target c) h = (
@@ -105,7 +105,7 @@ open_fine at (act.Scope a) h = (λ context. each_fine a h (record context { in_b
 all_fine : (s : Stmt) → FineStmt s
 all_fine = induct FineStmt (λ at d h. subst FineJudged (sym (judge_open at d)) (open_fine at d h))
 
-pub fewer_pending_stays_valid : (statements : List Stmt) (context : Context) (known : Declared) (fewer p : Names) → IsWithin fewer p →
+pub fewer_pending_stays_valid : (statements : List Stmt) (context : Context) (known : Declared) (fewer p : NameSet) → IsWithin fewer p →
     violations_each (judge_all statements) context known p ≡ [] →
     (violations_each (judge_all statements) context known fewer ≡ []) × IsWithin (after statements fewer) (after statements p)
 fewer_pending_stays_valid statements context known fewer p w h =

@@ -8,18 +8,18 @@ use Rattle.script_grammar.specs.declared.tree.Stmt.{Stmt}
 use Rattle.script_grammar.specs.declared.tree.Act.{Act, map-Act}
 use Rattle.script_grammar.specs.declared.tree.Act.TheOpen as act
 use Rattle.script_grammar.specs.declared.tree.Act.TheOpen.{Act-F}
-use Rattle.script_check.specs.Names.{Names, nobody, both, after_right, after_each, IsWithin}
+use Rattle.script_check.specs.Names.{NameSet, no_names, union, after_right, after_each, IsWithin}
 use Rattle.script_check.specs.Statements.{Judged, judge, judge_act, judge_what, after}
 use Rattle.script_check.specs.Walk.{keeps_act, keeps, keeps_what, keeps_all}
 use Rattle.script_check.proofs.FewerPending.Induction.{Each, Inside, statement, induct, induct_each, judge_open, keeps_open}
 
 -- what is pending after is what the statements add to p, and of r what they keep
-abbrev pub IsLinear : (Names → Names) → Bool → Type 0
-IsLinear f kept = (p r : Names) (x : List ℕ) → f (both p r) x ≡ (f p x || (kept && r x))
+abbrev pub IsLinear : (NameSet → NameSet) → Bool → Type 0
+IsLinear f kept = (p r : NameSet) (x : List ℕ) → f (union p r) x ≡ (f p x || (kept && r x))
 
 -- the same for sets that are equal as tests
-onto : (f : Names → Names) (p q : Names) → ((x : List ℕ) → p x ≡ q x) → (x : List ℕ) → f p x ≡ f q x
-onto f p q h x = ap (λ (s : Names). f s x) (λ i y. h y i)
+onto : (f : NameSet → NameSet) (p q : NameSet) → ((x : List ℕ) → p x ≡ q x) → (x : List ℕ) → f p x ≡ f q x
+onto f p q h x = ap (λ (s : NameSet). f s x) (λ i y. h y i)
 
 or_assoc : (a b c : Bool) → ((a || b) || c) ≡ (a || (b || c))
 or_assoc true b c = refl
@@ -61,13 +61,13 @@ linear_right x (right.Spawn at c) p r y = sym (or_assoc (bytes_eq x.bytes y) (p 
 abbrev Linear : Stmt → Type 0
 Linear s = IsLinear (judge s).after (keeps s)
 
-abbrev after_list : List Judged → Names → Names
+abbrev after_list : List Judged → NameSet → NameSet
 after_list = after_each (λ (j : Judged). j.after)
 
 linear_each : (ss : List Stmt) → Each Linear ss → IsLinear (after ss) (keeps_all ss)
 linear_each [] h p r x = refl
 linear_each (s ∷ ss) h p r x =
-    onto (after ss) ((judge s).after (both p r)) (both ((judge s).after p) (λ y. keeps s && r y)) (λ y. h.0 p r y) x
+    onto (after ss) ((judge s).after (union p r)) (union ((judge s).after p) (λ y. keeps s && r y)) (λ y. h.0 p r y) x
     ∙ linear_each ss h.1 ((judge s).after p) (λ y. keeps s && r y) x
     ∙ ap (λ b. after ss ((judge s).after p) x || b) (and_assoc (keeps_all ss) (keeps s) (r x) ∙ ap (λ b. b && r x) (swap (keeps_all ss) (keeps s)))
   where
@@ -88,7 +88,7 @@ linear_open at (act.Call c) h p r y = refl
 linear_open at act.Sync h p r y = refl
 linear_open at (act.Print e) h p r y = refl
 linear_open at (act.If e a b) h p r y =
-    ap (λ z. z || after b (both p r) y) (linear_each a h.0 p r y)
+    ap (λ z. z || after b (union p r) y) (linear_each a h.0 p r y)
     ∙ ap (λ z. (after a p y || (keeps_all a && r y)) || z) (linear_each b h.1 p r y)
     ∙ bool_if (after a p y) (after b p y) (keeps_all a) (keeps_all b) (r y)
 linear_open at (act.While e a) h p r y =
@@ -100,7 +100,7 @@ pub linear : (s : Stmt) → IsLinear (judge s).after (keeps s)
 linear =
     induct Linear
     (λ at d h p r x.
-    ap (λ (j : Judged). j.after (both p r) x) (judge_open at d)
+    ap (λ (j : Judged). j.after (union p r) x) (judge_open at d)
     ∙ linear_open at d h p r x
     ∙ ap (λ (j : Judged). j.after p x || (keeps_act (map-Act Act Stmt Bool Bool keeps_what keeps d) && r x)) (sym (judge_open at d))
     ∙ ap (λ b. (judge (statement at d)).after p x || (b && r x)) (sym (keeps_open at d)))
@@ -109,9 +109,9 @@ pub linear_all : (ss : List Stmt) → IsLinear (after ss) (keeps_all ss)
 linear_all ss = linear_each ss (induct_each Linear linear ss)
 
 -- what a loop is judged with
-pub loop_set : (body : List Stmt) (p : Names) (x : List ℕ) → both p (after body p) x ≡ (after body nobody x || p x)
+pub loop_set : (body : List Stmt) (p : NameSet) (x : List ℕ) → union p (after body p) x ≡ (after body no_names x || p x)
 loop_set body p x =
-    ap (λ z. p x || z) (onto (after body) p (both nobody p) (λ y. refl) x ∙ linear_all body nobody p x) ∙ cases (p x) (after body nobody x) (keeps_all body)
+    ap (λ z. p x || z) (onto (after body) p (union no_names p) (λ y. refl) x ∙ linear_all body no_names p x) ∙ cases (p x) (after body no_names x) (keeps_all body)
   where
     cases : (p g k : Bool) → (p || (g || (k && p))) ≡ (g || p)
     cases true true k = refl
@@ -120,10 +120,10 @@ loop_set body p x =
     cases false false true = refl
     cases false false false = refl
 
-pub loop_closed : (body : List Stmt) (p : Names) → IsWithin (after body (both p (after body p))) (both p (after body p))
+pub loop_closed : (body : List Stmt) (p : NameSet) → IsWithin (after body (union p (after body p))) (union p (after body p))
 loop_closed body p x h =
-    loop_set body p x ∙ cases (after body nobody x) (p x) (keeps_all body)
-    (sym (linear_all body nobody (λ y. after body nobody y || p y) x) ∙ onto (after body) (both nobody (λ y. after body nobody y || p y)) (both p (after body p)) (λ y. sym (loop_set body p y)) x ∙ h)
+    loop_set body p x ∙ cases (after body no_names x) (p x) (keeps_all body)
+    (sym (linear_all body no_names (λ y. after body no_names y || p y) x) ∙ onto (after body) (union no_names (λ y. after body no_names y || p y)) (union p (after body p)) (λ y. sym (loop_set body p y)) x ∙ h)
   where
     cases : (g p k : Bool) → (g || (k && (g || p))) ≡ true → (g || p) ≡ true
     cases true p k h = refl

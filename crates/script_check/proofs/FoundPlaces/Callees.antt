@@ -17,9 +17,9 @@ use Rattle.script_grammar.specs.declared.tree.Act.TheOpen.{Act-F}
 use Rattle.script_check.specs.declared.findings.Violation.{Violation}
 use Rattle.script_check.specs.Expressions.{read, two_wanted, wanted}
 use Rattle.script_check.specs.Functions.{first_named, function_at, function_named}
-use Rattle.script_check.specs.Names.{Names, both, nobody}
+use Rattle.script_check.specs.Names.{NameSet, union, no_names}
 use Rattle.script_check.specs.Places.{agree, called_in, called_in_act, called_in_block, called_in_right, called_in_statement, finds_callee, function_names, place_in, table_of_callees}
-use Rattle.script_check.specs.Rules.{Declared, declaration, kind_of, let_in_a_block, scalar_use, unknown_function}
+use Rattle.script_check.specs.Rules.{Declared, declaration, kind_of_variable, let_in_a_block, scalar_use, unknown_function}
 use Rattle.script_check.specs.Statements.{Context, Judged, after, arguments, block_violations, call_of, context, judge, judge_all, known_each, loop_call_of, read_right, target_use, violations_each, wanted_as}
 use Rattle.script_check.specs.Tables.{no_entries}
 use Rattle.script_check.specs.Valid.{all_function_violations, function_violations, known_params, param_violations}
@@ -67,21 +67,21 @@ a-function functions c h =
     true-both (is_some (place_in (function_names functions) c.name.bytes)) true
     (ap (λ (o : Option ℕ). is_some o) (sym (first-place functions c.name.bytes)) ∙ found-at functions (first_named functions c.name.bytes) h) refl
 
-no-function : {A : Type 0} (c : CallText) (known : Declared) (p : Names) → unknown_function c.name ++ arguments [] c.args known p ≡ [] → A
+no-function : {A : Type 0} (c : CallText) (known : Declared) (p : NameSet) → unknown_function c.name ++ arguments [] c.args known p ≡ [] → A
 no-function c known p h = absurd (true≢false (not-broken true 5 c.name.at (nothing_left (unknown_function c.name) (arguments [] c.args known p) h)))
 
-call-there : (o : Option Function) (c : CallText) (known : Declared) (p : Names) → call_of o c known p ≡ [] → is_some o ≡ true
+call-there : (o : Option Function) (c : CallText) (known : Declared) (p : NameSet) → call_of o c known p ≡ [] → is_some o ≡ true
 call-there None c known p h = no-function c known p h
 call-there (Some f) c known p h = refl
 
-loop-call-there : (o : Option Function) (has_target : Bool) (c : CallText) (known : Declared) (p : Names) → loop_call_of o has_target c known p ≡ [] → is_some o ≡ true
+loop-call-there : (o : Option Function) (has_target : Bool) (c : CallText) (known : Declared) (p : NameSet) → loop_call_of o has_target c known p ≡ [] → is_some o ≡ true
 loop-call-there None has_target c known p h = no-function c known p h
 loop-call-there (Some f) has_target c known p h = refl
 
-a-call : (functions : List Function) (c : CallText) (known : Declared) (p : Names) → call_of (function_named functions c.name.bytes) c known p ≡ [] → AreFunctions functions (c.name ∷ [])
+a-call : (functions : List Function) (c : CallText) (known : Declared) (p : NameSet) → call_of (function_named functions c.name.bytes) c known p ≡ [] → AreFunctions functions (c.name ∷ [])
 a-call functions c known p h = a-function functions c (call-there (function_named functions c.name.bytes) c known p h)
 
-a-right : (functions : List Function) (r : Right) (known : Declared) (p : Names) → (read_right functions r).violations known p ≡ [] → AreFunctions functions (called_in_right r)
+a-right : (functions : List Function) (r : Right) (known : Declared) (p : NameSet) → (read_right functions r).violations known p ≡ [] → AreFunctions functions (called_in_right r)
 a-right functions (right.Value e) known p h = refl
 a-right functions (right.Draw at) known p h = refl
 a-right functions (right.New at) known p h = refl
@@ -91,9 +91,9 @@ a-right functions (right.Spawn at c) known p h = a-call functions c known p h
 -- Statements
 
 abbrev CallsFunctions : Stmt → Type 0
-CallsFunctions s = (at : Context) (known : Declared) (p : Names) → (judge s).violations at known p ≡ [] → AreFunctions at.functions (called_in_statement s)
+CallsFunctions s = (at : Context) (known : Declared) (p : NameSet) → (judge s).violations at known p ≡ [] → AreFunctions at.functions (called_in_statement s)
 
-a-block : (ss : List Stmt) → Each CallsFunctions ss → (at : Context) (known : Declared) (p : Names) → violations_each (judge_all ss) at known p ≡ [] → AreFunctions at.functions (called_in_block ss)
+a-block : (ss : List Stmt) → Each CallsFunctions ss → (at : Context) (known : Declared) (p : NameSet) → violations_each (judge_all ss) at known p ≡ [] → AreFunctions at.functions (called_in_block ss)
 a-block [] g at known p h = refl
 a-block (s ∷ ss) g at known p h =
     let next = (judge s).known at.functions known in
@@ -101,7 +101,7 @@ a-block (s ∷ ss) g at known p h =
     let rest = violations_each (judge_all ss) at next ((judge s).after p) in
     functions-append at.functions (called_in_statement s) (called_in_block ss) (g.0 at known p (nothing_left here rest h)) (a-block ss g.1 at next ((judge s).after p) (nothing_right here rest h))
 
-a-stmt : (n : ℕ) (d : Act-F Act Stmt) → Inside CallsFunctions d → (at : Context) (known : Declared) (p : Names) →
+a-stmt : (n : ℕ) (d : Act-F Act Stmt) → Inside CallsFunctions d → (at : Context) (known : Declared) (p : NameSet) →
     (told d n).violations at known p ≡ [] → AreFunctions at.functions (called_in_act (map-Act Act Stmt (List Name) (List Name) called_what called_in_statement d))
 a-stmt n (act.Let x r) g at known p h =
     let first = let_in_a_block at.in_block n in
@@ -109,7 +109,7 @@ a-stmt n (act.Let x r) g at known p h =
     a-right at.functions r known p (nothing_right first right (nothing_left (first ++ right) (declaration known x) h))
 a-stmt n (act.Array x m) g at known p h = refl
 a-stmt n (act.Set x r) g at known p h =
-    let kind = kind_of (known.what x.bytes) in
+    let kind = kind_of_variable (known.what x.bytes) in
     let right = read_right at.functions r in
     a-right at.functions r known p (wanted-as-left kind right known p (nothing_right (scalar_use (known.what x.bytes) p x) (wanted_as kind right known p) h))
 a-stmt n (act.Store x i e) g at known p h = refl
@@ -126,7 +126,7 @@ a-stmt n (act.If e a b) g at known p h =
     (a-block a g.0 (inside at) known p (nothing_right test one (nothing_left (test ++ one) two h)))
     (a-block b g.1 (inside at) after_one p (nothing_right (test ++ one) two h))
 a-stmt n (act.While e a) g at known p h =
-    let q : Names = both p (after a p) in
+    let q : NameSet = union p (after a p) in
     a-block a g (inside at) known q (nothing_right (wanted Int (read e) known q) (block_violations (judge_all a) at known q) h)
 a-stmt n (act.Pfor x lo hi target c) g at known p h =
     let bounds = two_wanted Int (read lo) (read hi) known p in
@@ -145,9 +145,9 @@ calls-functions : (functions : List Function) (f : Function) → function_violat
 calls-functions functions f h =
     let known : Declared = known_params f.params no_entries in
     let params : List Violation = param_violations f.params no_entries in
-    let body : List Violation = violations_each (judge_all f.body) (context functions false) known nobody in
-    let last : List Violation = wanted f.answer (read f.result) (known_each (judge_all f.body) functions known) nobody in
-    a-block f.body (induct_each CallsFunctions each-stmt f.body) (context functions false) known nobody (nothing_right params body (nothing_left (params ++ body) last h))
+    let body : List Violation = violations_each (judge_all f.body) (context functions false) known no_names in
+    let last : List Violation = wanted f.answer (read f.result) (known_each (judge_all f.body) functions known) no_names in
+    a-block f.body (induct_each CallsFunctions each-stmt f.body) (context functions false) known no_names (nothing_right params body (nothing_left (params ++ body) last h))
 
 pub call-functions : (functions fs : List Function) → all_function_violations functions fs ≡ [] → AreFunctions functions (called_in fs)
 call-functions functions [] h = refl

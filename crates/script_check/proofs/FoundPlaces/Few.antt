@@ -18,9 +18,9 @@ use Rattle.script_check.specs.declared.variable.Variable.TheVariants.{Array, Sca
 use Rattle.script_check.specs.Expressions.{read, two_wanted, wanted}
 use Rattle.script_check.specs.Functions.{function_named, main_name}
 use Rattle.script_check.specs.Laws.{VariablesAreFew}
-use Rattle.script_check.specs.Names.{Names, both, nobody}
+use Rattle.script_check.specs.Names.{NameSet, union, no_names}
 use Rattle.script_check.specs.Places.{named_in, named_in_act, named_in_all, named_in_block, named_in_right, named_in_statement, named_in_target, place_in, variable_names, with_new_name, with_new_names}
-use Rattle.script_check.specs.Rules.{Declared, array_length, array_use, declaration, kind_of, let_in_a_block, most_variables, scalar_use, too_many_variables, variable_twice}
+use Rattle.script_check.specs.Rules.{Declared, array_length, array_use, declaration, kind_of_variable, let_in_a_block, most_variables, scalar_use, too_many_variables, variable_twice}
 use Rattle.script_check.specs.Statements.{Context, Judged, after, block_violations, violations_each, judge, judge_act, judge_all, judge_what, kind_or_int, known_each, loop_call_of, context, read_right, target_use, wanted_as}
 use Rattle.script_check.specs.Tables.{no_entries, with_first}
 use Rattle.script_check.specs.Valid.{all_function_violations, function_violations, functions_twice, known_params, main_violations, param_violations}
@@ -120,7 +120,7 @@ IsPlain _ = Unit {0}
 
 -- where it has no violation it makes nothing known, and names what is known
 abbrev Stays : Judged → List Name → Context → Type 0
-Stays j named where_it_is = (known : Declared) (p : Names) → j.violations where_it_is known p ≡ [] → (j.known where_it_is.functions known ≡ known) × AllKnown known named
+Stays j named where_it_is = (known : Declared) (p : NameSet) → j.violations where_it_is known p ≡ [] → (j.known where_it_is.functions known ≡ known) × AllKnown known named
 
 abbrev InBlock : Stmt → Type 0
 InBlock s = (at : Context) → at.in_block ≡ true → Stays (judge s) (named_in_statement s) at
@@ -131,7 +131,7 @@ told d at = judge_act (map-Act Act Stmt (ℕ → Judged) Judged judge_what judge
 abbrev names_of : Act-F Act Stmt → List Name
 names_of d = named_in_act (map-Act Act Stmt (List Name) (List Name) named_what named_in_statement d)
 
-all-stay : (ss : List Stmt) → Each InBlock ss → (at : Context) → at.in_block ≡ true → (known : Declared) (p : Names) → violations_each (judge_all ss) at known p ≡ [] →
+all-stay : (ss : List Stmt) → Each InBlock ss → (at : Context) → at.in_block ≡ true → (known : Declared) (p : NameSet) → violations_each (judge_all ss) at known p ≡ [] →
     (known_each (judge_all ss) at.functions known ≡ known) × AllKnown known (named_in_block ss)
 all-stay [] g at b known p h = (refl, refl)
 all-stay (s ∷ ss) g at b known p h =
@@ -150,9 +150,9 @@ plain-stays n (act.Array x m) c g at known p h = absurd c
 plain-stays n (act.Set x r) c g at known p h = (
   refl,
   known-cons known x (named_in_right r)
-      (scalar-known (known.what x.bytes) p x (nothing_left (scalar_use (known.what x.bytes) p x) (wanted_as (kind_of (known.what x.bytes)) (read_right at.functions r) known p) h))
-      (right-known at.functions r known p (wanted-as-left (kind_of (known.what x.bytes)) (read_right at.functions r) known p
-      (nothing_right (scalar_use (known.what x.bytes) p x) (wanted_as (kind_of (known.what x.bytes)) (read_right at.functions r) known p) h))),
+      (scalar-known (known.what x.bytes) p x (nothing_left (scalar_use (known.what x.bytes) p x) (wanted_as (kind_of_variable (known.what x.bytes)) (read_right at.functions r) known p) h))
+      (right-known at.functions r known p (wanted-as-left (kind_of_variable (known.what x.bytes)) (read_right at.functions r) known p
+      (nothing_right (scalar_use (known.what x.bytes) p x) (wanted_as (kind_of_variable (known.what x.bytes)) (read_right at.functions r) known p) h))),
 )
 plain-stays n (act.Store x i e) c g at known p h = (
   refl,
@@ -176,7 +176,7 @@ plain-stays n (act.If e a b) c g at known p h =
           (known-append known (named_in_block a) (named_in_block b) first.1 (subst (λ k. AllKnown k (named_in_block b)) first.0 last.1)),
     )
 plain-stays n (act.While e a) c g at known p h =
-    let q : Names = both p (after a p) in
+    let q : NameSet = union p (after a p) in
     let test = wanted Int (read e) known q in
     let body = all-stay a g (inside at) refl known q (nothing_right test (block_violations (judge_all a) at known q) h) in (
       body.0,
@@ -225,7 +225,7 @@ all-in-block =
 -- At the top of a body
 
 abbrev Listed : Judged → List Name → Type 0
-Listed j named = (functions : List Function) (names : List (List ℕ)) (known : Declared) (p : Names) → Lists names known → j.violations (context functions false) known p ≡ [] →
+Listed j named = (functions : List Function) (names : List (List ℕ)) (known : Declared) (p : NameSet) → Lists names known → j.violations (context functions false) known p ≡ [] →
     Lists (with_new_names names named) (j.known functions known)
 
 plain-listed : (j : Judged) (named : List Name) → ((at : Context) → Stays j named at) → Listed j named
@@ -285,7 +285,7 @@ all-listed =
     (subst (λ (j : Judged). Lists (with_new_names names (names_of d)) (j.known functions known)) (sym (judge_open n d))
     (open-listed n d (inside-blocks d) functions names known p l (ap (λ (j : Judged). j.violations (context functions false) known p) (sym (judge_open n d)) ∙ h))))
 
-body-listed : (ss : List Stmt) (functions : List Function) (names : List (List ℕ)) (known : Declared) (p : Names) → Lists names known → violations_each (judge_all ss) (context functions false) known p ≡ [] →
+body-listed : (ss : List Stmt) (functions : List Function) (names : List (List ℕ)) (known : Declared) (p : NameSet) → Lists names known → violations_each (judge_all ss) (context functions false) known p ≡ [] →
     Lists (with_new_names names (named_in_block ss)) (known_each (judge_all ss) functions known)
 body-listed [] functions names known p l h = l
 body-listed (s ∷ ss) functions names known p l h =
@@ -309,12 +309,12 @@ function-few functions f h =
     let ends : Declared = known_each (judge_all f.body) functions known in
     let start : List (List ℕ) = map (λ q. q.name.bytes) f.params in
     let params : List Violation = param_violations f.params no_entries in
-    let body : List Violation = violations_each (judge_all f.body) (context functions false) known nobody in
-    let last : List Violation = wanted f.answer (read f.result) ends nobody in
+    let body : List Violation = violations_each (judge_all f.body) (context functions false) known no_names in
+    let last : List Violation = wanted f.answer (read f.result) ends no_names in
     let none : Lists [] no_entries = record { same = λ q. refl; count = refl; few = omega arith } in
     let first = params-listed f.params [] no_entries none (nothing_left params body (nothing_left (params ++ body) last h)) in
-    let ended_block = body-listed f.body functions start known nobody first (nothing_right params body (nothing_left (params ++ body) last h)) in
-    let result = read-known f.result ends nobody (wanted-left f.answer (read f.result) ends nobody (nothing_right (params ++ body) last h)) in
+    let ended_block = body-listed f.body functions start known no_names first (nothing_right params body (nothing_left (params ++ body) last h)) in
+    let result = read-known f.result ends no_names (wanted-left f.answer (read f.result) ends no_names (nothing_right (params ++ body) last h)) in
     subst (λ m. length m ≤ most_variables)
     (sym (with-append start (named_in_block f.body) (named_in f.result) ∙ with-known (with_new_names start (named_in_block f.body)) ends ended_block (named_in f.result) result)) ended_block.few
 

@@ -15,10 +15,10 @@ use Rattle.script_check.specs.Places.{agree, named_in_function, place_in, stand_
 use Rattle.script_check.specs.Rules.{Declared, declaration, most_variables, variable_twice, too_many_variables}
 use Rattle.script_check.specs.Statements.{violations_each, judge_all, known_each, context}
 use Rattle.script_check.specs.Expressions.{read, wanted}
-use Rattle.script_check.specs.Names.{nobody}
+use Rattle.script_check.specs.Names.{no_names}
 use Rattle.script_check.specs.Tables.{no_entries, with_first}
 use Rattle.script_check.specs.Valid.{function_violations, known_params, param_violations}
-use Rattle.script_check.specs.Violations.{broken}
+use Rattle.script_check.specs.Violations.{violation_if}
 use Rattle.script_check.proofs.FewerPending.Fewer.{nothing_left, nothing_right}
 use Rattle.script_check.proofs.Walk.Reading.{at_index}
 use Rattle.script_check.proofs.Tables.Indexed.{or_else}
@@ -100,7 +100,7 @@ covers-more names known y v c new p none = by (bytes_eq y p) refl
         ∙ ap (λ o. or_else o (if bytes_eq y p then Some (length names) else None)) (c p (ap (λ (o : Option Variable). is_some o) (sym (now ∙ cond-false (bytes_eq y p) (Some v) (known.what p) e)) ∙ none))
         ∙ cond-false (bytes_eq y p) (Some (length names)) None e
 
-pub not-broken : (b : Bool) (number at : ℕ) → broken b number at ≡ [] → b ≡ false
+pub not-broken : (b : Bool) (number at : ℕ) → violation_if b number at ≡ [] → b ≡ false
 not-broken true number at h = cc
 not-broken false number at h = refl
 
@@ -127,8 +127,8 @@ pub function-stands : (functions : List Function) (f : Function) → function_vi
 function-stands functions f h =
     let known : Declared = known_params f.params no_entries in
     let params : List Violation = param_violations f.params no_entries in
-    let body : List Violation = violations_each (judge_all f.body) (context functions false) known nobody in
-    let last : List Violation = wanted f.answer (read f.result) (known_each (judge_all f.body) functions known) nobody in
+    let body : List Violation = violations_each (judge_all f.body) (context functions false) known no_names in
+    let last : List Violation = wanted f.answer (read f.result) (known_each (judge_all f.body) functions known) no_names in
     params-stand [] f.params no_entries (variable_names f) 0 refl (stays-each (map (λ q. q.name.bytes) f.params) (named_in_function f)) (λ q n. refl)
     (nothing_left params body (nothing_left (params ++ body) last h))
 

@@ -17,7 +17,7 @@ use Rattle.script_grammar.specs.declared.tree.SumPart.{SumPart}
 use Rattle.script_grammar.specs.declared.tree.ProductPart.{ProductPart}
 use Rattle.script_check.specs.declared.variable.Variable.{Variable}
 use Rattle.script_check.specs.Functions.{function_named}
-use Rattle.script_check.specs.Names.{Names}
+use Rattle.script_check.specs.Names.{NameSet}
 use Rattle.script_check.specs.Places.{joined, named_at, named_in, named_in_summand, named_in_factor, named_in_all, named_in_right, named_in_target}
 use Rattle.script_check.specs.Rules.{Declared, wrong_kind, unknown_function, wrong_number_of_arguments, scalar_use, array_use}
 use Rattle.script_check.specs.Expressions.{Reading, wanted, two_wanted, all_wanted, read_at, read, read_sum_part, read_product_part}
@@ -37,11 +37,11 @@ known-append known = each-true (λ x. is_some (known.what x.bytes))
 pub known-cons : (known : Declared) (x : Name) (xs : List Name) → is_some (known.what x.bytes) ≡ true → AllKnown known xs → AllKnown known (x ∷ xs)
 known-cons known x xs h k = true-both (is_some (known.what x.bytes)) (each_is (λ x. is_some (known.what x.bytes)) xs) h k
 
-pub scalar-known : (o : Option Variable) (p : Names) (x : Name) → scalar_use o p x ≡ [] → is_some o ≡ true
+pub scalar-known : (o : Option Variable) (p : NameSet) (x : Name) → scalar_use o p x ≡ [] → is_some o ≡ true
 scalar-known (Some v) p x h = refl
 scalar-known None p x h = absurd (true≢false (not-broken true 6 x.at h))
 
-pub array-known : (o : Option Variable) (p : Names) (x : Name) → array_use o p x ≡ [] → is_some o ≡ true
+pub array-known : (o : Option Variable) (p : NameSet) (x : Name) → array_use o p x ≡ [] → is_some o ≡ true
 array-known (Some v) p x h = refl
 array-known None p x h = absurd (true≢false (not-broken true 6 x.at h))
 
@@ -49,21 +49,21 @@ array-known None p x h = absurd (true≢false (not-broken true 6 x.at h))
 
 -- what is read without a violation names known variables
 abbrev pub ReadsKnown : List Name → Reading → Type 0
-ReadsKnown names r = (known : Declared) (p : Names) → r.violations known p ≡ [] → AllKnown known names
+ReadsKnown names r = (known : Declared) (p : NameSet) → r.violations known p ≡ [] → AllKnown known names
 
-pub wanted-left : (kind : Kind) (r : Reading) (known : Declared) (p : Names) → wanted kind r known p ≡ [] → r.violations known p ≡ []
+pub wanted-left : (kind : Kind) (r : Reading) (known : Declared) (p : NameSet) → wanted kind r known p ≡ [] → r.violations known p ≡ []
 unfolding wanted
 wanted-left kind r known p h = nothing_left (r.violations known p) (wrong_kind kind (r.kind known) r.at) h
 
-two-left : (kind : Kind) (a b : Reading) (known : Declared) (p : Names) → two_wanted kind a b known p ≡ [] → a.violations known p ≡ []
+two-left : (kind : Kind) (a b : Reading) (known : Declared) (p : NameSet) → two_wanted kind a b known p ≡ [] → a.violations known p ≡ []
 unfolding two_wanted
 two-left kind a b known p h = wanted-left kind a known p (nothing_left (wanted kind a known p) (wanted kind b known p) h)
 
-two-right : (kind : Kind) (a b : Reading) (known : Declared) (p : Names) → two_wanted kind a b known p ≡ [] → b.violations known p ≡ []
+two-right : (kind : Kind) (a b : Reading) (known : Declared) (p : NameSet) → two_wanted kind a b known p ≡ [] → b.violations known p ≡ []
 unfolding two_wanted
 two-right kind a b known p h = wanted-left kind b known p (nothing_right (wanted kind a known p) (wanted kind b known p) h)
 
-pub two-known : (kind : Kind) (xs ys : List Name) (a b : Reading) → ReadsKnown xs a → ReadsKnown ys b → (known : Declared) (p : Names) → two_wanted kind a b known p ≡ [] → AllKnown known (xs ++ ys)
+pub two-known : (kind : Kind) (xs ys : List Name) (a b : Reading) → ReadsKnown xs a → ReadsKnown ys b → (known : Declared) (p : NameSet) → two_wanted kind a b known p ≡ [] → AllKnown known (xs ++ ys)
 two-known kind xs ys a b f g known p h = known-append known xs ys (f known p (two-left kind a b known p h)) (g known p (two-right kind a b known p h))
 
 abbrev node_map : {A B C : Type 0} → (A → Reading) → (B → Reading) → (C → Reading) → Expr-F A B C → Expr-F Reading Reading Reading
@@ -94,14 +94,14 @@ module _ {A B C : Type 0} (expr : A → Expr) (times : B → ProductPart) (plus 
     (e : (a : A) → ReadsKnown (named_in (expr a)) (read (expr a)))
     (t : (b : B) → ReadsKnown (named_in_factor (times b)) (read_product_part (times b)))
     (s : (c : C) → ReadsKnown (named_in_summand (plus c)) (read_sum_part (plus c))) where
-  pluses-known : (xs : List C) (known : Declared) (p : Names) → all_wanted Int (map read_sum_part (map plus xs)) known p ≡ [] → AllKnown known (joined (map named_in_summand (map plus xs)))
+  pluses-known : (xs : List C) (known : Declared) (p : NameSet) → all_wanted Int (map read_sum_part (map plus xs)) known p ≡ [] → AllKnown known (joined (map named_in_summand (map plus xs)))
   pluses-known [] known p h = refl
   pluses-known (x ∷ xs) known p h =
       known-append known (named_in_summand (plus x)) (joined (map named_in_summand (map plus xs)))
       (s x known p (wanted-left Int (read_sum_part (plus x)) known p (nothing_left (wanted Int (read_sum_part (plus x)) known p) (all_wanted Int (map read_sum_part (map plus xs)) known p) h)))
       (pluses-known xs known p (nothing_right (wanted Int (read_sum_part (plus x)) known p) (all_wanted Int (map read_sum_part (map plus xs)) known p) h))
 
-  timeses-known : (xs : List B) (known : Declared) (p : Names) → all_wanted Int (map read_product_part (map times xs)) known p ≡ [] → AllKnown known (joined (map named_in_factor (map times xs)))
+  timeses-known : (xs : List B) (known : Declared) (p : NameSet) → all_wanted Int (map read_product_part (map times xs)) known p ≡ [] → AllKnown known (joined (map named_in_factor (map times xs)))
   timeses-known [] known p h = refl
   timeses-known (x ∷ xs) known p h =
       known-append known (named_in_factor (times x)) (joined (map named_in_factor (map times xs)))
@@ -144,7 +144,7 @@ read-known =
 
 -- Calls and right sides
 
-arguments-known : (params : List Param) (es : List Expr) (known : Declared) (p : Names) → arguments params es known p ≡ [] → AllKnown known (named_in_all es)
+arguments-known : (params : List Param) (es : List Expr) (known : Declared) (p : NameSet) → arguments params es known p ≡ [] → AllKnown known (named_in_all es)
 arguments-known params [] known p h = refl
 arguments-known [] (e ∷ es) known p h =
     known-append known (named_in e) (named_in_all es) (read-known e known p (nothing_left ((read e).violations known p) (arguments [] es known p) h))
@@ -154,23 +154,23 @@ arguments-known (q ∷ params) (e ∷ es) known p h =
     (read-known e known p (wanted-left q.kind (read e) known p (nothing_left (wanted q.kind (read e) known p) (arguments params es known p) h)))
     (arguments-known params es known p (nothing_right (wanted q.kind (read e) known p) (arguments params es known p) h))
 
-pub call-known : (o : Option Function) (c : CallText) (known : Declared) (p : Names) → call_of o c known p ≡ [] → AllKnown known (named_in_all c.args)
+pub call-known : (o : Option Function) (c : CallText) (known : Declared) (p : NameSet) → call_of o c known p ≡ [] → AllKnown known (named_in_all c.args)
 call-known None c known p h = arguments-known [] c.args known p (nothing_right (unknown_function c.name) (arguments [] c.args known p) h)
 call-known (Some f) c known p h =
     arguments-known f.params c.args known p (nothing_right (wrong_number_of_arguments (nat_eq (length f.params) (length c.args)) c.name) (arguments f.params c.args known p) h)
 
-loop-arguments-known : (params : List Param) (c : CallText) (known : Declared) (p : Names) → loop_arguments params c known p ≡ [] → AllKnown known (named_in_all c.args)
+loop-arguments-known : (params : List Param) (c : CallText) (known : Declared) (p : NameSet) → loop_arguments params c known p ≡ [] → AllKnown known (named_in_all c.args)
 loop-arguments-known [] c known p h = arguments-known [] c.args known p (nothing_right (wrong_number_of_arguments false c.name) (arguments [] c.args known p) h)
 loop-arguments-known (q ∷ params) c known p h =
     arguments-known params c.args known p
     (nothing_right (wrong_number_of_arguments (nat_eq (length params) (length c.args)) c.name ++ wrong_kind Int (Some q.kind) c.name.at) (arguments params c.args known p) h)
 
-pub loop-call-known : (o : Option Function) (has_target : Bool) (c : CallText) (known : Declared) (p : Names) → loop_call_of o has_target c known p ≡ [] → AllKnown known (named_in_all c.args)
+pub loop-call-known : (o : Option Function) (has_target : Bool) (c : CallText) (known : Declared) (p : NameSet) → loop_call_of o has_target c known p ≡ [] → AllKnown known (named_in_all c.args)
 loop-call-known None has_target c known p h = arguments-known [] c.args known p (nothing_right (unknown_function c.name) (arguments [] c.args known p) h)
 loop-call-known (Some f) has_target c known p h =
     loop-arguments-known f.params c known p (nothing_right (wrong_kind Int (taken_kind has_target f.answer) c.name.at) (loop_arguments f.params c known p) h)
 
-pub target-known : (target : Option Name) (known : Declared) (p : Names) → target_use target known p ≡ [] → AllKnown known (named_in_target target)
+pub target-known : (target : Option Name) (known : Declared) (p : NameSet) → target_use target known p ≡ [] → AllKnown known (named_in_target target)
 target-known None known p h = refl
 target-known (Some x) known p h = known-cons known x [] (array-known (known.what x.bytes) p x h) refl
 
@@ -181,6 +181,6 @@ right-known functions (right.New at) known p h = refl
 right-known functions (right.Call at c) known p h = call-known (function_named functions c.name.bytes) c known p h
 right-known functions (right.Spawn at c) known p h = call-known (function_named functions c.name.bytes) c known p h
 
-pub wanted-as-left : (kind : Option Kind) (r : Reading) (known : Declared) (p : Names) → wanted_as kind r known p ≡ [] → r.violations known p ≡ []
+pub wanted-as-left : (kind : Option Kind) (r : Reading) (known : Declared) (p : NameSet) → wanted_as kind r known p ≡ [] → r.violations known p ≡ []
 wanted-as-left None r known p h = h
 wanted-as-left (Some kind) r known p h = wanted-left kind r known p h

@@ -4,7 +4,7 @@ use Rattle.script_grammar.specs.declared.tree.Function.{Function}
 use Rattle.script_grammar.specs.declared.tree.Stmt.{Stmt}
 use Rattle.script_check.specs.declared.findings.Violation.{Violation}
 use Rattle.script_check.specs.Violations.{noted}
-use Rattle.script_check.specs.Names.{Names, nobody, only, both}
+use Rattle.script_check.specs.Names.{NameSet, no_names, names_if, union}
 use Rattle.script_grammar.specs.declared.tree.Kind.TheVariants.{Int}
 use Rattle.script_check.specs.Rules.{Declared}
 use Rattle.script_check.specs.Expressions.{Violations, Reading, wanted}
@@ -43,13 +43,13 @@ one_judged functions in_block ss i s state next before now h is e n =
     rest = violations_each (judge_all (drop (i + 1) ss)) (context functions in_block)
 
 -- the sets at the end of an `if` and at the beginning of a `while`
-pub if_names : (a b : List Stmt) (kept : Bool) (p : Names) → kept ≡ (keeps_all a || keeps_all b) →
-    both (after b nobody) (both (after a nobody) (only kept p)) ≡ both (after a p) (after b p)
+pub if_names : (a b : List Stmt) (kept : Bool) (p : NameSet) → kept ≡ (keeps_all a || keeps_all b) →
+    union (after b no_names) (union (after a no_names) (names_if kept p)) ≡ union (after a p) (after b p)
 if_names a b kept p e i x =
-    (ap (λ k. after b nobody x || (after a nobody x || (k && p x))) e
-    ∙ cases (after a nobody x) (after b nobody x) (keeps_all a) (keeps_all b) (p x)
-    ∙ ap (λ z. z || (after b nobody x || (keeps_all b && p x))) (sym (linear_all a nobody p x))
-    ∙ ap (λ z. after a p x || z) (sym (linear_all b nobody p x))) i
+    (ap (λ k. after b no_names x || (after a no_names x || (k && p x))) e
+    ∙ cases (after a no_names x) (after b no_names x) (keeps_all a) (keeps_all b) (p x)
+    ∙ ap (λ z. z || (after b no_names x || (keeps_all b && p x))) (sym (linear_all a no_names p x))
+    ∙ ap (λ z. after a p x || z) (sym (linear_all b no_names p x))) i
   where
     cases : (g h k j p : Bool) → (h || (g || ((k || j) && p))) ≡ ((g || (k && p)) || (h || (j && p)))
     cases true true k j p = refl
@@ -65,7 +65,7 @@ if_names a b kept p e i x =
     cases false false true false false = refl
     cases false false false j p = refl
 
-pub while_names : (body : List Stmt) (p : Names) → both (after body nobody) p ≡ both p (after body p)
+pub while_names : (body : List Stmt) (p : NameSet) → union (after body no_names) p ≡ union p (after body p)
 while_names body p i x = sym (loop_set body p x) i
 
 module _ (functions : List Function) (a : List Stmt) where
@@ -74,16 +74,16 @@ module _ (functions : List Function) (a : List Stmt) where
 
 module _ (functions : List Function) (a b : List Stmt) where
   pub if_state : (kept : Bool) (state first second last : WalkState) → first ≡ with_known functions a state → second ≡ with_known functions b first →
-      last ≡ record second { names = both (after a second.names) (after b second.names); keeps = kept && second.keeps } → kept ≡ (keeps_all a || keeps_all b) →
+      last ≡ record second { names = union (after a second.names) (after b second.names); keeps = kept && second.keeps } → kept ≡ (keeps_all a || keeps_all b) →
       last ≡ record {
         known = known_each (judge_all b) functions (known_each (judge_all a) functions state.known);
-        names = both (after a state.names) (after b state.names);
+        names = union (after a state.names) (after b state.names);
         keeps = (keeps_all a || keeps_all b) && state.keeps;
         before = state.before;
       }
   if_state kept state first second last f s l k =
-      l ∙ ap (λ (t : WalkState). record t { names = both (after a t.names) (after b t.names); keeps = kept && t.keeps }) (s ∙ ap (with_known functions b) f)
-      ∙ ap (λ n. record (with_known functions b (with_known functions a state)) { names = both (after a state.names) (after b state.names); keeps = n && state.keeps }) k
+      l ∙ ap (λ (t : WalkState). record t { names = union (after a t.names) (after b t.names); keeps = kept && t.keeps }) (s ∙ ap (with_known functions b) f)
+      ∙ ap (λ n. record (with_known functions b (with_known functions a state)) { names = union (after a state.names) (after b state.names); keeps = n && state.keeps }) k
 
   pub if_violations : (in_block : Bool) (condition : List Violation) (state next : WalkState) (found first second third : Option Violation) →
       first ≡ noted found condition →
@@ -99,25 +99,25 @@ module _ (functions : List Function) (a b : List Stmt) where
 
 module _ (functions : List Function) (a : List Stmt) where
   abbrev pub with_loop_set : WalkState → WalkState
-  with_loop_set state = record state { names = both state.names (after a state.names) }
+  with_loop_set state = record state { names = union state.names (after a state.names) }
 
   pub while_state : (state first last : WalkState) → first ≡ with_loop_set state → last ≡ with_known functions a first → last ≡ with_known functions a (with_loop_set state)
   while_state state first last f l = l ∙ ap (with_known functions a) f
 
   -- the sets of the loop as they were found
-  pub while_violations : (condition : Reading) (known known' : Declared) (p q : Names) (found first second : Option Violation) →
-      known' ≡ known → q ≡ both p (after a p) → first ≡ noted found (wanted Int condition known' q) →
+  pub while_violations : (condition : Reading) (known known' : Declared) (p q : NameSet) (found first second : Option Violation) →
+      known' ≡ known → q ≡ union p (after a p) → first ≡ noted found (wanted Int condition known' q) →
       second ≡ noted first (violations_each (judge_all a) (context functions true) known' q) →
-      second ≡ noted found (wanted Int condition known (both p (after a p)) ++ violations_each (judge_all a) (context functions true) known (both p (after a p)))
+      second ≡ noted found (wanted Int condition known (union p (after a p)) ++ violations_each (judge_all a) (context functions true) known (union p (after a p)))
   while_violations condition known known' p q found first second k e f s =
       after_two found first second (wanted Int condition known' q) (violations_each (judge_all a) (context functions true) known' q) _ f s refl
       ∙ ap (λ (m : Declared). noted found (wanted Int condition m q ++ violations_each (judge_all a) (context functions true) m q)) k
-      ∙ ap (λ (r : Names). noted found (wanted Int condition known r ++ violations_each (judge_all a) (context functions true) known r)) e
+      ∙ ap (λ (r : NameSet). noted found (wanted Int condition known r ++ violations_each (judge_all a) (context functions true) known r)) e
 
   -- a scope: what its block makes known, and after its sync nothing is pending
-  pub scope_state : (state first last : WalkState) → first ≡ with_known functions a state → last ≡ record first { names = nobody; keeps = false } →
-      last ≡ record (with_known functions a state) { names = nobody; keeps = false }
-  scope_state state first last f l = l ∙ ap (λ (t : WalkState). record t { names = nobody; keeps = false }) f
+  pub scope_state : (state first last : WalkState) → first ≡ with_known functions a state → last ≡ record first { names = no_names; keeps = false } →
+      last ≡ record (with_known functions a state) { names = no_names; keeps = false }
+  scope_state state first last f l = l ∙ ap (λ (t : WalkState). record t { names = no_names; keeps = false }) f
 
 -- a statement of which this is told
 pub after_by : (functions : List Function) (s : Stmt) (j : Judged) (kept : Bool) (state : WalkState) → judge s ≡ j → keeps s ≡ kept →

@@ -4,14 +4,14 @@ use Rattle.script_grammar.specs.declared.tree.Param.{Param}
 use Rattle.script_grammar.specs.declared.tree.Expr.{Expr}
 use Rattle.script_check.specs.declared.findings.Violation.{Violation}
 use Rattle.script_check.specs.Violations.{noted}
-use Rattle.script_check.specs.Names.{Names}
+use Rattle.script_check.specs.Names.{NameSet}
 use Rattle.script_check.specs.Rules.{Declared}
 use Rattle.script_check.specs.Expressions.{read, wanted}
 use Rattle.script_check.specs.Statements.{arguments}
 use Rattle.script_check.proofs.LeastViolation.Noted.{noted_append}
 use Rattle.script_check.proofs.Walk.Reading.{at_index}
 
-module _ (params : List Param) (args : List Expr) (i : ℕ) (e : Expr) (k : Declared) (p : Names) (before now : Option Violation) (h : i < length args) (is : e ≡ get_or args i e) where
+module _ (params : List Param) (args : List Expr) (i : ℕ) (e : Expr) (k : Declared) (p : NameSet) (before now : Option Violation) (h : i < length args) (is : e ≡ get_or args i e) where
   pub with_parameter : (q : Param) → drop i params ≡ q ∷ drop (i + 1) params → now ≡ noted before (wanted q.kind (read e) k p) →
       noted now (arguments (drop (i + 1) params) (drop (i + 1) args) k p) ≡ noted before (arguments (drop i params) (drop i args) k p)
   with_parameter q d n =

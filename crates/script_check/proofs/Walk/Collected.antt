@@ -8,7 +8,7 @@ use Rattle.std.proofs.lemmas.Bool.{cases_Bool, cond-true, cond-false}
 use Rattle.std.proofs.lemmas.Bool.{true≢false}
 use Rattle.script_grammar.specs.declared.tree.Stmt.{Stmt}
 use Rattle.script_check.specs.Tables.{Table, with_first}
-use Rattle.script_check.specs.Names.{Names, nobody, both, with_name}
+use Rattle.script_check.specs.Names.{NameSet, no_names, union, with_name}
 use Rattle.script_check.specs.Statements.{judge, after}
 use Rattle.script_check.specs.Walk.{WalkState, names_of, keeps, keeps_all}
 use Rattle.script_check.proofs.Walk.Reading.{at_index}
@@ -37,14 +37,14 @@ names_added {A} table x entry i y = pointwise y i
         (cases_Bool (is_some (table.what x)))
 
 -- a set that has what is added, first or last
-pub alone : (x : List ℕ) (p : Names) → with_name x p ≡ both (with_name x nobody) p
+pub alone : (x : List ℕ) (p : NameSet) → with_name x p ≡ union (with_name x no_names) p
 alone x p i y = cases (bytes_eq x y) (p y) i
   where
     cases : (b c : Bool) → (b || c) ≡ ((b || false) || c)
     cases true c = refl
     cases false c = refl
 
-pub two_sets : (a b p : Names) → both b (both a p) ≡ both (both a b) p
+pub two_sets : (a b p : NameSet) → union b (union a p) ≡ union (union a b) p
 two_sets a b p i y = cases (a y) (b y) (p y) i
   where
     cases : (a b c : Bool) → (b || (a || c)) ≡ ((a || b) || c)
@@ -57,26 +57,26 @@ two_sets a b p i y = cases (a y) (b y) (p y) i
 pub kept_more : (ss : List Stmt) (i j : ℕ) (s : Stmt) → i ≡ j + 1 → j < length ss → s ≡ get_or ss j s → keeps_all (drop j ss) ≡ (keeps s && keeps_all (drop i ss))
 kept_more ss i j s n h e = ap keeps_all (at_index ss j s h e) ∙ ap (λ k. keeps s && keeps_all (drop k ss)) (sym n)
 
-pub collected_more : (ss : List Stmt) (i j : ℕ) (s : Stmt) (before now next : Names) → i ≡ j + 1 → j < length ss → s ≡ get_or ss j s →
-    keeps_all (drop i ss) ≡ true → now ≡ both (after (drop i ss) nobody) before → next ≡ both ((judge s).after nobody) now →
-    next ≡ both (after (drop j ss) nobody) before
+pub collected_more : (ss : List Stmt) (i j : ℕ) (s : Stmt) (before now next : NameSet) → i ≡ j + 1 → j < length ss → s ≡ get_or ss j s →
+    keeps_all (drop i ss) ≡ true → now ≡ union (after (drop i ss) no_names) before → next ≡ union ((judge s).after no_names) now →
+    next ≡ union (after (drop j ss) no_names) before
 collected_more ss i j s before now next n h e kept was is =
-    is ∙ ap (both ((judge s).after nobody)) was
+    is ∙ ap (union ((judge s).after no_names)) was
     ∙ (λ t x. pointwise x t)
-    ∙ ap (λ k. both (after (s ∷ drop k ss) nobody) before) n
-    ∙ ap (λ l. both (after l nobody) before) (sym (at_index ss j s h e))
+    ∙ ap (λ k. union (after (s ∷ drop k ss) no_names) before) n
+    ∙ ap (λ l. union (after l no_names) before) (sym (at_index ss j s h e))
   where
     cases : (a b c k : Bool) → k ≡ true → (a || (b || c)) ≡ ((b || (k && a)) || c)
     cases a true c k e = elim a as (λ z. (z || true) ≡ true) [ true ↦ refl | false ↦ refl ]
     cases a false c k e = ap (λ z. z || c) (sym (ap (λ z. z && a) e))
 
-    pointwise : (x : List ℕ) → ((judge s).after nobody x || (after (drop i ss) nobody x || before x)) ≡ (after (drop i ss) ((judge s).after nobody) x || before x)
+    pointwise : (x : List ℕ) → ((judge s).after no_names x || (after (drop i ss) no_names x || before x)) ≡ (after (drop i ss) ((judge s).after no_names) x || before x)
     pointwise x =
-        cases ((judge s).after nobody x) (after (drop i ss) nobody x) (before x) (keeps_all (drop i ss)) kept
-        ∙ ap (λ b. b || before x) (sym (linear_all (drop i ss) nobody ((judge s).after nobody) x))
+        cases ((judge s).after no_names x) (after (drop i ss) no_names x) (before x) (keeps_all (drop i ss)) kept
+        ∙ ap (λ b. b || before x) (sym (linear_all (drop i ss) no_names ((judge s).after no_names) x))
 
-pub stops : (ss : List Stmt) (j : ℕ) (p : Names) (x : List ℕ) → keeps_all (drop j ss) ≡ false → after ss p x ≡ after (drop j ss) nobody x
-stops ss zero p x h = linear_all ss nobody p x ∙ ap (λ b. after ss nobody x || (b && p x)) h ∙ cases (after ss nobody x)
+pub stops : (ss : List Stmt) (j : ℕ) (p : NameSet) (x : List ℕ) → keeps_all (drop j ss) ≡ false → after ss p x ≡ after (drop j ss) no_names x
+stops ss zero p x h = linear_all ss no_names p x ∙ ap (λ b. after ss no_names x || (b && p x)) h ∙ cases (after ss no_names x)
   where
     cases : (b : Bool) → (b || false) ≡ b
     cases true = refl
@@ -84,8 +84,8 @@ stops ss zero p x h = linear_all ss nobody p x ∙ ap (λ b. after ss nobody x |
 stops [] (suc j) p x h = absurd (true≢false h)
 stops (s ∷ ss) (suc j) p x h = stops ss j ((judge s).after p) x h
 
-pub stops_all : (ss : List Stmt) (j : ℕ) (before now : Names) → keeps_all (drop j ss) ≡ false → now ≡ both (after (drop j ss) nobody) before → now ≡ both (after ss nobody) before
-stops_all ss j before now h e = e ∙ (λ i x. sym (stops ss j nobody x h) i || before x)
+pub stops_all : (ss : List Stmt) (j : ℕ) (before now : NameSet) → keeps_all (drop j ss) ≡ false → now ≡ union (after (drop j ss) no_names) before → now ≡ union (after ss no_names) before
+stops_all ss j before now h e = e ∙ (λ i x. sym (stops ss j no_names x h) i || before x)
 
 pub keeps_none : (ss : List Stmt) (j : ℕ) → keeps_all (drop j ss) ≡ false → keeps_all ss ≡ false
 keeps_none ss zero h = h
@@ -98,13 +98,13 @@ keeps_none (s ∷ ss) (suc j) h = ap (λ b. keeps s && b) (keeps_none ss j h) �
 
 -- the same of the walk's state, of which only the pending set changes
 pub one_more : (ss : List Stmt) (i j : ℕ) (s : Stmt) (before now next : WalkState) → i ≡ j + 1 → j < length ss → s ≡ get_or ss j s →
-    keeps_all (drop i ss) ≡ true → now ≡ record before { names = both (after (drop i ss) nobody) before.names } →
-    next ≡ record now { names = both ((judge s).after nobody) now.names } →
-    next ≡ record before { names = both (after (drop j ss) nobody) before.names }
+    keeps_all (drop i ss) ≡ true → now ≡ record before { names = union (after (drop i ss) no_names) before.names } →
+    next ≡ record now { names = union ((judge s).after no_names) now.names } →
+    next ≡ record before { names = union (after (drop j ss) no_names) before.names }
 one_more ss i j s before now next n h e kept was is =
-    is ∙ ap (λ (t : WalkState). record t { names = both ((judge s).after nobody) t.names }) was
-    ∙ ap (λ (p : Names). record before { names = p }) (collected_more ss i j s before.names _ _ n h e kept refl refl)
+    is ∙ ap (λ (t : WalkState). record t { names = union ((judge s).after no_names) t.names }) was
+    ∙ ap (λ (p : NameSet). record before { names = p }) (collected_more ss i j s before.names _ _ n h e kept refl refl)
 
 pub all_of_it : (ss : List Stmt) (j : ℕ) (before now : WalkState) → keeps_all (drop j ss) ≡ false →
-    now ≡ record before { names = both (after (drop j ss) nobody) before.names } → now ≡ record before { names = both (after ss nobody) before.names }
-all_of_it ss j before now h e = e ∙ ap (λ (p : Names). record before { names = p }) (stops_all ss j before.names _ h refl)
+    now ≡ record before { names = union (after (drop j ss) no_names) before.names } → now ≡ record before { names = union (after ss no_names) before.names }
+all_of_it ss j before now h e = e ∙ ap (λ (p : NameSet). record before { names = p }) (stops_all ss j before.names _ h refl)

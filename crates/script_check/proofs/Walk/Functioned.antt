@@ -5,7 +5,7 @@ use Rattle.script_check.specs.declared.findings.Violation.{Violation}
 use Rattle.script_grammar.specs.declared.tree.Script.{Script}
 use Rattle.script_check.specs.Violations.{violation, noted}
 use Rattle.script_check.specs.Tables.{no_entries}
-use Rattle.script_check.specs.Names.{nobody}
+use Rattle.script_check.specs.Names.{no_names}
 use Rattle.script_check.specs.Rules.{Declared}
 use Rattle.script_check.specs.Expressions.{read, wanted}
 use Rattle.script_check.specs.Statements.{context, judge_all, known_each, violations_each}
@@ -17,15 +17,15 @@ use Rattle.script_check.proofs.LeastViolation.Noted.{noted_append, after_three}
 use Rattle.script_check.proofs.Walk.Reading.{at_index}
 
 pub function_judged : (fs : List Function) (f : Function) (new params body end : WalkState) (found first second third : Option Violation) →
-    new.known ≡ no_entries → new.names ≡ nobody →
+    new.known ≡ no_entries → new.names ≡ no_names →
     params ≡ record new { known = known_params f.params new.known } → first ≡ noted found (param_violations f.params new.known) →
     body ≡ state_after_all fs f.body params → second ≡ noted first (violations_each (judge_all f.body) (context fs false) params.known params.names) →
-    end ≡ record body { names = nobody; keeps = false } → third ≡ noted second (wanted f.answer (read f.result) end.known end.names) →
+    end ≡ record body { names = no_names; keeps = false } → third ≡ noted second (wanted f.answer (read f.result) end.known end.names) →
     third ≡ noted found (function_violations fs f)
 function_judged fs f new params body end found first second third k p s1 f1 s2 f2 s3 f3 =
     after_three found first second third (param_violations f.params no_entries)
-    (violations_each (judge_all f.body) (context fs false) (known_params f.params no_entries) nobody)
-    (wanted f.answer (read f.result) (known_each (judge_all f.body) fs (known_params f.params no_entries)) nobody) (function_violations fs f)
+    (violations_each (judge_all f.body) (context fs false) (known_params f.params no_entries) no_names)
+    (wanted f.answer (read f.result) (known_each (judge_all f.body) fs (known_params f.params no_entries)) no_names) (function_violations fs f)
     (f1 ∙ ap (λ (m : Declared). noted found (param_violations f.params m)) k)
     (f2 ∙ (λ i. noted first (violations_each (judge_all f.body) (context fs false) (known1 i) (pending1 i))))
     (f3 ∙ (λ i. noted second (wanted f.answer (read f.result) (known3 i) (pending3 i))))
@@ -34,13 +34,13 @@ function_judged fs f new params body end found first second third k p s1 f1 s2 f
     known1 : params.known ≡ known_params f.params no_entries
     known1 = ap (λ (s : WalkState). s.known) s1 ∙ ap (known_params f.params) k
 
-    pending1 : params.names ≡ nobody
+    pending1 : params.names ≡ no_names
     pending1 = ap (λ (s : WalkState). s.names) s1 ∙ p
 
     known3 : end.known ≡ known_each (judge_all f.body) fs (known_params f.params no_entries)
     known3 = ap (λ (s : WalkState). s.known) s3 ∙ ap (λ (s : WalkState). s.known) s2 ∙ ap (known_each (judge_all f.body) fs) known1
 
-    pending3 : end.names ≡ nobody
+    pending3 : end.names ≡ no_names
     pending3 = ap (λ (s : WalkState). s.names) s3
 
 pub one_function : (functions fs : List Function) (i : ℕ) (f : Function) (before now : Option Violation) → i < length fs → f ≡ get_or fs i f →

@@ -4,7 +4,7 @@ use Rattle.std.proofs.lemmas.List.{at_drop_more}
 use Rattle.script_grammar.specs.declared.tree.Kind.TheVariants.{Int}
 use Rattle.script_check.specs.declared.findings.Violation.{Violation}
 use Rattle.script_check.specs.Violations.{noted}
-use Rattle.script_check.specs.Names.{Names}
+use Rattle.script_check.specs.Names.{NameSet}
 use Rattle.script_check.specs.Rules.{Declared}
 use Rattle.script_check.specs.Expressions.{Reading, wanted, all_wanted}
 use Rattle.script_check.proofs.LeastViolation.Noted.{noted_append}
@@ -13,7 +13,7 @@ use Rattle.script_check.proofs.LeastViolation.Noted.{noted_append}
 pub at_index : {A : Type 0} (xs : List A) (i : ℕ) (x : A) → i < length xs → x ≡ get_or xs i x → drop i xs ≡ x ∷ drop (i + 1) xs
 at_index xs i x h e = at_drop_more (λ l. l) xs i x h ∙ ap (λ y. y ∷ drop (i + 1) xs) (sym e)
 
-pub one_part : {A : Type 0} (see : A → Reading) (k : Declared) (p : Names) (xs : List A) (i : ℕ) (x : A) (before now : Option Violation) → i < length xs → x ≡ get_or xs i x →
+pub one_part : {A : Type 0} (see : A → Reading) (k : Declared) (p : NameSet) (xs : List A) (i : ℕ) (x : A) (before now : Option Violation) → i < length xs → x ≡ get_or xs i x →
     now ≡ noted before (wanted Int (see x) k p) →
     noted now (all_wanted Int (map see (drop (i + 1) xs)) k p) ≡ noted before (all_wanted Int (map see (drop i xs)) k p)
 one_part see k p xs i x before now h e n =

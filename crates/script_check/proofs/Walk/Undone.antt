@@ -9,11 +9,11 @@ use Rattle.std.proofs.lemmas.Bool.{cases_Bool}
 use Rattle.script_check.specs.declared.symbols.Change.{Change}
 use Rattle.script_check.specs.declared.symbols.Change.TheVariants.{Added}
 use Rattle.script_check.specs.Tables.{Table}
-use Rattle.script_check.specs.Names.{Names, with_name}
+use Rattle.script_check.specs.Names.{NameSet, with_name}
 use Rattle.script_check.specs.Walk.{names_of, without_name, undo, undone}
 
 -- the last change is undone first
-pub undone_last : (cs : List Change) (c : Change) (p : Names) → undone (cs ++ c ∷ []) p ≡ undone cs (undo c p)
+pub undone_last : (cs : List Change) (c : Change) (p : NameSet) → undone (cs ++ c ∷ []) p ≡ undone cs (undo c p)
 undone_last [] c p = refl
 undone_last (d ∷ cs) c p = ap (undo d) (undone_last cs c p)
 
@@ -26,11 +26,11 @@ names_without {A} table what x e = ap (λ (f : List ℕ → Option A). λ (y : L
     pick true o = refl
     pick false o = refl
 
-same_test : (x y : List ℕ) (p : Names) → bytes_eq x y ≡ true → p y ≡ p x
+same_test : (x y : List ℕ) (p : NameSet) → bytes_eq x y ≡ true → p y ≡ p x
 same_test x y p h = ap p (sym ((bytes_decides x y).0 h))
 
 -- a name that came into the set and is taken out again
-pub in_and_out : (x : List ℕ) (p : Names) → p x ≡ false → without_name x (with_name x p) ≡ p
+pub in_and_out : (x : List ℕ) (p : NameSet) → p x ≡ false → without_name x (with_name x p) ≡ p
 in_and_out x p e i y =
     ⊎_elim
     (λ h. ap (λ b. not b && (b || p y)) h ∙ sym (same_test x y p h ∙ e))
@@ -38,14 +38,14 @@ in_and_out x p e i y =
     (cases_Bool (bytes_eq x y)) i
 
 -- a change more
-pub one_change : (cs ds : List Change) (c : Change) (p q : Names) → ds ≡ cs ++ c ∷ [] → undo c q ≡ p → undone ds q ≡ undone cs p
+pub one_change : (cs ds : List Change) (c : Change) (p q : NameSet) → ds ≡ cs ++ c ∷ [] → undo c q ≡ p → undone ds q ≡ undone cs p
 one_change cs ds c p q d e = ap (λ (l : List Change). undone l q) d ∙ undone_last cs c q ∙ ap (undone cs) e
 
-pub one_added : (cs ds : List Change) (key : Vec ℕ) (x : List ℕ) (p q : Names) → ds ≡ cs ++ Added key ∷ [] → key.items ≡ x → q ≡ with_name x p → p x ≡ false →
+pub one_added : (cs ds : List Change) (key : Vec ℕ) (x : List ℕ) (p q : NameSet) → ds ≡ cs ++ Added key ∷ [] → key.items ≡ x → q ≡ with_name x p → p x ≡ false →
     undone ds q ≡ undone cs p
 one_added cs ds key x p q d k n e =
     one_change cs ds (Added key) p q d ((λ i. without_name (k i) (n i)) ∙ in_and_out x p e)
 
 -- a change fewer
-pub one_undone : (cs ds es : List Change) (c : Change) (p q : Names) → cs ≡ ds ++ c ∷ [] → es ≡ ds → q ≡ undo c p → undone es q ≡ undone cs p
+pub one_undone : (cs ds es : List Change) (c : Change) (p q : NameSet) → cs ≡ ds ++ c ∷ [] → es ≡ ds → q ≡ undo c p → undone es q ≡ undone cs p
 one_undone cs ds es c p q d e n = (λ i. undone (e i) (n i)) ∙ sym (undone_last ds c p) ∙ ap (λ (l : List Change). undone l p) (sym d)

@@ -23,7 +23,7 @@ use Rattle.script_grammar.specs.declared.tree.Act.TheFolds.{fold-Act}
 use Rattle.serial_meaning.specs.Runs.{◌>>=◌}
 use Rattle.serial_meaning.specs.Trees.{stated}
 use Rattle.serial_meaning.specs.Functions.{act_spawns, spawns}
-use Rattle.serial_meaning.specs.Values.{Meaning, Env, slot_of, scalar, items_of, number, object, truth, item, compared, sums, products, value_at, product_at, sum_at, value_of, sum_part, product_part}
+use Rattle.serial_meaning.specs.Values.{Meaning, Env, slot_of, scalar, items_of, as_integer, object, truth, item, compared, sums, products, value_at, product_at, sum_at, value_of, sum_part, product_part}
 use Rattle.serial_meaning.specs.declared.value.Value.TheVariants.{Int}
 
 value_of-roll : (d : Expr-F Expr ProductPart SumPart) (env : Env) → value_of (roll-Expr d) env ≡ value_at (map-Expr Expr ProductPart SumPart Meaning (ProductSign × Meaning) (Bool × Meaning) value_of product_part sum_part d) env
@@ -37,10 +37,10 @@ value_of-number n env = ap (λ e. value_of e env) (sym (expr.rolls-Number n)) �
 pub value_of-variable : (x : Name) (env : Env) → value_of (expr.Var x) env ≡ Ok (scalar (slot_of env x.bytes))
 value_of-variable x env = ap (λ e. value_of e env) (sym (expr.rolls-Var x)) ∙ value_of-roll (node.Var x) env
 
-pub value_of-item : (x : Name) (i : Expr) (env : Env) → value_of (expr.Item x i) env ≡ (value_of i env >>= λ v. item (items_of (slot_of env x.bytes)) (number v))
+pub value_of-item : (x : Name) (i : Expr) (env : Env) → value_of (expr.Item x i) env ≡ (value_of i env >>= λ v. item (items_of (slot_of env x.bytes)) (as_integer v))
 value_of-item x i env = ap (λ e. value_of e env) (sym (expr.rolls-Item x i)) ∙ value_of-roll (node.Item x i) env
 
-pub value_of-negation : (at : ℕ) (e : Expr) (env : Env) → value_of (expr.Neg at e) env ≡ (value_of e env >>= λ v. Ok (Int (int_wrapping_neg w64 (number v))))
+pub value_of-negation : (at : ℕ) (e : Expr) (env : Env) → value_of (expr.Neg at e) env ≡ (value_of e env >>= λ v. Ok (Int (int_wrapping_neg w64 (as_integer v))))
 value_of-negation at e env = ap (λ d. value_of d env) (sym (expr.rolls-Neg at e)) ∙ value_of-roll (node.Neg at e) env
 
 pub value_of-same : (at : ℕ) (a b : Expr) (env : Env) → value_of (expr.Same at a b) env ≡ (value_of a env >>= λ x. value_of b env >>= λ y. Ok (truth (bytes_eq (object x) (object y))))
@@ -49,7 +49,7 @@ value_of-same at a b env = ap (λ e. value_of e env) (sym (expr.rolls-Same at a 
 pub value_of-older : (at : ℕ) (a b : Expr) (env : Env) → value_of (expr.Older at a b) env ≡ (value_of a env >>= λ x. value_of b env >>= λ y. Ok (truth (is_lt (slice_cmp nat_cmp (object x) (object y)))))
 value_of-older at a b env = ap (λ e. value_of e env) (sym (expr.rolls-Older at a b)) ∙ value_of-roll (node.Older at a b) env
 
-pub value_of-comparison : (a : Expr) (how : Comparison) (b : Expr) (env : Env) → value_of (expr.Compare a how b) env ≡ (value_of a env >>= λ x. value_of b env >>= λ y. Ok (truth (compared how (number x) (number y))))
+pub value_of-comparison : (a : Expr) (how : Comparison) (b : Expr) (env : Env) → value_of (expr.Compare a how b) env ≡ (value_of a env >>= λ x. value_of b env >>= λ y. Ok (truth (compared how (as_integer x) (as_integer y))))
 value_of-comparison a how b env = ap (λ e. value_of e env) (sym (expr.rolls-Compare a how b)) ∙ value_of-roll (node.Compare a how b) env
 
 pub value_of-sum : (first : Expr) (rest : List SumPart) (env : Env) → value_of (expr.Sum first rest) env ≡ (value_of first env >>= λ v. sums env v (map sum_part rest))

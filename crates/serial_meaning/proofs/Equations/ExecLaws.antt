@@ -3,9 +3,9 @@ use Rattle.std.proofs.Common.{◌≡◌, ℕ, zero, suc, ◌+◌, ◌-◌, ◌�
 use Rattle.std.proofs.Common.{ℤ, ◌-ℤ◌}
 use Rattle.serial_meaning.proofs.Equations.RunLaws.{then-then, then-same, Gives, then-gives, anything, gives-at}
 use Rattle.serial_meaning.specs.Runs.{Run, done, after_items, ◌then◌}
-use Rattle.serial_meaning.specs.Values.{value_of, values_of, slot_of, items_of, number, is_true, at_index}
+use Rattle.serial_meaning.specs.Values.{value_of, values_of, slot_of, items_of, as_integer, is_true, at_index}
 use Rattle.serial_meaning.specs.Functions.{number_of, function_at, any_spawns}
-use Rattle.serial_meaning.specs.Exec.{State, Manner, BlockMeaning, strand, fault, given, paid, paid_from, tested, has_room, fits_depth, spawn, join, join_at, leaves, shown, implied, returned, frame, called, right_side, found, store, looped, does, statement, each, statements, exec, count_of, set_scalar, bound}
+use Rattle.serial_meaning.specs.Exec.{State, Manner, BlockMeaning, strand, fault, unless_fault, paid, paid_from, tested, has_room, fits_depth, spawn, join, join_at, leaves, shown, implied, returned, frame, called, right_side, found, store, looped, does, statement, each, statements, exec, count_of, set_scalar, bound}
 use Rattle.script_grammar.specs.declared.tree.Function.{Function}
 use Rattle.script_grammar.specs.declared.tree.CallText.{CallText}
 use Rattle.script_grammar.specs.declared.tree.Expr.{Expr}
@@ -51,7 +51,7 @@ module _ {I E K : Type 0} (how : Manner I E K) (plan : PlanView) (path : List �
   Alike n b c = (here : List ℕ) (calls : ℕ) (sts : List Stmt) (s : State K) → s.steps ≤ n → b here calls sts s ≡ c here calls sts s
 
   given-same : {A B : Type 0} (o : Result A FaultKind) (s : State K) (f g : A → Run I E B) → ((a : A) → f a ≡ g a) →
-      given how plan path o s f ≡ given how plan path o s g
+      unless_fault how plan path o s f ≡ unless_fault how plan path o s g
   given-same (Ok a) s f g same = same a
   given-same (Err k) s f g same = refl
 
@@ -85,7 +85,7 @@ module _ {I E K : Type 0} (how : Manner I E K) (plan : PlanView) (path : List �
   if-same false f g k same = refl
 
   given-gives : {A B : Type 0} (Q : B → Type 0) (o : Result A FaultKind) (s : State K) (f : A → Run I E B) → ((a : A) → Gives Q (f a).ending) →
-      Gives Q (given how plan path o s f).ending
+      Gives Q (unless_fault how plan path o s f).ending
   given-gives Q (Ok a) s f go = go a
   given-gives Q (Err k) s f go = tt
 
@@ -124,7 +124,7 @@ module _ {I E K : Type 0} (how : Manner I E K) (plan : PlanView) (path : List �
       from zero go = tt
       from (suc k) go = go k (omega arith)
 
-  ends-within : (f : Function) (s : State K) → Gives (PairWithin s.steps) (given how plan path (value_of f.result s.env) s (λ v. done (v, s))).ending
+  ends-within : (f : Function) (s : State K) → Gives (PairWithin s.steps) (unless_fault how plan path (value_of f.result s.env) s (λ v. done (v, s))).ending
   ends-within f s = given-gives (PairWithin s.steps) (value_of f.result s.env) s _ (λ v. omega arith)
 
   implied-within : (b : Bool) (s : State K) → Gives (Within s.steps) (implied how plan path b s).ending
@@ -134,7 +134,7 @@ module _ {I E K : Type 0} (how : Manner I E K) (plan : PlanView) (path : List �
   returned-within : (f : Function) (s : State K) → Gives (PairWithin s.steps) (returned how plan path f s).ending
   returned-within f s =
       paid-gives s PairWithin _ (λ k h. let s' : State K = record s { steps = k } in then-gives (Within k) (PairWithin s.steps) (implied how plan path (any_spawns f.body) s') _ (implied-within (any_spawns f.body) s')
-      (λ a g. pair-weaker a.steps s.steps (given how plan path (value_of f.result a.env) a (λ v. done (v, a))).ending (omega arith) (ends-within f a)))
+      (λ a g. pair-weaker a.steps s.steps (unless_fault how plan path (value_of f.result a.env) a (λ v. done (v, a))).ending (omega arith) (ends-within f a)))
 
   spawn-within : (t : CallText) (s : State K) → Gives (PairWithin s.steps) (spawn how plan path t s).ending
   spawn-within t s =
@@ -169,7 +169,7 @@ module _ {I E K : Type 0} (how : Manner I E K) (plan : PlanView) (path : List �
 
   store-within : (x : Name) (i e : Expr) (s : State K) → Gives (Within s.steps) (store how plan path x i e s).ending
   store-within x i e s =
-      given-gives (Within s.steps) (value_of i s.env) s _ (λ k. found-gives (Within s.steps) (at_index (items_of (slot_of s.env x.bytes)) (number k)) s _ (given-gives (Within s.steps) (value_of e s.env) s _ (λ v. omega arith)))
+      given-gives (Within s.steps) (value_of i s.env) s _ (λ k. found-gives (Within s.steps) (at_index (items_of (slot_of s.env x.bytes)) (as_integer k)) s _ (given-gives (Within s.steps) (value_of e s.env) s _ (λ v. omega arith)))
 
   looped-within : (lo : ℤ) (n : ℕ) (vs : List Value) (target : Option Name) (t : CallText) (s : State K) → Gives (Within s.steps) (looped how plan path lo n vs target t s).ending
   looped-within lo n vs target t s =
@@ -192,7 +192,7 @@ module _ {I E K : Type 0} (how : Manner I E K) (plan : PlanView) (path : List �
       (then-gives (Within s.steps) (Within s.steps) (b path calls xs s) _ (spends path calls xs s h) (λ a g. weaker a.steps s.steps (b path calls (st ∷ []) a).ending g (spends path calls (st ∷ []) a (omega arith))))
       (omega arith))
   does-within n b spends calls st (act.Pfor x lo hi target t) s h =
-      given-gives (Within s.steps) (value_of lo s.env) s _ (λ l. given-gives (Within s.steps) (value_of hi s.env) s _ (λ k. given-gives (Within s.steps) (values_of t.args s.env) s _ (λ vs. looped-within (number l) (count_of (number k -ℤ number l)) vs target t s)))
+      given-gives (Within s.steps) (value_of lo s.env) s _ (λ l. given-gives (Within s.steps) (value_of hi s.env) s _ (λ k. given-gives (Within s.steps) (values_of t.args s.env) s _ (λ vs. looped-within (as_integer l) (count_of (as_integer k -ℤ as_integer l)) vs target t s)))
   does-within n b spends calls st (act.Scope xs) s h =
       let inner : State K = record s { rank = 0 } in
       tested-gives (Within s.steps) (nat_lt (length path + 1) plan.limits.depth) Depth s _

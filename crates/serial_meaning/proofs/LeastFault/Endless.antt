@@ -10,7 +10,7 @@ use Rattle.script_grammar.specs.declared.tree.Stmt.{Stmt, out-Stmt}
 use Rattle.script_grammar.specs.declared.tree.Act.{out-Act, the_lemmas}
 use Rattle.script_grammar.specs.declared.tree.Act.TheVariants as act
 use Rattle.script_grammar.specs.declared.tree.Act.TheOpen as node
-use Rattle.serial_meaning.specs.Runs.{Run, done, stopped, after_items, ◌then◌}
+use Rattle.serial_meaning.specs.Runs.{Run, done, run_ends_by, after_items, ◌then◌}
 use Rattle.serial_meaning.specs.Values.{value_of}
 use Rattle.serial_meaning.specs.Plan.{PlanView}
 use Rattle.serial_meaning.specs.Exec.{State, Manner, fault, statement, exec, returned, instance}
@@ -123,10 +123,10 @@ module _ {I E K : Type 0} (how : Manner I E K) (n : ℕ) where
       exec-cons how (endless_plan n) (0 ∷ []) 0 (stated (act.Let (named (codes "z")) (right.Value (number 0)))) [] bad_begins
       ∙ ap (λ r. r then exec how (endless_plan n) (0 ∷ []) 0 []) bad-step ∙ exec-nil how (endless_plan n) (0 ∷ []) 0 bad_goes_on
 
-  bad-ends : returned how (endless_plan n) (0 ∷ []) bad bad_goes_on ≡ stopped (how.own divided)
+  bad-ends : returned how (endless_plan n) (0 ∷ []) bad bad_goes_on ≡ run_ends_by (how.own divided)
   bad-ends = rw (no_spawn, one_over_zero)
 
-  bad-faults : instance how (endless_plan n) (0 ∷ []) (Some bad) [] ≡ stopped (how.own divided)
+  bad-faults : instance how (endless_plan n) (0 ∷ []) (Some bad) [] ≡ run_ends_by (how.own divided)
   bad-faults =
       ap (λ (r : Run I E (State K)). (r then returned how (endless_plan n) (0 ∷ []) bad) then λ p. done p.0) bad-body
       ∙ ap (λ (r : Run I E (Value × State K)). after_items [] r then λ p. done p.0) bad-ends
@@ -160,7 +160,7 @@ module _ (n : ℕ) (child : Origin → Evaluation) (faulting : child child_origi
   lets : statement how plan [] (exec how plan) 0 (stated (act.Let (named (codes "i")) (right.Value (number 0)))) third ≡ done (turning how plan [] 0 (Some divided) n)
   lets = rw (opened_let, value_of-number)
 
-  from-third : exec how plan [] 0 (stated (act.Let (named (codes "i")) (right.Value (number 0))) ∷ endless_body) third ≡ stopped (Own spent)
+  from-third : exec how plan [] 0 (stated (act.Let (named (codes "i")) (right.Value (number 0))) ∷ endless_body) third ≡ run_ends_by (Own spent)
   from-third =
       exec-cons how plan [] 0 _ endless_body third ∙ ap (λ r. r then exec how plan [] 0 endless_body) lets ∙ rest-spins how plan [] 0 (Some divided) n
 

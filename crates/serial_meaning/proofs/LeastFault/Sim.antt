@@ -3,9 +3,9 @@ use Rattle.std.proofs.Common.{ℕ, zero, suc, ◌+◌, ◌-◌, ◌≡◌, Bool,
 use Rattle.std.proofs.Common.{ℤ, pos, ◌-ℤ◌}
 use Rattle.std.specs.Int.{w64, cast_signed}
 use Rattle.serial_meaning.specs.Runs.{Run, done, after_items, goes_on, ◌then◌}
-use Rattle.serial_meaning.specs.Values.{Env, value_of, values_of, slot_of, items_of, number, is_true, at_index}
+use Rattle.serial_meaning.specs.Values.{Env, value_of, values_of, slot_of, items_of, as_integer, is_true, at_index}
 use Rattle.serial_meaning.specs.Functions.{number_of, function_at, any_spawns}
-use Rattle.serial_meaning.specs.Exec.{State, BlockMeaning, fault, given, paid_from, tested, has_room, fits_depth, filled, spawn, leaves, scoped, implied, returned, frame, called, right_side, found, looped, does, statement, each, statements, exec, instance, count_of, set_scalar, set_array, bound}
+use Rattle.serial_meaning.specs.Exec.{State, BlockMeaning, fault, unless_fault, paid_from, tested, has_room, fits_depth, filled, spawn, leaves, scoped, implied, returned, frame, called, right_side, found, looped, does, statement, each, statements, exec, instance, count_of, set_scalar, set_array, bound}
 use Rattle.script_grammar.specs.declared.tree.Name.{Name}
 use Rattle.script_grammar.specs.declared.tree.Function.{Function}
 use Rattle.script_grammar.specs.declared.tree.CallText.{CallText}
@@ -45,7 +45,7 @@ lift_pair p = (p.0, lift p.1)
 
 module _ (plan : PlanView) (path : List ℕ) (child : Origin → Evaluation) (empty : (o : Origin) → is_empty_loop o ≡ true → child o ≡ done []) where
   given-c : {A B C : Type 0} (l : B → C) (o : Result A FaultKind) (s : State (Unit {0})) (f : A → Run Event Fault B) (g : A → Run Item NodeFault C) → ((a : A) → Cuts child l (f a) (g a)) →
-      Cuts child l (given (serial child) plan path o s f) (given (put_off_all plan child) plan path o (lift s) g)
+      Cuts child l (unless_fault (serial child) plan path o s f) (unless_fault (put_off_all plan child) plan path o (lift s) g)
   given-c l (Ok a) s f g h = h a
   given-c l (Err k) s f g h = refl
 
@@ -147,7 +147,7 @@ module _ (plan : PlanView) (path : List ℕ) (child : Origin → Evaluation) (em
     does-c calls st (act.Array x m) s = (set_array s x _, refl, refl)
     does-c calls st (act.Set x r) s = set-c calls x r s
     does-c calls st (act.Store x i e) s =
-        given-c lift (value_of i s.env) s _ _ (λ k. found-c (at_index (items_of (slot_of s.env x.bytes)) (number k)) s _ _ (given-c lift (value_of e s.env) s _ _ (λ v. (set_array s x _, refl, refl))))
+        given-c lift (value_of i s.env) s _ _ (λ k. found-c (at_index (items_of (slot_of s.env x.bytes)) (as_integer k)) s _ _ (given-c lift (value_of e s.env) s _ _ (λ v. (set_array s x _, refl, refl))))
     does-c calls st (act.Spawn t) s = cuts-then child lift_pair lift (λ p. done p.1) (λ p. done p.1) (λ p. (p.1, refl, refl)) (spawn (serial child) plan path t s) (spawn (put_off_all plan child) plan path t (lift s)) (spawn-c t s)
     does-c calls st (act.Call t) s = cuts-then child lift_pair lift (λ p. done p.1) (λ p. done p.1) (λ p. (p.1, refl, refl)) (called (serial child) plan path b calls t s) (called (put_off_all plan child) plan path c calls t (lift s)) (called-c calls t s)
     does-c calls st act.Sync s = implied-c true s
@@ -156,7 +156,7 @@ module _ (plan : PlanView) (path : List ℕ) (child : Origin → Evaluation) (em
     does-c calls st (act.While e xs) s =
         given-c lift (value_of e s.env) s _ _ (λ v. if-c lift (is_true v) _ _ _ _ (cuts-then child lift lift (b path calls (st ∷ [])) (c path calls (st ∷ [])) (fine path calls (st ∷ [])) (b path calls xs s) (c path calls xs (lift s)) (fine path calls xs s)) (s, refl, refl))
     does-c calls st (act.Pfor x lo hi target t) s =
-        given-c lift (value_of lo s.env) s _ _ (λ l. given-c lift (value_of hi s.env) s _ _ (λ h. given-c lift (values_of t.args s.env) s _ _ (λ vs. looped-c (number l) (count_of (number h -ℤ number l)) vs target t s)))
+        given-c lift (value_of lo s.env) s _ _ (λ l. given-c lift (value_of hi s.env) s _ _ (λ h. given-c lift (values_of t.args s.env) s _ _ (λ vs. looped-c (as_integer l) (count_of (as_integer h -ℤ as_integer l)) vs target t s)))
     does-c calls st (act.Scope xs) s = scoped-c calls xs s
 
   each-c : (one : Stmt → State (Unit {0}) → Run Event Fault (State (Unit {0}))) (two : Stmt → State (Option Fault) → Run Item NodeFault (State (Option Fault))) → ((st : Stmt) (s : State (Unit {0})) → Cuts child lift (one st s) (two st (lift s))) →

@@ -4,9 +4,9 @@ use Rattle.std.proofs.Common.{ℤ, pos, ◌-ℤ◌}
 use Rattle.std.specs.Int.{w64, cast_signed}
 use Rattle.serial_meaning.proofs.Equations.RunLaws.{then-then}
 use Rattle.serial_meaning.specs.Runs.{Run, done, happens, after_items, ◌then◌}
-use Rattle.serial_meaning.specs.Values.{value_of, values_of, slot_of, items_of, number, is_true, at_index}
+use Rattle.serial_meaning.specs.Values.{value_of, values_of, slot_of, items_of, as_integer, is_true, at_index}
 use Rattle.serial_meaning.specs.Functions.{number_of, function_at, any_spawns}
-use Rattle.serial_meaning.specs.Exec.{State, Manner, BlockMeaning, strand, fault, emit, given, paid_from, tested, has_room, fits_depth, filled, spawn, join, leaves, goes_out, shown, implied, returned, frame, called, right_side, found, looped, does, statement, each, statements, exec, count_of, set_scalar, set_array, bound}
+use Rattle.serial_meaning.specs.Exec.{State, Manner, BlockMeaning, strand, fault, emit, unless_fault, paid_from, tested, has_room, fits_depth, filled, spawn, join, leaves, goes_out, shown, implied, returned, frame, called, right_side, found, looped, does, statement, each, statements, exec, count_of, set_scalar, set_array, bound}
 use Rattle.script_grammar.specs.declared.tree.Name.{Name}
 use Rattle.script_grammar.specs.declared.tree.Function.{Function}
 use Rattle.script_grammar.specs.declared.tree.CallText.{CallText}
@@ -55,11 +55,11 @@ module _ {I E K : Type 0} (how : Manner I E K) (plan : PlanView) where
     Fine b = (path : List ℕ) (calls : ℕ) (sts : List Stmt) (s : State K) → P path s.rank (b path calls sts s)
 
     module _ (path : List ℕ) where
-      given-p : {A : Type 0} (o : Result A FaultKind) (s : State K) (f : A → Goes) → ((a : A) → P path s.rank (f a)) → P path s.rank (given how plan path o s f)
+      given-p : {A : Type 0} (o : Result A FaultKind) (s : State K) (f : A → Goes) → ((a : A) → P path s.rank (f a)) → P path s.rank (unless_fault how plan path o s f)
       given-p (Ok a) s f h = h a
       given-p (Err k) s f h = c.p-stop path k s
 
-      given-q : {A : Type 0} (o : Result A FaultKind) (s : State K) (f : A → Gives) → ((a : A) → Q path s.rank (f a)) → Q path s.rank (given how plan path o s f)
+      given-q : {A : Type 0} (o : Result A FaultKind) (s : State K) (f : A → Gives) → ((a : A) → Q path s.rank (f a)) → Q path s.rank (unless_fault how plan path o s f)
       given-q (Ok a) s f h = h a
       given-q (Err k) s f h = c.q-stop path k s
 
@@ -135,7 +135,7 @@ module _ {I E K : Type 0} (how : Manner I E K) (plan : PlanView) where
         does-p calls st (act.Array x m) s = c.p-done path (set_array s x _)
         does-p calls st (act.Set x r) s = set-p calls x r s
         does-p calls st (act.Store x i e) s =
-            given-p (value_of i s.env) s _ (λ k. found-p (at_index (items_of (slot_of s.env x.bytes)) (number k)) s _ (given-p (value_of e s.env) s _ (λ v. c.p-done path (set_array s x _))))
+            given-p (value_of i s.env) s _ (λ k. found-p (at_index (items_of (slot_of s.env x.bytes)) (as_integer k)) s _ (given-p (value_of e s.env) s _ (λ v. c.p-done path (set_array s x _))))
         does-p calls st (act.Spawn t) s = c.qp path s.rank (spawn how plan path t s) _ (spawn-q t s) (λ p. c.p-done path p.1)
         does-p calls st (act.Call t) s = c.qp path s.rank (called how plan path b calls t s) _ (called-q calls t s) (λ p. c.p-done path p.1)
         does-p calls st act.Sync s = c.p-join path s
@@ -144,7 +144,7 @@ module _ {I E K : Type 0} (how : Manner I E K) (plan : PlanView) where
         does-p calls st (act.While e xs) s =
             given-p (value_of e s.env) s _ (λ v. if-p (is_true v) s.rank _ _ (c.pp path s.rank (b path calls xs s) _ (fine path calls xs s) (fine path calls (st ∷ []))) (c.p-done path s))
         does-p calls st (act.Pfor x lo hi target t) s =
-            given-p (value_of lo s.env) s _ (λ l. given-p (value_of hi s.env) s _ (λ h. given-p (values_of t.args s.env) s _ (λ vs. looped-p (number l) (count_of (number h -ℤ number l)) vs)))
+            given-p (value_of lo s.env) s _ (λ l. given-p (value_of hi s.env) s _ (λ h. given-p (values_of t.args s.env) s _ (λ vs. looped-p (as_integer l) (count_of (as_integer h -ℤ as_integer l)) vs)))
           where
             looped-p : (l : ℤ) (n : ℕ) (vs : List Value) → P path s.rank (looped how plan path l n vs target t s)
             looped-p l n vs = tested-p (nat_lt n (s.steps + 1)) Budget s _ (λ enough. tested-p (has_room target n s.env) Index _ _ (λ room. tested-p (fits_depth how plan path n) Depth _ _ (c.p-loop path (number_of (functions_of plan) t.name.bytes) vs l n target _)))

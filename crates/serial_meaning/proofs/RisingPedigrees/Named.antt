@@ -8,7 +8,7 @@ use Rattle.script_grammar.specs.declared.tree.SumPart.{SumPart}
 use Rattle.script_grammar.specs.declared.tree.ProductPart.{ProductPart}
 use Rattle.script_grammar.specs.declared.tree.ProductSign.{ProductSign}
 use Rattle.serial_meaning.specs.Runs.{◌>>=◌}
-use Rattle.serial_meaning.specs.Values.{Env, Meaning, slot_of, scalar, items_of, number, item, product, added, sums, products, value_at, product_at, sum_at, value_of, sum_part, product_part}
+use Rattle.serial_meaning.specs.Values.{Env, Meaning, slot_of, scalar, items_of, as_integer, item, product, added, sums, products, value_at, product_at, sum_at, value_of, sum_part, product_part}
 use Rattle.serial_meaning.specs.Names.{Names, joined_names, names_at, names_in, names_in_sum_part, names_in_product_part}
 use Rattle.serial_meaning.proofs.Equations.Each.{Each}
 use Rattle.serial_meaning.specs.declared.value.Value.{Value}
@@ -55,14 +55,14 @@ module _ (env other : Env) {X : Type 0} where
   sums-same part fine [] v a = refl
   sums-same part fine (x ∷ xs) v a =
       both-then ((sum_part (part x)).1 env) ((sum_part (part x)).1 other) _ _ (fine x env other (agree-left env other (names_in_sum_part (part x)) (joined_names (map names_in_sum_part (map part xs))) a))
-      (λ y. and-then (added (sum_part (part x)).0 (number v) (number y)) _ _ (λ z. sums-same part fine xs z (agree-right env other (names_in_sum_part (part x)) (joined_names (map names_in_sum_part (map part xs))) a)))
+      (λ y. and-then (added (sum_part (part x)).0 (as_integer v) (as_integer y)) _ _ (λ z. sums-same part fine xs z (agree-right env other (names_in_sum_part (part x)) (joined_names (map names_in_sum_part (map part xs))) a)))
 
   products-same : (part : X → ProductPart) → ((x : X) → Fine (names_in_product_part (part x)) (product_part (part x)).1) → (xs : List X) (v : Value) → Agree env other (joined_names (map names_in_product_part (map part xs))) →
       products env v (map product_part (map part xs)) ≡ products other v (map product_part (map part xs))
   products-same part fine [] v a = refl
   products-same part fine (x ∷ xs) v a =
       both-then ((product_part (part x)).1 env) ((product_part (part x)).1 other) _ _ (fine x env other (agree-left env other (names_in_product_part (part x)) (joined_names (map names_in_product_part (map part xs))) a))
-      (λ y. and-then (product (product_part (part x)).0 (number v) (number y)) _ _ (λ z. products-same part fine xs z (agree-right env other (names_in_product_part (part x)) (joined_names (map names_in_product_part (map part xs))) a)))
+      (λ y. and-then (product (product_part (part x)).0 (as_integer v) (as_integer y)) _ _ (λ z. products-same part fine xs z (agree-right env other (names_in_product_part (part x)) (joined_names (map names_in_product_part (map part xs))) a)))
 
 -- what a layer's parts are, as trees
 abbrev layer : {A B C : Type 0} → (A → Expr) → (B → ProductPart) → (C → SumPart) → Expr-F A B C → Expr-F Expr ProductPart SumPart
@@ -89,7 +89,7 @@ module _ {A B C : Type 0} (expr : A → Expr) (times : B → ProductPart) (plus 
   node-fine (node.Number n) env other a = refl
   node-fine (node.Var x) env other a = ap (λ o. Ok (scalar o)) a.0
   node-fine (node.Item x i) env other a =
-      both-then (value_of (expr i) env) (value_of (expr i) other) _ _ (e i env other a.1) (λ v. ap (λ o. item (items_of o) (number v)) a.0)
+      both-then (value_of (expr i) env) (value_of (expr i) other) _ _ (e i env other a.1) (λ v. ap (λ o. item (items_of o) (as_integer v)) a.0)
   node-fine (node.Neg at x) env other a = both-then (value_of (expr x) env) (value_of (expr x) other) _ _ (e x env other a) (λ v. refl)
   node-fine (node.Same at x y) env other a = two-fine x y _ env other a
   node-fine (node.Older at x y) env other a = two-fine x y _ env other a

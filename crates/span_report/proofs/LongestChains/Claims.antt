@@ -16,7 +16,7 @@ use Rattle.span_report.specs.Series.{pedigree_of, Begins, BeginsProperly, IsEven
 use Rattle.span_report.proofs.LongestChains.Chains.{IsMost}
 use Rattle.span_report.specs.Nested.{RaisesWithoutChild, Draw, New, Sync, Whose, Instance, Iterations}
 use Rattle.span_report.specs.Opens.{begun, joined, went_on, synced, turning}
-use Rattle.span_report.specs.Walks.{OpenInstances, start, left, ended, went, entered, path_of, walked, walked_all, walked_span}
+use Rattle.span_report.specs.Walks.{OpenInstances, start, left, ended, went, opened_to, path_of, walked, walked_all, walked_span}
 use Rattle.span_report.proofs.Nested.Clear.{NotAt, IsClear, Ends, Prints, Steps, Spawns, Loops, Iterates, Scopes, all-clear}
 use Rattle.span_report.proofs.Nested.Coming.{Past, Coming, coming-here, coming-next, coming-in, past-rank, past-apart}
 use Rattle.span_report.proofs.Belonging.Homes.{begins-begins, event-unique, get-contained, IsPresent}
@@ -288,7 +288,7 @@ module _ (all : List Event) (nested : IsClear all (Instance []) [] 0 all) (rise 
 
       first : walked w e ≡ walked v0 e
       first =
-          ap (λ (v : OpenInstances). went (entered (path_of e) v) e) (same (path_of e) comes ∙ left-here (path_of e) o under (leads-below o home (path_of e) h.at home-there))
+          ap (λ (v : OpenInstances). went (opened_to (path_of e) v) e) (same (path_of e) comes ∙ left-here (path_of e) o under (leads-below o home (path_of e) h.at home-there))
           ∙ ap (λ (v : OpenInstances). went v e) (entered-turn j k (path_of e) o under (h.looping ∙ ap (λ (l : List ℕ). Some l) (sym q)) there)
           ∙ sym (walked-own (λ p. Unit {0}) v0 t0 (o ∷ under) turn (path_of e) e refl refl there tt (quiet-none t0 refl (path_of e)) (λ p z. refl))
 

@@ -10,7 +10,7 @@ use Rattle.span_report.specs.declared.instance.OpenInstance.{OpenInstance}
 use Rattle.span_report.specs.Series.{pedigree_of, Begins, BeginsProperly}
 use Rattle.span_report.specs.declared.instance.Begun.TheVariants.{Spawned, Iterated}
 use Rattle.span_report.specs.Opens.{begun, joined, starts, leads, noted, turn_at, turn_on}
-use Rattle.span_report.specs.Walks.{OpenInstances, left, ended, pushed, pushed_turn, entered, went, path_of, walked, walked_all}
+use Rattle.span_report.specs.Walks.{OpenInstances, left, ended, pushed, pushed_turn, opened_to, went, path_of, walked, walked_all}
 
 abbrev pub stack : OpenInstance → List OpenInstance → OpenInstances
 stack o under = record { top = o; under = under }
@@ -96,7 +96,7 @@ quiet-loop o loop path e d j h = subst (λ (l : List ℕ). starts l path ≡ fal
         path_in None = loop
         path_in (Some l) = l
 
-pub entered-open : (path : List ℕ) (o : OpenInstance) (under : List OpenInstance) → IsQuiet o path → entered path (stack o under) ≡ stack o under
+pub entered-open : (path : List ℕ) (o : OpenInstance) (under : List OpenInstance) → IsQuiet o path → opened_to path (stack o under) ≡ stack o under
 entered-open path o under q = ap (λ (t : Option (List ℕ)). pushed_turn t (stack o under)) (by o.looping q)
   where
     by : (l : Option (List ℕ)) → ((j : List ℕ) → l ≡ Some j → starts j path ≡ false) → turn_on l path ≡ None
@@ -111,8 +111,8 @@ walked_append w (x ∷ xs) ys = walked_append (walked w x) xs ys
 pub walked-own : (T : List ℕ → Type 0) (w : OpenInstances) (o : OpenInstance) (under : List OpenInstance) (home path : List ℕ) (e : Event) → path_of e ≡ path → o.path ≡ home → Begins home path → T path → IsQuiet o path → Same T w (stack o under) →
     walked w e ≡ went (stack o under) e
 walked-own T w o under home path e h r b t q s =
-    ap (λ (p : List ℕ). went (entered p (left p w.top w.under)) e) h
-    ∙ ap (λ (v : OpenInstances). went (entered path v) e) (s path t ∙ left-here path o under (leads-below o home path r b))
+    ap (λ (p : List ℕ). went (opened_to p (left p w.top w.under)) e) h
+    ∙ ap (λ (v : OpenInstances). went (opened_to path v) e) (s path t ∙ left-here path o under (leads-below o home path r b))
     ∙ ap (λ (v : OpenInstances). went v e) (entered-open path o under q)
 
 get-after : (n : ℕ) (xs : List ℕ) (y : ℕ) (ys : List ℕ) → n ≡ length xs → slice_get (xs ++ y ∷ ys) n ≡ Some y
@@ -122,7 +122,7 @@ get-after zero (x ∷ xs) y ys l = absurd (omega (arith, l))
 get-after (suc n) (x ∷ xs) y ys l = get-after n xs y ys (omega (arith, l))
 
 -- where an iteration begins
-pub entered-turn : (j : List ℕ) (k : ℕ) (path : List ℕ) (o : OpenInstance) (under : List OpenInstance) → o.looping ≡ Some j → Begins (j ++ k ∷ []) path → entered path (stack o under) ≡ stack (begun (j ++ k ∷ []) Iterated o.before) (o ∷ under)
+pub entered-turn : (j : List ℕ) (k : ℕ) (path : List ℕ) (o : OpenInstance) (under : List OpenInstance) → o.looping ≡ Some j → Begins (j ++ k ∷ []) path → opened_to path (stack o under) ≡ stack (begun (j ++ k ∷ []) Iterated o.before) (o ∷ under)
 entered-turn j k path o under e b =
     ap (λ (l : Option (List ℕ)). pushed_turn (turn_on l path) (stack o under)) e
     ∙ ap (λ (t : Bool). pushed_turn (cond t (turn_at j (slice_get path (length j))) None) (stack o under)) (ap (λ (p : List ℕ). starts j p) q ∙ starts-front j (k ∷ b.0))
@@ -133,11 +133,11 @@ entered-turn j k path o under e b =
 
 -- the steps of the walk at a Spawn
 pub walked-spawn : (old v new : OpenInstances) (e : Event) (j path : List ℕ) (rank : ℕ) (top child : OpenInstance) → e ≡ event.Spawn j → pedigree_of e ≡ path ++ rank ∷ [] →
-    v ≡ entered path (left path old.top old.under) → top ≡ noted v.top e → child ≡ begun j Spawned top.before → new ≡ pushed (stack top v.under) child → new ≡ walked old e
+    v ≡ opened_to path (left path old.top old.under) → top ≡ noted v.top e → child ≡ begun j Spawned top.before → new ≡ pushed (stack top v.under) child → new ≡ walked old e
 walked-spawn old v new e j path rank top child s p hv ht hc hn =
     hn
     ∙ ap (λ (c : OpenInstance). pushed (stack top v.under) c) hc
     ∙ ap (λ (t : OpenInstance). pushed (stack t v.under) (begun j Spawned t.before)) (ht ∙ ap (λ (x : Event). noted v.top x) s)
     ∙ ap (λ (x : Event). went v x) (sym s)
     ∙ ap (λ (u : OpenInstances). went u e) hv
-    ∙ ap (λ (l : List ℕ). went (entered l (left l old.top old.under)) e) (sym (path-is e path rank p))
+    ∙ ap (λ (l : List ℕ). went (opened_to l (left l old.top old.under)) e) (sym (path-is e path rank p))

@@ -31,7 +31,7 @@ use Rattle.strand_moves.specs.declared.effects.Effects.{Effects}
 use Rattle.strand_moves.specs.declared.effects.MoveResult.TheVariants as moved-in
 use Rattle.strand_family.specs.Origins.{only}
 use Rattle.strand_machine.specs.Bodies.{is_long}
-use Rattle.strand_machine.specs.Family.{FamilyView, handed}
+use Rattle.strand_machine.specs.Family.{FamilyView, family_with_child}
 use Rattle.strand_machine.specs.Parts.{awaited, destination_of}
 use Rattle.strand_machine.specs.Effects.{task_after_effects, HasSoundEffects, IsKnownChild}
 use Rattle.strand_machine.specs.Made.{ended}
@@ -70,7 +70,7 @@ one-longer (suc n) = ap (λ l. false ∷ l) (one-longer n)
 one-more : (n : ℕ) → replicate n false ++ false ∷ [] ≡ replicate (n + 1) false
 one-more n = rw add-one (one-longer n)
 
-pub awaits-more : (family : FamilyView) (parts : List AwaitedChild) (p : AwaitedChild) → AwaitsLast family parts → AwaitsLast (handed family p.child) (parts ++ p ∷ [])
+pub awaits-more : (family : FamilyView) (parts : List AwaitedChild) (p : AwaitedChild) → AwaitsLast family parts → AwaitsLast (family_with_child family p.child) (parts ++ p ∷ [])
 awaits-more family parts p h = record {
   before = h.before;
   passed = h.passed;

@@ -396,7 +396,7 @@ pub record IsLast (first : TaskView) (b : Body) (left : ℕ) (plan : PlanView) (
   pub sound : moves.IsInstance plan new
 
 -- The instance to which moves in a row came, which a spawn may have looked at since, and one move more of it.
-module _ (law : StepsAreSound) (fall : MovesFall) (plan : PlanView) (first : TaskView) (b : Body) (i : RawInstance) (p : plan ≡ b.family.plan) (h : IsOnRun first b i) (now : RawInstance) (sent : Trace) (next : Option Stmt) (came : moves.Comes after plan i b.trace now sent next) (from : RawInstance) (same : from.running.value ≡ now.running.value) where
+module _ (law : StepsAreSound) (fall : MovesFall) (plan : PlanView) (first : TaskView) (b : Body) (i : RawInstance) (p : plan ≡ b.family.plan) (h : IsOnRun first b i) (now : RawInstance) (sent : Trace) (next : Option Stmt) (came : moves.ComesToStatement after plan i b.trace now sent next) (from : RawInstance) (same : from.running.value ≡ now.running.value) where
   pub came-sound : moves.IsInstance plan from
   came-sound = subst (λ (r : Running). running.IsInstance plan r) (sym same) (comes-sound after plan i.running.value b.trace now.running.value sent next came)
 

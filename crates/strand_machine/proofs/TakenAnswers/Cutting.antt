@@ -18,7 +18,7 @@ use Rattle.strand_meaning.specs.Trace.{AwaitedChild, Trace, heard, heard_all, he
 use Rattle.strand_meaning.specs.Sound.{IsTask}
 use Rattle.strand_meaning.specs.Task.{takes, more_values}
 use Rattle.strand_machine.specs.Family.{FamilyView, tag, tags, origins}
-use Rattle.strand_machine.specs.Merge.{AreSaid, BecomesWork, EndsShort, IsShort, KeepsRest, Merge, Takes, TakesAnswers, WorkFindsAll, Works, end_of, ended_of, ending_of, meanings, merge_of, trace_of, with_stage}
+use Rattle.strand_machine.specs.Merge.{AreSaid, BecomesWork, EndsShort, IsShort, KeepsRest, Merge, Takes, TakesAnswers, WorkFindsAll, Works, end_of, ended_of, result_of_outcome, meanings, merge_of, trace_of, with_stage}
 use Rattle.strand_machine.specs.Parts.{awaited, awaited_child, awaited_children, destination_of}
 use Rattle.strand_machine.specs.declared.destination.Destination.{Destination}
 use Rattle.strand_machine.specs.declared.destination.Destination.TheVariants as place
@@ -37,7 +37,7 @@ use Rattle.strand_machine.proofs.TakenAnswers.Taking.{begins, same-stage, takes-
 
 -- One child
 
-says : (out : List Event) (ended : Outcome) → evaluation_of out ended ≡ record { items = out; ending = ending_of ended }
+says : (out : List Event) (ended : Outcome) → evaluation_of out ended ≡ record { items = out; ending = result_of_outcome ended }
 says out (outcome.Value v) = refl
 says out (outcome.Values vs) = refl
 says out (outcome.Fault f) = refl
@@ -61,9 +61,9 @@ heard-front p e before after h =
     ap (λ (t : Trace). record t { handed = [] }) h
     ∙ ap (λ (ps : List AwaitedChild). record (heard p e before) { handed = ps }) (sym (heard-none before.fault before.prefix p e.items e.ending))
 
-pub takes-answer : (p : AwaitedChild) (a : AnswerView) (before after : Merge) → trace_of after ≡ heard p (record { items = a.out; ending = ending_of a.outcome }) (trace_of before) →
-    ended_of after ≡ or_ends (ended_of before) a.outcome → after.cut ≡ (before.cut || is_cut a.outcome) → after.values ≡ more_values p.place (ending_of a.outcome) before.values →
-    BecomesWork (with_stage (takes p.place (ending_of a.outcome))) before.work after.work → IsAnswer a.plan a.origin a.out a.outcome → TakesAnswers (p ∷ []) (a ∷ []) before after
+pub takes-answer : (p : AwaitedChild) (a : AnswerView) (before after : Merge) → trace_of after ≡ heard p (record { items = a.out; ending = result_of_outcome a.outcome }) (trace_of before) →
+    ended_of after ≡ or_ends (ended_of before) a.outcome → after.cut ≡ (before.cut || is_cut a.outcome) → after.values ≡ more_values p.place (result_of_outcome a.outcome) before.values →
+    BecomesWork (with_stage (takes p.place (result_of_outcome a.outcome))) before.work after.work → IsAnswer a.plan a.origin a.out a.outcome → TakesAnswers (p ∷ []) (a ∷ []) before after
 takes-answer p a before after trace ended cut values work said = record {
   takes = subst (λ (e : Evaluation). Takes (p ∷ []) (e ∷ []) before after) (sym (says a.out a.outcome)) (record { trace = trace; values = values; work = work });
   ended = ended;

@@ -19,7 +19,7 @@ use Rattle.strand_meaning.specs.Laws.{AnswersKeepTasks}
 use Rattle.strand_meaning.specs.Rest.{evaluations}
 use Rattle.strand_meaning.specs.Sound.{IsTask}
 use Rattle.strand_meaning.specs.Task as meaning
-use Rattle.strand_meaning.specs.Task.{Splits, Runs, Over, Task, changed, answered, with_values, joins, resumed, takes, takes_all, more_values, all_values, resumed_work, on, own_instance}
+use Rattle.strand_meaning.specs.Task.{Splits, Runs, Over, Task, changed, frame_with_answer, with_values, joins, resumed, takes, takes_all, more_values, all_values, resumed_work, on, own_instance}
 use Rattle.strand_machine.specs.Family.{FamilyView, HasPassed, HasStopped, tags, origins}
 use Rattle.strand_machine.specs.Merge.{BecomesStage, BecomesWork, Merge, Stands, Takes, HasTakenAnswers, Works, with_stage, trace_of, meanings}
 use Rattle.strand_machine.specs.Parts.{awaited, awaited_children, destination_of}
@@ -58,9 +58,9 @@ resumed-stage ps es (Over v gone_on) = refl
 -- An instance
 
 pub fault-taken : (plan : PlanView) (height : ℕ) (target : Option Name) (fault : Fault) (ending : Result (List Value) Fault) (before after : Instance) → ending ≡ Err fault →
-    machine_of plan after ≡ changed height (answered target (Err fault)) (machine_of plan before) → machine_of plan after ≡ changed height (answered target ending) (machine_of plan before)
+    machine_of plan after ≡ changed height (frame_with_answer target (Err fault)) (machine_of plan before) → machine_of plan after ≡ changed height (frame_with_answer target ending) (machine_of plan before)
 fault-taken plan height target fault ending before after is e =
-    e ∙ ap (λ (x : Result (List Value) Fault). changed height (answered target x) (machine_of plan before)) (sym is)
+    e ∙ ap (λ (x : Result (List Value) Fault). changed height (frame_with_answer target x) (machine_of plan before)) (sym is)
 
 pub values-taken : (plan : PlanView) (target t : Option Name) (values given : List Value) (before after : Instance) → t ≡ target → given ≡ values →
     machine_of plan after ≡ with_values t given (machine_of plan before) → machine_of plan after ≡ with_values target values (machine_of plan before)
@@ -309,13 +309,13 @@ taken-view b w g k ready loads e d t view =
 pub resumed-on : (b : Body) (w : Work) (g k : FamilyView) (ready : Bool) (loads : List ℕ) → g ≡ record b.family { ready = ready; loads = loads } → k ≡ record g { taken = k.taken } →
     (t next : TaskView) → view_of b w ≡ t → t.cut ≡ None → (answers : List AnswerView) → AreAnswersOf k.plan b.trace.handed answers → WentOn answers (view_of (record b { family = k }) w) next → HasPassed b.family.loads g.loads →
     (xs : List AnswerView) × AreAnswersOf t.task.plan t.task.trace.handed xs × resumes (any_cut xs) xs t next × HasPassed t.loads next.loads
-resumed-on b w g k ready loads e d t next view goes answers are went-on passed = (answers, answered, both.0, both.1)
+resumed-on b w g k ready loads e d t next view goes answers are went-on passed = (answers, frame_with_answer, both.0, both.1)
   where
     plan : k.plan ≡ t.task.plan
     plan = ap (λ (f : FamilyView). f.plan) d ∙ ap (λ (f : FamilyView). f.plan) e ∙ ap (λ (v : TaskView). v.task.plan) view
 
-    answered : AreAnswersOf t.task.plan t.task.trace.handed answers
-    answered = subst (λ (v : TaskView). AreAnswersOf t.task.plan v.task.trace.handed answers) view (subst (λ (p : PlanView). AreAnswersOf p b.trace.handed answers) plan are)
+    frame_with_answer : AreAnswersOf t.task.plan t.task.trace.handed answers
+    frame_with_answer = subst (λ (v : TaskView). AreAnswersOf t.task.plan v.task.trace.handed answers) view (subst (λ (p : PlanView). AreAnswersOf p b.trace.handed answers) plan are)
 
     there : went (any_cut answers) answers (record t { loads = g.loads }) next
     there = subst (λ (v : TaskView). WentOn answers v next) (taken-view b w g k ready loads e d t view) went-on

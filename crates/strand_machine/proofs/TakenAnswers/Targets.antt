@@ -9,7 +9,7 @@ use Rattle.strand_meaning.specs.Found.{FindsTargets, FindsDestination, functions
 use Rattle.strand_meaning.specs.Machine as machine
 use Rattle.strand_meaning.specs.Machine.{Spawned, Looped, Half, Frame, Machine}
 use Rattle.strand_meaning.specs.Task as meaning
-use Rattle.strand_meaning.specs.Task.{Splits, Runs, Over, answered, changed, changed_at, takes}
+use Rattle.strand_meaning.specs.Task.{Splits, Runs, Over, frame_with_answer, changed, changed_at, takes}
 use Rattle.strand_moves.specs.Machines.{machine_of}
 use Rattle.strand_moves.specs.declared.instance.Instance.{Instance}
 use Rattle.strand_machine.specs.Merge.{BecomesWork, StageFinds, WorkFinds, WorkFindsAll, with_stage}
@@ -48,7 +48,7 @@ target-of plan q w s is h = subst (λ (x : Work). WorkFinds plan q (work_of plan
 abbrev functions : List Frame → List ℕ
 functions frames = map (λ (a : Frame). a.function) frames
 
-answered-same : (to : Option Name) (q : Result (List Value) Fault) (a : Frame) → (answered to q a).function ≡ a.function
+answered-same : (to : Option Name) (q : Result (List Value) Fault) (a : Frame) → (frame_with_answer to q a).function ≡ a.function
 answered-same to (Ok vs) a = refl
 answered-same to (Err f) a = refl
 
@@ -75,8 +75,8 @@ module _ (plan : PlanView) (place : machine.Destination) where
   none-found (Looped to) = tt
   none-found Half = tt
 
-  changed-found : (owner : ℕ) (to : Option Name) (q : Result (List Value) Fault) (m : Machine) → FindsDestination plan (functions_in m) place → FindsDestination plan (functions_in (changed owner (answered to q) m)) place
-  changed-found owner to q m h = subst (λ (fs : List ℕ). FindsDestination plan fs place) (sym (changed-same owner (answered to q) (answered-same to q) m)) h
+  changed-found : (owner : ℕ) (to : Option Name) (q : Result (List Value) Fault) (m : Machine) → FindsDestination plan (functions_in m) place → FindsDestination plan (functions_in (changed owner (frame_with_answer to q) m)) place
+  changed-found owner to q m h = subst (λ (fs : List ℕ). FindsDestination plan fs place) (sym (changed-same owner (frame_with_answer to q) (answered-same to q) m)) h
 
   stage-keeps : (p : machine.Destination) (q : Result (List Value) Fault) (s : meaning.InstanceState) → StageFinds plan place s → StageFinds plan place (takes p q s)
   stage-keeps (Spawned owner to) q (meaning.Running m) h = changed-found owner to q m h

@@ -17,8 +17,8 @@ use Rattle.script_grammar.specs.declared.tree.Act.TheOpen.{Act-F}
 use Rattle.script_check.specs.Tables.{no_entries, with_first}
 use Rattle.script_check.specs.Functions.{function_named}
 use Rattle.script_check.specs.Names as check
-use Rattle.script_check.specs.Names.{nobody, both, with_name, after_right}
-use Rattle.script_check.specs.Rules.{Declared, kind_of, scalar_use, array_use, declaration, variable_twice, too_many_variables, array_length, let_in_a_block}
+use Rattle.script_check.specs.Names.{no_names, union, with_name, after_right}
+use Rattle.script_check.specs.Rules.{Declared, kind_of_variable, scalar_use, array_use, declaration, variable_twice, too_many_variables, array_length, let_in_a_block}
 use Rattle.script_check.specs.Expressions.{wanted, two_wanted, read}
 use Rattle.script_check.specs.Statements.{Context, context, Judged, judge, judge_what, judge_act, judge_all, read_right, wanted_as, target_use, loop_call_of, violations_each, block_violations, known_each, after}
 use Rattle.script_check.specs.Valid.{IsValid, known_params, param_violations, function_violations, all_function_violations, functions_twice, main_violations}
@@ -36,11 +36,11 @@ use Rattle.strand_meaning.proofs.ClearPlans.FreeNames.{Free, free-none, free-app
 
 -- Names of a list that are in a set
 
-pub kept : check.Names → Names → Names
+pub kept : check.NameSet → Names → Names
 kept p [] = []
 kept p (x ∷ xs) = if p x then x ∷ kept p xs else kept p xs
 
-kept-in : (p : check.Names) (names : Names) (name : List ℕ) → Contains (kept p names) name → p name ≡ true
+kept-in : (p : check.NameSet) (names : Names) (name : List ℕ) → Contains (kept p names) name → p name ≡ true
 unfolding kept
 kept-in p [] name h = absurd (omega (arith, h.1))
 kept-in p (x ∷ xs) name h = from (p x) refl h (kept-in p xs name)
@@ -53,7 +53,7 @@ kept-in p (x ∷ xs) name h = from (p x) refl h (kept-in p xs name)
     from true e c later = first e (Contains-append_cases (x ∷ []) (kept p xs) name c) later
     from false e c later = later c
 
-kept-has : (p : check.Names) (names : Names) (name : List ℕ) → Contains names name → p name ≡ true → Contains (kept p names) name
+kept-has : (p : check.NameSet) (names : Names) (name : List ℕ) → Contains names name → p name ≡ true → Contains (kept p names) name
 unfolding kept
 kept-has p [] name h e = h
 kept-has p (x ∷ xs) name h e = from (p x) refl (Contains-append_cases (x ∷ []) xs name h) (λ c. kept-has p xs name c e)
@@ -64,7 +64,7 @@ kept-has p (x ∷ xs) name h e = from (p x) refl (Contains-append_cases (x ∷ [
     from false g (inl c) later = absurd (true≢false (sym e ∙ ap p (sym (single-name x name c)) ∙ g))
     from false g (inr c) later = later c
 
-kept-of : (p : check.Names) (names : Names) (name : List ℕ) → Contains (kept p names) name → Contains names name
+kept-of : (p : check.NameSet) (names : Names) (name : List ℕ) → Contains (kept p names) name → Contains names name
 unfolding kept
 kept-of p [] name h = h
 kept-of p (x ∷ xs) name h = from (p x) h (kept-of p xs name)
@@ -77,10 +77,10 @@ kept-of p (x ∷ xs) name h = from (p x) h (kept-of p xs name)
     from true c later = both-ways (Contains-append_cases (x ∷ []) (kept p xs) name c) later
     from false c later = Contains-append_right (x ∷ []) xs name (later c)
 
-kept-within : (p q : check.Names) (names : Names) → check.IsWithin p q → IsWithin (kept p names) (kept q names)
+kept-within : (p q : check.NameSet) (names : Names) → check.IsWithin p q → IsWithin (kept p names) (kept q names)
 kept-within p q names w name h = kept-has q names name (kept-of p names name h) (w name (kept-in p names name h))
 
-free-apart : (p : check.Names) (names all : Names) → Free p names → IsApart names (kept p all)
+free-apart : (p : check.NameSet) (names all : Names) → Free p names → IsApart names (kept p all)
 free-apart p names all f name h k = true≢false (sym (kept-in p all name k) ∙ f name h)
 
 clear-ends : {pending ends : Names} {sts : List Stmt} (more : Names) → IsWithin ends more → IsClear pending sts ends → IsClear pending sts more
@@ -93,7 +93,7 @@ clear-ends more w (Levels block left h c rest) = Levels block left h c (clear-en
 -- Known variables
 
 -- what is pending is known
-abbrev IsKnown : check.Names → Declared → Type 0
+abbrev IsKnown : check.NameSet → Declared → Type 0
 IsKnown p known = (x : List ℕ) → p x ≡ true → is_some (known.what x) ≡ true
 
 first-has : (known : Declared) (x : List ℕ) (v : _) → is_some ((with_first known x v).what x) ≡ true
@@ -114,14 +114,14 @@ first-keeps known x v y h = from (is_some (known.what x))
     from true = h
     from false = here (bytes_eq x y)
 
-scalar-known : (known : Declared) (p : check.Names) (x : Name) → scalar_use (known.what x.bytes) p x ≡ [] → is_some (known.what x.bytes) ≡ true
+scalar-known : (known : Declared) (p : check.NameSet) (x : Name) → scalar_use (known.what x.bytes) p x ≡ [] → is_some (known.what x.bytes) ≡ true
 scalar-known known p x h = from (known.what x.bytes) h
   where
     from : (o : Option _) → scalar_use o p x ≡ [] → is_some o ≡ true
     from (Some v) g = refl
     from None g = absurd (true≢false (not-broken true 6 x.at g))
 
-new-free : (p : check.Names) (known : Declared) (x : Name) → IsKnown p known → declaration known x ≡ [] → p x.bytes ≡ false
+new-free : (p : check.NameSet) (known : Declared) (x : Name) → IsKnown p known → declaration known x ≡ [] → p x.bytes ≡ false
 new-free p known x k h = from (p x.bytes) refl
   where
     unknown : is_some (known.what x.bytes) ≡ false
@@ -143,7 +143,7 @@ or-right true b h = refl
 or-right false b h = h
 
 -- a right side adds its target alone
-right-known : (x : Name) (r : Right) (p : check.Names) (known : Declared) → is_some (known.what x.bytes) ≡ true → IsKnown p known → IsKnown (after_right x r p) known
+right-known : (x : Name) (r : Right) (p : check.NameSet) (known : Declared) → is_some (known.what x.bytes) ≡ true → IsKnown p known → IsKnown (after_right x r p) known
 right-known x (right.Value e) p known h k y g = k y g
 right-known x (right.Draw at) p known h k y g = k y g
 right-known x (right.New at) p known h k y g = k y g
@@ -161,7 +161,7 @@ right-own x (right.New at) = []
 right-own x (right.Call at c) = []
 right-own x (right.Spawn at c) = x.bytes ∷ []
 
-right-within : (x : Name) (r : Right) (p : check.Names) (all : Names) → IsWithin (right-own x r) all → IsWithin (pending_right x r (kept p all)) (kept (after_right x r p) all)
+right-within : (x : Name) (r : Right) (p : check.NameSet) (all : Names) → IsWithin (right-own x r) all → IsWithin (pending_right x r (kept p all)) (kept (after_right x r p) all)
 unfolding right-own
 right-within x (right.Value e) p all w name h = h
 right-within x (right.Draw at) p all w name h = h
@@ -181,9 +181,9 @@ right-within x (right.Spawn at c) p all w name h = from (Contains-append_cases (
 -- is after it is.
 record IsGood (j : Judged) (s : Stmt) : Type 0 where
   own : Names
-  stays : (context : Context) (known : Declared) (p : check.Names) → context.in_block ≡ true → j.violations context known p ≡ [] → j.known context.functions known ≡ known
-  knows : (context : Context) (known : Declared) (p : check.Names) → IsKnown p known → j.violations context known p ≡ [] → IsKnown (j.after p) (j.known context.functions known)
-  clears : (all : Names) → IsWithin own all → (context : Context) (known : Declared) (p : check.Names) → IsKnown p known → j.violations context known p ≡ [] →
+  stays : (context : Context) (known : Declared) (p : check.NameSet) → context.in_block ≡ true → j.violations context known p ≡ [] → j.known context.functions known ≡ known
+  knows : (context : Context) (known : Declared) (p : check.NameSet) → IsKnown p known → j.violations context known p ≡ [] → IsKnown (j.after p) (j.known context.functions known)
+  clears : (all : Names) → IsWithin own all → (context : Context) (known : Declared) (p : check.NameSet) → IsKnown p known → j.violations context known p ≡ [] →
       (sts : List Stmt) (ends : Names) → IsClear (kept (j.after p) all) sts ends → IsClear (kept p all) (s ∷ sts) ends
 
 abbrev Good : Stmt → Type 0
@@ -193,7 +193,7 @@ own-all : (ss : List Stmt) → Each Good ss → Names
 own-all [] h = []
 own-all (s ∷ ss) h = h.0.own ++ own-all ss h.1
 
-stays-all : (ss : List Stmt) → Each Good ss → (context : Context) (known : Declared) (p : check.Names) → context.in_block ≡ true → violations_each (judge_all ss) context known p ≡ [] →
+stays-all : (ss : List Stmt) → Each Good ss → (context : Context) (known : Declared) (p : check.NameSet) → context.in_block ≡ true → violations_each (judge_all ss) context known p ≡ [] →
     known_each (judge_all ss) context.functions known ≡ known
 stays-all [] h context known p b e = refl
 stays-all (s ∷ ss) h context known p b e =
@@ -201,7 +201,7 @@ stays-all (s ∷ ss) h context known p b e =
     stays-all ss h.1 context ((judge s).known context.functions known) ((judge s).after p) b (nothing_right ((judge s).violations context known p) rest e)
     ∙ h.0.stays context known p b (nothing_left ((judge s).violations context known p) rest e)
 
-knows-all : (ss : List Stmt) → Each Good ss → (context : Context) (known : Declared) (p : check.Names) → IsKnown p known → violations_each (judge_all ss) context known p ≡ [] →
+knows-all : (ss : List Stmt) → Each Good ss → (context : Context) (known : Declared) (p : check.NameSet) → IsKnown p known → violations_each (judge_all ss) context known p ≡ [] →
     IsKnown (after ss p) (known_each (judge_all ss) context.functions known)
 knows-all [] h context known p k e = k
 knows-all (s ∷ ss) h context known p k e =
@@ -209,7 +209,7 @@ knows-all (s ∷ ss) h context known p k e =
     knows-all ss h.1 context ((judge s).known context.functions known) ((judge s).after p)
     (h.0.knows context known p k (nothing_left ((judge s).violations context known p) rest e)) (nothing_right ((judge s).violations context known p) rest e)
 
-clears-all : (ss : List Stmt) (h : Each Good ss) (all : Names) → IsWithin (own-all ss h) all → (context : Context) (known : Declared) (p : check.Names) → IsKnown p known →
+clears-all : (ss : List Stmt) (h : Each Good ss) (all : Names) → IsWithin (own-all ss h) all → (context : Context) (known : Declared) (p : check.NameSet) → IsKnown p known →
     violations_each (judge_all ss) context known p ≡ [] → IsClear (kept p all) ss (kept (after ss p) all)
 unfolding own-all
 clears-all [] h all w context known p k e = Nothing (within-itself (kept p all))
@@ -226,7 +226,7 @@ opens at d = ap (λ s. out-Act s.act) (out-roll-Stmt (record { at = at; act = ro
 abbrev judgement : Act-F Act Stmt → ℕ → Judged
 judgement d at = judge_act (map-Act Act Stmt (ℕ → Judged) Judged judge_what judge d) at
 
-simple : (at : ℕ) (d : Act-F Act Stmt) → IsSimple d → (p next : check.Names) (all : Names) → Free p (touched d) → IsWithin (pending_after d (kept p all)) (kept next all) →
+simple : (at : ℕ) (d : Act-F Act Stmt) → IsSimple d → (p next : check.NameSet) (all : Names) → Free p (touched d) → IsWithin (pending_after d (kept p all)) (kept next all) →
     (sts : List Stmt) (ends : Names) → IsClear (kept next all) sts ends → IsClear (kept p all) (statement at d ∷ sts) ends
 simple at d s p next all free w sts ends rest = Simple d (opens at d) s (free-apart p (touched d) all free) (clear-within (pending_after d (kept p all)) (kept next all) w rest)
 
@@ -254,13 +254,13 @@ good-set at x r = record {
   own = right-own x r;
   stays = λ context known p b h. refl;
   knows = λ context known p k h.
-      right-known x r p known (scalar-known known p x (nothing_left (scalar_use (known.what x.bytes) p x) (wanted_as (kind_of (known.what x.bytes)) (read_right context.functions r) known p) h)) k;
+      right-known x r p known (scalar-known known p x (nothing_left (scalar_use (known.what x.bytes) p x) (wanted_as (kind_of_variable (known.what x.bytes)) (read_right context.functions r) known p) h)) k;
   clears = λ all w context known p k h.
       simple at (act.Set x r) tt p (after_right x r p) all
       (free-cons p x.bytes (names_in_right r)
-      (scalar-free (known.what x.bytes) p x (nothing_left (scalar_use (known.what x.bytes) p x) (wanted_as (kind_of (known.what x.bytes)) (read_right context.functions r) known p) h))
-      (right-free context.functions r known p (wanted-as-left (kind_of (known.what x.bytes)) (read_right context.functions r) known p
-      (nothing_right (scalar_use (known.what x.bytes) p x) (wanted_as (kind_of (known.what x.bytes)) (read_right context.functions r) known p) h))))
+      (scalar-free (known.what x.bytes) p x (nothing_left (scalar_use (known.what x.bytes) p x) (wanted_as (kind_of_variable (known.what x.bytes)) (read_right context.functions r) known p) h))
+      (right-free context.functions r known p (wanted-as-left (kind_of_variable (known.what x.bytes)) (read_right context.functions r) known p
+      (nothing_right (scalar_use (known.what x.bytes) p x) (wanted_as (kind_of_variable (known.what x.bytes)) (read_right context.functions r) known p) h))))
       (right-within x r p all w);
 }
 
@@ -279,8 +279,8 @@ good-array at x n = record {
 }
 
 -- a statement that adds nothing and makes nothing known
-good-plain : (at : ℕ) (d : Act-F Act Stmt) → IsSimple d → ((p : check.Names) → (judgement d at).after p ≡ p) → ((functions : List Function) (known : Declared) → (judgement d at).known functions known ≡ known) →
-    ((p : Names) → pending_after d p ≡ p) → ((context : Context) (known : Declared) (p : check.Names) → (judgement d at).violations context known p ≡ [] → Free p (touched d)) → IsGood (judgement d at) (statement at d)
+good-plain : (at : ℕ) (d : Act-F Act Stmt) → IsSimple d → ((p : check.NameSet) → (judgement d at).after p ≡ p) → ((functions : List Function) (known : Declared) → (judgement d at).known functions known ≡ known) →
+    ((p : Names) → pending_after d p ≡ p) → ((context : Context) (known : Declared) (p : check.NameSet) → (judgement d at).violations context known p ≡ [] → Free p (touched d)) → IsGood (judgement d at) (statement at d)
 good-plain at d s same still adds free = record {
   own = [];
   stays = λ context known p b h. still context.functions known;
@@ -295,7 +295,7 @@ good-sync at = record {
   own = [];
   stays = λ context known p b h. refl;
   knows = λ context known p k h y e. absurd (true≢false (sym e));
-  clears = λ all w context known p k h. simple at act.Sync tt p nobody all (free-none p) (nothing-within (kept nobody all));
+  clears = λ all w context known p k h. simple at act.Sync tt p no_names all (free-none p) (nothing-within (kept no_names all));
 }
 
 good-if : (at : ℕ) (e : _) (a b : List Stmt) → Each Good a → Each Good b → IsGood (judgement (act.If e a b) at) (statement at (act.If e a b))
@@ -312,7 +312,7 @@ good-if at e a b g h = record {
       let last : violations_each (judge_all b) inner known p ≡ [] = subst (λ (m : Declared). violations_each (judge_all b) inner m p ≡ []) still (last-of context known p f) in
       let again : known_each (judge_all b) context.functions (known_each (judge_all a) context.functions known) ≡ known =
       stays-all b h inner (known_each (judge_all a) context.functions known) p refl (last-of context known p f) ∙ still in
-      subst (IsKnown (both (after a p) (after b p))) (sym again)
+      subst (IsKnown (union (after a p) (after b p))) (sym again)
       (λ y t. either-known (after a p y) (after b p y) (is_some (known.what y)) t
       (λ u. subst (IsKnown (after a p)) still (knows-all a g inner known p k first) y u)
       (λ u. subst (IsKnown (after b p)) (stays-all b h inner known p refl last) (knows-all b h inner known p k last) y u));
@@ -321,27 +321,27 @@ good-if at e a b g h = record {
       let first = first-of context known p f in
       let still : known_each (judge_all a) context.functions known ≡ known = stays-all a g inner known p refl first in
       let last : violations_each (judge_all b) inner known p ≡ [] = subst (λ (m : Declared). violations_each (judge_all b) inner m p ≡ []) still (last-of context known p f) in
-      let more = kept (both (after a p) (after b p)) all in
+      let more = kept (union (after a p) (after b p)) all in
       Branches e a b more (opens at (act.If e a b))
       (free-apart p (names_in e) all (read-free e known p (wanted-left Int (read e) known p (test-of context known p f))))
-      (clear-ends more (kept-within (after a p) (both (after a p) (after b p)) all (λ y u. or-left (after a p y) (after b p y) u))
+      (clear-ends more (kept-within (after a p) (union (after a p) (after b p)) all (λ y u. or-left (after a p y) (after b p y) u))
       (clears-all a g all (λ name c. w name (Contains-append_left (own-all a g) (own-all b h) name c)) inner known p k first))
-      (clear-ends more (kept-within (after b p) (both (after a p) (after b p)) all (λ y u. or-right (after a p y) (after b p y) u))
+      (clear-ends more (kept-within (after b p) (union (after a p) (after b p)) all (λ y u. or-right (after a p y) (after b p y) u))
       (clears-all b h all (λ name c. w name (Contains-append_right (own-all a g) (own-all b h) name c)) inner known p k last))
       rest;
 }
   where
-    first-of : (context : Context) (known : Declared) (p : check.Names) → (judgement (act.If e a b) at).violations context known p ≡ [] → violations_each (judge_all a) (record context { in_block = true }) known p ≡ []
+    first-of : (context : Context) (known : Declared) (p : check.NameSet) → (judgement (act.If e a b) at).violations context known p ≡ [] → violations_each (judge_all a) (record context { in_block = true }) known p ≡ []
     first-of context known p f =
         nothing_right (wanted Int (read e) known p) (block_violations (judge_all a) context known p)
         (nothing_left (wanted Int (read e) known p ++ block_violations (judge_all a) context known p) (block_violations (judge_all b) context (known_each (judge_all a) context.functions known) p) f)
 
-    last-of : (context : Context) (known : Declared) (p : check.Names) → (judgement (act.If e a b) at).violations context known p ≡ [] →
+    last-of : (context : Context) (known : Declared) (p : check.NameSet) → (judgement (act.If e a b) at).violations context known p ≡ [] →
         violations_each (judge_all b) (record context { in_block = true }) (known_each (judge_all a) context.functions known) p ≡ []
     last-of context known p f =
         nothing_right (wanted Int (read e) known p ++ block_violations (judge_all a) context known p) (block_violations (judge_all b) context (known_each (judge_all a) context.functions known) p) f
 
-    test-of : (context : Context) (known : Declared) (p : check.Names) → (judgement (act.If e a b) at).violations context known p ≡ [] → wanted Int (read e) known p ≡ []
+    test-of : (context : Context) (known : Declared) (p : check.NameSet) → (judgement (act.If e a b) at).violations context known p ≡ [] → wanted Int (read e) known p ≡ []
     test-of context known p f =
         nothing_left (wanted Int (read e) known p) (block_violations (judge_all a) context known p)
         (nothing_left (wanted Int (read e) known p ++ block_violations (judge_all a) context known p) (block_violations (judge_all b) context (known_each (judge_all a) context.functions known) p) f)
@@ -353,10 +353,10 @@ good-if at e a b g h = record {
 good-while : (at : ℕ) (e : _) (a : List Stmt) → Each Good a → IsGood (judgement (act.While e a) at) (statement at (act.While e a))
 good-while at e a g = record {
   own = own-all a g;
-  stays = λ context known p o f. stays-all a g (record context { in_block = true }) known (both p (after a p)) refl (body-of context known p f);
-  knows = λ context known p k f. subst (IsKnown (both p (after a p))) (sym (stays-all a g (record context { in_block = true }) known (both p (after a p)) refl (body-of context known p f))) (all-known context known p k f);
+  stays = λ context known p o f. stays-all a g (record context { in_block = true }) known (union p (after a p)) refl (body-of context known p f);
+  knows = λ context known p k f. subst (IsKnown (union p (after a p))) (sym (stays-all a g (record context { in_block = true }) known (union p (after a p)) refl (body-of context known p f))) (all-known context known p k f);
   clears = λ all w context known p k f sts ends rest.
-      let q : check.Names = both p (after a p) in
+      let q : check.NameSet = union p (after a p) in
       Turns e a (kept q all) (opens at (act.While e a)) (kept-within p q all (λ y u. or-left (p y) (after a p y) u))
       (free-apart q (names_in e) all (read-free e known q (wanted-left Int (read e) known q (nothing_left (wanted Int (read e) known q) (block_violations (judge_all a) context known q) f))))
       (clear-ends (kept q all) (kept-within (after a q) q all (loop_closed a p))
@@ -364,12 +364,12 @@ good-while at e a g = record {
       rest;
 }
   where
-    body-of : (context : Context) (known : Declared) (p : check.Names) → (judgement (act.While e a) at).violations context known p ≡ [] → violations_each (judge_all a) (record context { in_block = true }) known (both p (after a p)) ≡ []
-    body-of context known p f = nothing_right (wanted Int (read e) known (both p (after a p))) (block_violations (judge_all a) context known (both p (after a p))) f
+    body-of : (context : Context) (known : Declared) (p : check.NameSet) → (judgement (act.While e a) at).violations context known p ≡ [] → violations_each (judge_all a) (record context { in_block = true }) known (union p (after a p)) ≡ []
+    body-of context known p f = nothing_right (wanted Int (read e) known (union p (after a p))) (block_violations (judge_all a) context known (union p (after a p))) f
 
-    all-known : (context : Context) (known : Declared) (p : check.Names) → IsKnown p known → (judgement (act.While e a) at).violations context known p ≡ [] → IsKnown (both p (after a p)) known
+    all-known : (context : Context) (known : Declared) (p : check.NameSet) → IsKnown p known → (judgement (act.While e a) at).violations context known p ≡ [] → IsKnown (union p (after a p)) known
     all-known context known p k f y t =
-        from ((fewer_pending_stays_valid a (record context { in_block = true }) known p (both p (after a p)) (λ z u. or-left (p z) (after a p z) u) (body-of context known p f)).0)
+        from ((fewer_pending_stays_valid a (record context { in_block = true }) known p (union p (after a p)) (λ z u. or-left (p z) (after a p z) u) (body-of context known p f)).0)
         (or-cases (p y) (after a p y) t)
       where
         from : violations_each (judge_all a) (record context { in_block = true }) known p ≡ [] → (p y ≡ true) ⊎ (after a p y ≡ true) → is_some (known.what y) ≡ true
@@ -384,7 +384,7 @@ good-scope at a g = record {
   knows = λ context known p k f y e. absurd (true≢false (sym e));
   clears = λ all w context known p k f sts ends rest.
       Levels a (kept (after a p) all) (opens at (act.Scope a)) (clears-all a g all w (record context { in_block = true }) known p k f)
-      (clear-within [] (kept nobody all) (nothing-within (kept nobody all)) rest);
+      (clear-within [] (kept no_names all) (nothing-within (kept no_names all)) rest);
 }
 
 good : (at : ℕ) (d : Act-F Act Stmt) → Inside Good d → IsGood (judgement d at) (statement at d)
@@ -427,13 +427,13 @@ all-good = induct Good (λ at d h. subst (λ (j : Judged). IsGood j (statement a
 valid-function : (functions : List Function) (f : Function) → function_violations functions f ≡ [] → IsClearFunction f
 valid-function functions f h =
     let known = known_params f.params no_entries in
-    let body = violations_each (judge_all f.body) (context functions false) known nobody in
-    let front = nothing_left (param_violations f.params no_entries ++ body) (wanted f.answer (read f.result) (known_each (judge_all f.body) functions known) nobody) h in
+    let body = violations_each (judge_all f.body) (context functions false) known no_names in
+    let front = nothing_left (param_violations f.params no_entries ++ body) (wanted f.answer (read f.result) (known_each (judge_all f.body) functions known) no_names) h in
     let each = induct_each Good all-good f.body in
     let all = own-all f.body each in (
-      kept (after f.body nobody) all,
-      clear-within [] (kept nobody all) (nothing-within (kept nobody all))
-          (clears-all f.body each all (within-itself all) (context functions false) known nobody (λ x e. absurd (true≢false (sym e))) (nothing_right (param_violations f.params no_entries) body front)),
+      kept (after f.body no_names) all,
+      clear-within [] (kept no_names all) (nothing-within (kept no_names all))
+          (clears-all f.body each all (within-itself all) (context functions false) known no_names (λ x e. absurd (true≢false (sym e))) (nothing_right (param_violations f.params no_entries) body front)),
     )
 
 each-function : (functions fs : List Function) → all_function_violations functions fs ≡ [] → (f : Function) → Contains fs f → IsClearFunction f

@@ -16,7 +16,7 @@ use Rattle.serial_meaning.specs.declared.value.Value.{Value}
 use Rattle.serial_meaning.specs.declared.event.Fault.{Fault}
 use Rattle.serial_meaning.specs.declared.origin.Origin.{Origin}
 use Rattle.serial_meaning.specs.declared.origin.Origin.TheVariants.{Instance, Loop}
-use Rattle.strand_meaning.specs.Strands.{events_at, own_events, own_fault_at, is_below, child_on_way, Strand, Found, Reached, Missing, Blocked, strand_of, last_step, blocks, entered, iteration_on_way, next_step, by_child, is_one_of, walk_in, strand_at}
+use Rattle.strand_meaning.specs.Strands.{events_at, own_events, own_fault_at, is_below, child_on_way, Strand, Found, Reached, Missing, Blocked, strand_of, last_step, blocks, entered_child, iteration_on_way, next_step, by_child, is_one_of, walk_in, strand_at}
 use Rattle.strand_meaning.specs.Rest.{children_of}
 use Rattle.strand_meaning.specs.StrandLaws.{IsWholeUpTo, fault_at, strand_in}
 use Rattle.strand_meaning.proofs.SoundSteps.Depth.{loop-of-plan, same-answer}
@@ -24,7 +24,7 @@ use Rattle.strand_meaning.proofs.SoundSteps.Loops.{contains-turn}
 use Rattle.strand_meaning.proofs.Unfilled.Variables.{same-name, is-itself}
 use Rattle.strand_meaning.proofs.ElisionsStrands.ItemsRise.{NotBelow, IsWholeLoop, ItemsRise, items-rise}
 use Rattle.strand_meaning.proofs.ElisionsStrands.Passing.{Agree, agree, own-strand}
-use Rattle.strand_meaning.proofs.ElisionsStrands.Under.{children-under}
+use Rattle.strand_meaning.proofs.ElisionsStrands.EventsBelowPath.{children-under}
 
 -- Below a path
 
@@ -69,15 +69,15 @@ none-below j (Opened k ∷ is) e = none-below j is e
 none-below j (Closed k ∷ is) e = none-below j is e
 
 -- a child on the way is one of the items, and begins a longer pedigree
-record OnWay (j : List ℕ) (is : List Item) (c : Origin) : Type 0 where
-  among : Contains is (Child c)
-  below : is_below (path_of c) j ≡ true
-  whole : IsWholeLoop c
+pub record OnWay (j : List ℕ) (is : List Item) (c : Origin) : Type 0 where
+  pub among : Contains is (Child c)
+  pub below : is_below (path_of c) j ≡ true
+  pub whole : IsWholeLoop c
 
 later-one : (i : Item) (is : List Item) (c : Origin) → Contains is (Child c) → Contains (i ∷ is) (Child c)
 later-one i is c k = (suc k.0, omega (arith, k.1), k.2)
 
-on-way : (j : List ℕ) (is : List Item) (c : Origin) → ItemsRise is → child_on_way j is ≡ Some c → OnWay j is c
+pub on-way : (j : List ℕ) (is : List Item) (c : Origin) → ItemsRise is → child_on_way j is ≡ Some c → OnWay j is c
 on-way j [] c r e = absurd (cc)
 on-way j (Happened x ∷ is) c r e = let w = on-way j is c r.1 e in record { among = later-one (Happened x) is c w.among; below = w.below; whole = w.whole }
 on-way j (Child o ∷ is) c r e = by_test (is_below (path_of o) j) refl e (on-way j is c r.2)
@@ -144,15 +144,15 @@ rank-there : (path : List ℕ) (k : ℕ) (more : List ℕ) → slice_get (path +
 rank-there [] k more = refl
 rank-there (x ∷ path) k more = rank-there path k more
 
-record Enters (j : List ℕ) (function : ℕ) (rest : List Value) (first : ℤ) (path : List ℕ) (count : ℕ) (c : Origin) : Type 0 where
-  turn : ℕ
-  within : turn < count
-  is : c ≡ iteration function rest first path turn
-  next : ℕ
-  more : List ℕ
-  below : j ≡ path_of c ++ next ∷ more
+pub record Enters (j : List ℕ) (function : ℕ) (rest : List Value) (first : ℤ) (path : List ℕ) (count : ℕ) (c : Origin) : Type 0 where
+  pub turn : ℕ
+  pub within : turn < count
+  pub is : c ≡ iteration function rest first path turn
+  pub next : ℕ
+  pub more : List ℕ
+  pub below : j ≡ path_of c ++ next ∷ more
 
-enters-turn : (j : List ℕ) (function : ℕ) (rest : List Value) (first : ℤ) (path : List ℕ) (count : ℕ) (k : ℕ) (more : List ℕ) (c : Origin) → j ≡ path ++ k ∷ more →
+pub enters-turn : (j : List ℕ) (function : ℕ) (rest : List Value) (first : ℤ) (path : List ℕ) (count : ℕ) (k : ℕ) (more : List ℕ) (c : Origin) → j ≡ path ++ k ∷ more →
     iteration_on_way j function rest first path count (slice_get j (length path)) ≡ Some c → Enters j function rest first path count c
 enters-turn j function rest first path count k more c e h = by_test (nat_lt k count && nat_lt (length path + 1) (length j)) refl named
   where
@@ -195,7 +195,7 @@ walked plan (suc steps) j o strand known w e = by_way (λ c. walked plan steps j
     by-child : (c : Origin) → Contains (opened plan o).items (Child c) → (k : ℕ) (more : List ℕ) → j ≡ path_of c ++ k ∷ more → (IsWholeUpTo j (eval plan c).ending → IsElisions plan j c strand) → IsElisions plan j o strand
     by-child c among k more below go = let a = into-child plan j o c k more known among below w in agreed j (eval plan o) (eval plan c) strand a (go a.whole)
 
-    by_kind : Walks plan steps j strand → (c : Origin) → OnWay j (opened plan o).items c → next_step (entered j c) (walk_in plan steps j) ≡ Reached strand → IsElisions plan j o strand
+    by_kind : Walks plan steps j strand → (c : Origin) → OnWay j (opened plan o).items c → next_step (entered_child j c) (walk_in plan steps j) ≡ Reached strand → IsElisions plan j o strand
     by_kind later (Instance function args path) way h =
         let c : Origin = Instance function args path in
         let b = below-of path j way.below in
@@ -203,7 +203,7 @@ walked plan (suc steps) j o strand known w e = by_way (λ c. walked plan steps j
     by_kind later (Loop function rest first path range) way h =
         let c : Origin = Loop function rest first path range in
         let b = below-of path j way.below in
-        let next = next-is (entered j c) (walk_in plan steps j) strand h in
+        let next = next-is (entered_child j c) (walk_in plan steps j) strand h in
         let turn = enters-turn j function rest first path (range.hi - range.lo) b.0 b.1 next.0 b.2 next.1 in
         let i : Origin = iteration function rest first path turn.turn in
         let of_plan : IsOriginOf plan c = ChildOf o c known way.among in

@@ -19,7 +19,7 @@ use Rattle.strand_meaning.specs.Strands.{pedigree_of, events_at, own_events, own
 use Rattle.strand_meaning.specs.StrandLaws.{IsWholeUpTo, fault_at, strand_in}
 use Rattle.strand_meaning.proofs.Unfilled.Variables.{is-other}
 use Rattle.strand_meaning.proofs.ElisionsStrands.ItemsRise.{NotBelow, RightOf, ClearOf, ItemsRise}
-use Rattle.strand_meaning.proofs.ElisionsStrands.Under.{IsUnder, EndUnder, StaysUnder}
+use Rattle.strand_meaning.proofs.ElisionsStrands.EventsBelowPath.{IsUnder, EndUnder, StaysUnder}
 
 -- Events of one pedigree
 

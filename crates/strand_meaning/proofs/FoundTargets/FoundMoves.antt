@@ -12,10 +12,10 @@ use Rattle.script_grammar.specs.declared.tree.Act.{Act}
 use Rattle.script_grammar.specs.declared.tree.Act.TheOpen as act
 use Rattle.script_grammar.specs.declared.tree.Act.TheOpen.{Act-F}
 use Rattle.serial_meaning.specs.Runs.{Run, done, ◌then◌}
-use Rattle.serial_meaning.specs.Values.{value_of, values_of, slot_of, items_of, number, is_true, at_index}
+use Rattle.serial_meaning.specs.Values.{value_of, values_of, slot_of, items_of, as_integer, is_true, at_index}
 use Rattle.serial_meaning.specs.Functions.{number_of, function_at}
 use Rattle.serial_meaning.specs.Plan.{PlanView, functions_of}
-use Rattle.serial_meaning.specs.Exec.{State, Manner, given, paid_from, tested, has_room, fits_depth, spawn, join_at, goes_out, implied, frame, called, right_side, found, looped, does, count_of}
+use Rattle.serial_meaning.specs.Exec.{State, Manner, unless_fault, paid_from, tested, has_room, fits_depth, spawn, join_at, goes_out, implied, frame, called, right_side, found, looped, does, count_of}
 use Rattle.serial_meaning.specs.Open.{is_empty_loop}
 use Rattle.serial_meaning.specs.declared.value.Value.{Value}
 use Rattle.serial_meaning.specs.declared.value.Value.TheVariants.{Int}
@@ -26,14 +26,15 @@ use Rattle.serial_meaning.specs.declared.event.Event.TheVariants as event
 use Rattle.serial_meaning.specs.declared.origin.Origin.{Origin}
 use Rattle.serial_meaning.specs.declared.origin.Origin.TheVariants as origin
 use Rattle.strand_meaning.specs.Found.{FindsDestination, FindsTargets, IsFoundPlan, functions_in, functions_at}
-use Rattle.strand_meaning.specs.Machine.{Destination, Spawned, Effect, Opens, Closes, Emitted, Handed, Syncs, Loops, Exit, Faulted, Inside, loop_effects, sync_effects, handing, inside, destination_of, Level, Frame, Machine, Reached, Stands, Gives, state_of, here_of, inside_of, present, with_left, with_leaving, out_of_level, with_returning, back, spawns_in, entered, reached, gives, act_run, return_run, value_run, statement_move, return_move, level_move, end_move, move_at, move}
+use Rattle.script_check.specs.Spawns.{spawns_in}
+use Rattle.strand_meaning.specs.Machine.{Destination, Spawned, Effect, Opens, Closes, Emitted, Handed, Syncs, Loops, Exit, Faulted, Inside, loop_effects, sync_effects, handing, inside, destination_of, Level, Frame, Machine, Reached, Stands, Gives, state_of, here_of, inside_of, present, with_left, with_leaving, out_of_level, with_returning, back, machine_inside, reached, gives, act_run, return_run, value_run, statement_move, return_move, level_move, end_move, move_at, move}
 use Rattle.strand_meaning.specs.Pending.{act_of, ArePending}
 use Rattle.strand_meaning.specs.Sound.{AreDestinations, UnfilledArePending, unfilled}
 use Rattle.strand_meaning.specs.Task.{Running, stage_after}
 use Rattle.strand_meaning.specs.Trace.{AwaitedChild}
 use Rattle.strand_meaning.proofs.FoundTargets.FoundParts.{found-append, found-called, found-ended}
 use Rattle.strand_meaning.proofs.FoundTargets.LeftStatements.{spawned-found, next-found}
-use Rattle.strand_meaning.proofs.Unfilled.Shown.{effect_parts}
+use Rattle.strand_meaning.proofs.Unfilled.RestAfterEffects.{effect_parts}
 
 -- Where the innermost frame finds this variable, all children are found that a run with it hands out; and none is, where the run goes inside.
 module _ (plan : PlanView) (path : List ℕ) (functions : List ℕ) (place : Destination) (finds : FindsDestination plan functions place) where
@@ -56,7 +57,7 @@ module _ (plan : PlanView) (path : List ℕ) (functions : List ℕ) (place : Des
       from (Err (Faulted f)) k = tt
       from (Err (Inside here calls inner s)) k = k
 
-  hands-given : {A B : Type 0} (o : Result A FaultKind) (s : State Bool) (go : A → Run Effect Exit B) → ((a : A) → Hands (go a)) → Hands (given what plan path o s go)
+  hands-given : {A B : Type 0} (o : Result A FaultKind) (s : State Bool) (go : A → Run Effect Exit B) → ((a : A) → Hands (go a)) → Hands (unless_fault what plan path o s go)
   hands-given (Ok a) s go h = h a
   hands-given (Err k) s go h = tt
 
@@ -110,7 +111,7 @@ module _ (plan : PlanView) (path : List ℕ) (functions : List ℕ) (place : Des
   hands-does calls st (act.Let x r) s = hands-then (right_side what plan path inside calls r s) _ (hands-right calls r s)
   hands-does calls st (act.Array x n) s = tt
   hands-does calls st (act.Set x r) s = hands-then (right_side what plan path inside calls r s) _ (hands-right calls r s)
-  hands-does calls st (act.Store x i e) s = hands-given (value_of i s.env) s _ (λ k. by_item (at_index (items_of (slot_of s.env x.bytes)) (number k)) _ (hands-given (value_of e s.env) s _ (λ v. tt)))
+  hands-does calls st (act.Store x i e) s = hands-given (value_of i s.env) s _ (λ k. by_item (at_index (items_of (slot_of s.env x.bytes)) (as_integer k)) _ (hands-given (value_of e s.env) s _ (λ v. tt)))
     where
       by_item : (o : Option ℤ) (r : Run Effect Exit (State Bool)) → Hands r → Hands (found what plan path o s r)
       by_item None r h = tt
@@ -127,7 +128,7 @@ module _ (plan : PlanView) (path : List ℕ) (functions : List ℕ) (place : Des
       by_test false = tt
   hands-does calls st (act.Pfor x lo hi target c) s =
       hands-given (value_of lo s.env) s _ (λ l. hands-given (value_of hi s.env) s _ (λ h. hands-given (values_of c.args s.env) s _
-      (λ vs. hands-loop target c (number l) (count_of (number h -ℤ number l)) vs s)))
+      (λ vs. hands-loop target c (as_integer l) (count_of (as_integer h -ℤ as_integer l)) vs s)))
   hands-does calls st (act.Scope a) s = hands-tested (nat_lt (length path + 1) plan.limits.depth) Depth s _ refl
 
 -- what holds after a move
@@ -154,7 +155,7 @@ module _ (plan : PlanView) (path : List ℕ) (parts : List AwaitedChild) (m : Ma
   call-found : (function : ℕ) → FindsTargets plan (function ∷ functions_in m) parts
   call-found function = found-called plan (functions_in m) function height (ap suc (sym (length-map m.below (λ a. a.function)))) parts places before
 
-  entered-found : (st : Stmt) (a : Act-F Act Stmt) (left inner : List Stmt) (s : State Bool) → FindsTargets plan (functions_in (entered plan st a left m inner s)) parts
+  entered-found : (st : Stmt) (a : Act-F Act Stmt) (left inner : List Stmt) (s : State Bool) → FindsTargets plan (functions_in (machine_inside plan st a left m inner s)) parts
   entered-found st (act.Let x (right.Value e)) left inner s = before
   entered-found st (act.Let x (right.Draw at)) left inner s = before
   entered-found st (act.Let x (right.New at)) left inner s = before
@@ -184,7 +185,7 @@ module _ (plan : PlanView) (path : List ℕ) (parts : List AwaitedChild) (m : Ma
   statement-found st left finds =
       let place = destination_of height (act_of st) in
       let r = act_run plan path m st (act_of st) in
-      moved-found place finds (with_left m left) (λ s. refl) (entered plan st (act_of st) left m) (entered-found st (act_of st) left) r.items r.ending
+      moved-found place finds (with_left m left) (λ s. refl) (machine_inside plan st (act_of st) left m) (entered-found st (act_of st) left) r.items r.ending
       (hands-paid plan (here_of path m) (functions_in m) place finds m.steps (state_of m) _ (λ s. hands-does plan (here_of path m) (functions_in m) place finds height st (act_of st) s))
 
   -- the value of a return
@@ -198,7 +199,7 @@ module _ (plan : PlanView) (path : List ℕ) (parts : List AwaitedChild) (m : Ma
           subst (FindsTargets plan functions) (sym (append-nil parts)) (found-ended plan functions m.top.function height parts places h)
 
       by_value : (o : Result Value FaultKind) →
-          let r : Run Effect Exit (Value × State Bool) = given (handing plan (Spawned (length m.below) None)) plan (here_of path m) o (state_of m) (λ v. done (v, state_of m)) in FoundEnd plan parts r.items (gives plan m r.ending)
+          let r : Run Effect Exit (Value × State Bool) = unless_fault (handing plan (Spawned (length m.below) None)) plan (here_of path m) o (state_of m) (λ v. done (v, state_of m)) in FoundEnd plan parts r.items (gives plan m r.ending)
       by_value (Ok v) = to_caller v m.below before
       by_value (Err k) = tt
 

@@ -5,7 +5,7 @@ use Rattle.strand_meaning.specs.Machine.{Destination, Spawned, Looped, Half}
 use Rattle.strand_meaning.specs.Trace.{AwaitedChild}
 use Rattle.strand_meaning.specs.Found.{FindsDestination, FindsTargets}
 use Rattle.strand_meaning.specs.Sound.{IsDestination, AreDestinations, IsHalf, AreHalves}
-use Rattle.strand_meaning.proofs.UnfilledPending.Alike.{Alike, End, Next}
+use Rattle.strand_meaning.proofs.UnfilledPending.AlikeButEvents.{Alike, End, Next}
 
 module _ (plan : PlanView) where
   -- of no frame

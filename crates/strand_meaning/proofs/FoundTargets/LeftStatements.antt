@@ -58,18 +58,18 @@ module _ (is calls : Name → Bool) where
   if-found : (e : Expr) (first second : List Stmt) → opened (act.If e first second) ≡ true → (every_in_block is calls first && every_in_block is calls second) ≡ true
   if-found e first second h = (and_parts (every_in is e) (every_in_block is calls first && every_in_block is calls second) h).1
 
-  block-found : {st : Stmt} {before : check.Names} {block : List Stmt} {inner : check.Names} {again : List Stmt} → HasBlock st before block inner again → every_in_statement is calls st ≡ true → every_in_block is calls block ≡ true
+  block-found : {st : Stmt} {before : check.NameSet} {block : List Stmt} {inner : check.NameSet} {again : List Stmt} → HasBlock st before block inner again → every_in_statement is calls st ≡ true → every_in_block is calls block ≡ true
   block-found {st = st} (Then e first second a) h = (and_parts (every_in_block is calls first) (every_in_block is calls second) (if-found e first second (opened-found st (act.If e first second) a h))).0
   block-found {st = st} (Else e first second a) h = (and_parts (every_in_block is calls first) (every_in_block is calls second) (if-found e first second (opened-found st (act.If e first second) a h))).1
   block-found {st = st} (LoopBody e body a) h = (and_parts (every_in is e) (every_in_block is calls body) (opened-found st (act.While e body) a h)).1
 
   -- and with it what comes after it, before the statements after that one
-  again-found : {st : Stmt} {before : check.Names} {block : List Stmt} {inner : check.Names} {again : List Stmt} → HasBlock st before block inner again → every_in_statement is calls st ≡ true → every_in_block is calls again ≡ true
+  again-found : {st : Stmt} {before : check.NameSet} {block : List Stmt} {inner : check.NameSet} {again : List Stmt} → HasBlock st before block inner again → every_in_statement is calls st ≡ true → every_in_block is calls again ≡ true
   again-found (Then e first second a) h = refl
   again-found (Else e first second a) h = refl
   again-found {st = st} (LoopBody e body a) h = both-true (every_in_statement is calls st) true h refl
 
-  pub comes-found : {from now : check.Names} {sts left : List Stmt} → ComesTo from sts left now → every_in_block is calls sts ≡ true → every_in_block is calls left ≡ true
+  pub comes-found : {from now : check.NameSet} {sts left : List Stmt} → ComesTo from sts left now → every_in_block is calls sts ≡ true → every_in_block is calls left ≡ true
   comes-found Here h = h
   comes-found (Past {st = st} {sts = sts} c) h = comes-found c (others-found st sts h)
   comes-found (Within {st = st} {next = next} {sts = sts} {again = again} {left = left} b c) h =
@@ -78,7 +78,7 @@ module _ (is calls : Name → Bool) where
       append-found (next ∷ left) (again ++ sts) (comes-found c (block-found b own)) after
 
   -- where a frame stands, from its function's body
-  pub stands-found : {body : List Stmt} {levels : List Level} {left : List Stmt} {now : check.Names} → FrameStandsAt body levels left now → every_in_block is calls body ≡ true → every_in_block is calls left ≡ true
+  pub stands-found : {body : List Stmt} {levels : List Level} {left : List Stmt} {now : check.NameSet} → FrameStandsAt body levels left now → every_in_block is calls body ≡ true → every_in_block is calls left ≡ true
   stands-found (Outside c) h = comes-found c h
   stands-found (InScope {level = level} {st = st} {block = block} s a c) h =
       comes-found c (opened-found st (act.Scope block) a (first-found st level.left (stands-found s h)))

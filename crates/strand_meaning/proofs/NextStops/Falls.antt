@@ -11,16 +11,17 @@ use Rattle.script_grammar.specs.declared.tree.Act.{Act, out-Act}
 use Rattle.script_grammar.specs.declared.tree.Act.TheOpen as act
 use Rattle.script_grammar.specs.declared.tree.Act.TheOpen.{Act-F}
 use Rattle.serial_meaning.specs.Runs.{Run, done, goes_on, ◌then◌}
-use Rattle.serial_meaning.specs.Values.{value_of, values_of, slot_of, items_of, number, is_true, at_index}
+use Rattle.serial_meaning.specs.Values.{value_of, values_of, slot_of, items_of, as_integer, is_true, at_index}
 use Rattle.serial_meaning.specs.Functions.{number_of, function_at}
 use Rattle.serial_meaning.specs.Plan.{PlanView, functions_of}
-use Rattle.serial_meaning.specs.Exec.{State, Manner, given, paid_from, tested, has_room, fits_depth, spawn, implied, frame, called, right_side, found, looped, does, count_of}
+use Rattle.serial_meaning.specs.Exec.{State, Manner, unless_fault, paid_from, tested, has_room, fits_depth, spawn, implied, frame, called, right_side, found, looped, does, count_of}
 use Rattle.serial_meaning.specs.declared.value.Value.{Value}
 use Rattle.serial_meaning.specs.declared.value.Value.TheVariants.{Int}
 use Rattle.serial_meaning.specs.declared.event.FaultKind.{FaultKind}
 use Rattle.serial_meaning.specs.declared.event.FaultKind.TheVariants.{Index, Depth, Calls, Budget}
 use Rattle.serial_meaning.specs.declared.event.Fault.{Fault}
-use Rattle.strand_meaning.specs.Machine.{Destination, Spawned, Looped, Effect, Exit, Faulted, Inside, handing, inside, destination_of, Level, Frame, Machine, Reached, Stands, Gives, state_of, here_of, with_left, with_returning, back, spawns_in, entered, reached, gives, value_run, statement_move, return_move, level_move, end_move, move_at, move}
+use Rattle.script_check.specs.Spawns.{spawns_in}
+use Rattle.strand_meaning.specs.Machine.{Destination, Spawned, Looped, Effect, Exit, Faulted, Inside, handing, inside, destination_of, Level, Frame, Machine, Reached, Stands, Gives, state_of, here_of, with_left, with_returning, back, machine_inside, reached, gives, value_run, statement_move, return_move, level_move, end_move, move_at, move}
 use Rattle.strand_meaning.specs.Left.{ways_out, all_ways_out, moves_of}
 
 -- no more than these steps are left, where it goes on or inside
@@ -52,7 +53,7 @@ module _ (plan : PlanView) (path : List ℕ) where
   abbrev what : Destination → Manner Effect Exit Bool
   what place = handing plan place
 
-  within-given : {A B : Type 0} (steps : B → ℕ) (n : ℕ) (place : Destination) (o : Result A FaultKind) (s : State Bool) (f : A → Run Effect Exit B) → ((a : A) → Within steps n (f a).ending) → Within steps n (given (what place) plan path o s f).ending
+  within-given : {A B : Type 0} (steps : B → ℕ) (n : ℕ) (place : Destination) (o : Result A FaultKind) (s : State Bool) (f : A → Run Effect Exit B) → ((a : A) → Within steps n (f a).ending) → Within steps n (unless_fault (what place) plan path o s f).ending
   within-given steps n place (Ok a) s f h = h a
   within-given steps n place (Err k) s f h = tt
 
@@ -95,7 +96,7 @@ module _ (plan : PlanView) (path : List ℕ) where
     does-within height st (act.Array x k) s h = h
     does-within height st (act.Set x r) s h = within-then pair_steps steps_of n (right_side (what (Spawned height (Some x))) plan path inside height r s) _ (right-within (Spawned height (Some x)) height r s h) (λ p g. g)
     does-within height st (act.Store x i e) s h =
-        within-given steps_of n (Spawned height None) (value_of i s.env) s _ (λ k. by_item (at_index (items_of (slot_of s.env x.bytes)) (number k)) _ (within-given steps_of n (Spawned height None) (value_of e s.env) s _ (λ v. h)))
+        within-given steps_of n (Spawned height None) (value_of i s.env) s _ (λ k. by_item (at_index (items_of (slot_of s.env x.bytes)) (as_integer k)) _ (within-given steps_of n (Spawned height None) (value_of e s.env) s _ (λ v. h)))
       where
         by_item : (o : Option ℤ) (r : Run Effect Exit (State Bool)) → Within steps_of n r.ending → Within steps_of n (found (what (Spawned height None)) plan path o s r).ending
         by_item None r g = tt
@@ -112,7 +113,7 @@ module _ (plan : PlanView) (path : List ℕ) where
         by_test false = h
     does-within height st (act.Pfor x lo hi target c) s h =
         within-given steps_of n (Looped target) (value_of lo s.env) s _ (λ l. within-given steps_of n (Looped target) (value_of hi s.env) s _ (λ k. within-given steps_of n (Looped target) (values_of c.args s.env) s _
-        (λ vs. looped-within (Looped target) (number l) (count_of (number k -ℤ number l)) vs target c s h)))
+        (λ vs. looped-within (Looped target) (as_integer l) (count_of (as_integer k -ℤ as_integer l)) vs target c s h)))
     does-within height st (act.Scope a) s h = within-tested steps_of n (Spawned height None) (nat_lt (length path + 1) plan.limits.depth) Depth s _ h
 
 module _ (plan : PlanView) (path : List ℕ) where
@@ -124,7 +125,7 @@ module _ (plan : PlanView) (path : List ℕ) where
     steps : k.steps ≡ s.steps
     deeper : open_in k ≤ open_in m + 2
 
-  entered-falls : (m : Machine) (st : Stmt) (a : Act-F Act Stmt) (left inner : List Stmt) (s : State Bool) → Enters m (entered plan st a left m inner s) s
+  entered-falls : (m : Machine) (st : Stmt) (a : Act-F Act Stmt) (left inner : List Stmt) (s : State Bool) → Enters m (machine_inside plan st a left m inner s) s
   entered-falls m st (act.Let x (right.Value e)) left inner s = record { steps = refl; deeper = omega arith }
   entered-falls m st (act.Let x (right.Draw at)) left inner s = record { steps = refl; deeper = omega arith }
   entered-falls m st (act.Let x (right.New at)) left inner s = record { steps = refl; deeper = omega arith }
@@ -160,15 +161,15 @@ module _ (plan : PlanView) (path : List ℕ) where
       a : Act-F Act Stmt
       a = out-Act (out-Stmt st).act
 
-      by_end : (n : ℕ) → m.steps ≡ suc n → (e : Result (State Bool) Exit) → Within steps_of n e → Falls m (reached plan (with_left m left) (entered plan st a left m) e)
+      by_end : (n : ℕ) → m.steps ≡ suc n → (e : Result (State Bool) Exit) → Within steps_of n e → Falls m (reached plan (with_left m left) (machine_inside plan st a left m) e)
       by_end n h (Ok s) g = omega arith
       by_end n h (Err (Faulted f)) g = tt
-      by_end n h (Err (Inside here calls inner s)) g = let e = entered-falls m st a left inner s in fewer (entered plan st a left m inner s) e.steps e.deeper
+      by_end n h (Err (Inside here calls inner s)) g = let e = entered-falls m st a left inner s in fewer (machine_inside plan st a left m inner s) e.steps e.deeper
         where
           fewer : (k : Machine) → k.steps ≡ s.steps → open_in k ≤ open_in m + 2 → moves_of k < moves_of m
           fewer k x y = omega arith
 
-      by_steps : (n : ℕ) → m.steps ≡ n → Falls m (reached plan (with_left m left) (entered plan st a left m) (paid_from (handing plan (destination_of (length m.below) a)) plan (here_of path m) n (state_of m) (λ s. does (handing plan (destination_of (length m.below) a)) plan (here_of path m) inside (length m.below) st a s)).ending)
+      by_steps : (n : ℕ) → m.steps ≡ n → Falls m (reached plan (with_left m left) (machine_inside plan st a left m) (paid_from (handing plan (destination_of (length m.below) a)) plan (here_of path m) n (state_of m) (λ s. does (handing plan (destination_of (length m.below) a)) plan (here_of path m) inside (length m.below) st a s)).ending)
       by_steps zero h = tt
       by_steps (suc n) h =
           let s : State Bool = record (state_of m) { steps = n } in
@@ -193,7 +194,7 @@ module _ (plan : PlanView) (path : List ℕ) where
       to_caller v [] h = tt
       to_caller v (caller ∷ below) h = rw h (omega arith)
 
-      by_value : (f : Function) (o : Result Value FaultKind) → Falls m (gives plan m (given (handing plan (Spawned (length m.below) None)) plan (here_of path m) o (state_of m) (λ v. done (v, state_of m))).ending)
+      by_value : (f : Function) (o : Result Value FaultKind) → Falls m (gives plan m (unless_fault (handing plan (Spawned (length m.below) None)) plan (here_of path m) o (state_of m) (λ v. done (v, state_of m))).ending)
       by_value f (Ok v) = to_caller v m.below refl
       by_value f (Err k) = tt
 

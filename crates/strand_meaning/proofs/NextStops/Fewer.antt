@@ -21,13 +21,13 @@ use Rattle.strand_meaning.specs.Sound.{AreHalves, IsSoundStage, IsSoundWork, IsT
 use Rattle.strand_meaning.specs.Left.{item_stops, at_end, stage_stops, work_stops, stops_of, stops_left}
 use Rattle.strand_meaning.specs.Laws.{LeavesFewer, IsSoundStep}
 use Rattle.strand_meaning.specs.Observation.{effect_items}
-use Rattle.strand_meaning.proofs.Unfilled.Shown.{effect_parts}
-use Rattle.strand_meaning.proofs.Unfilled.Taken.{shown_with, open-move, none-known}
+use Rattle.strand_meaning.proofs.Unfilled.RestAfterEffects.{effect_parts}
+use Rattle.strand_meaning.proofs.Unfilled.MovesBeforeAnswers.{shown_with, open-move, none-known}
 use Rattle.strand_meaning.proofs.Unfilled.SoundMoves.{sound-free}
-use Rattle.strand_meaning.proofs.UnfilledPending.Alike.{alike-effects, alike-takes}
-use Rattle.strand_meaning.proofs.SoundSteps.Own.{EffectRules, effects-move}
+use Rattle.strand_meaning.proofs.UnfilledPending.AlikeButEvents.{alike-effects, alike-takes}
+use Rattle.strand_meaning.proofs.SoundSteps.ChildrenFollowEvents.{EffectRules, effects-move}
 use Rattle.strand_meaning.proofs.SoundSteps.Starts.{halves-rest}
-use Rattle.strand_meaning.proofs.TakenAnswers.Onward.{rest-same, none-handed}
+use Rattle.strand_meaning.proofs.TakenAnswers.AnswersKeepTasks.{rest-same, none-handed}
 use Rattle.strand_meaning.proofs.SoundSteps.Ends.{steps_are_sound}
 
 -- What a move shows pays for its waits

@@ -14,8 +14,8 @@ use Rattle.strand_meaning.specs.Task.{InstanceState, Running, AtSync, AtLoop, En
 use Rattle.strand_meaning.specs.Rest.{evaluations}
 use Rattle.strand_meaning.specs.Sound.{IsSoundStage, IsTask}
 use Rattle.strand_meaning.specs.Observation.{IsInstance, work_left, Observation, stage_fault, IsOnWay}
-use Rattle.strand_meaning.proofs.TakenAnswers.Onward.{rest-same, none-handed}
-use Rattle.strand_meaning.proofs.Unfilled.Taken.{takes-taken}
+use Rattle.strand_meaning.proofs.TakenAnswers.AnswersKeepTasks.{rest-same, none-handed}
+use Rattle.strand_meaning.proofs.Unfilled.MovesBeforeAnswers.{takes-taken}
 
 -- No answer is a fault of the instance's own, and none takes such a fault from it.
 

@@ -15,8 +15,8 @@ use Rattle.strand_meaning.specs.Machine.{Destination, Spawned, Looped, Effect, O
 use Rattle.strand_meaning.specs.Trace.{AwaitedChild, Trace, prefix_unless, after_last, emit, emit_at, add_child, with_effects}
 use Rattle.strand_meaning.specs.Task.{own_instance}
 use Rattle.strand_meaning.specs.Sound.{IsBegunBy, IsShownAs, AreShownBy}
-use Rattle.strand_meaning.proofs.Unfilled.Keeps.{first-contained}
-use Rattle.strand_meaning.proofs.SoundSteps.Own.{Begins, EffectRules, effects-move}
+use Rattle.strand_meaning.proofs.Unfilled.UntouchedStays.{first-contained}
+use Rattle.strand_meaning.proofs.SoundSteps.ChildrenFollowEvents.{Begins, EffectRules, effects-move}
 
 -- the events before the next child
 abbrev pub front_of : List Event → List AwaitedChild → List Event

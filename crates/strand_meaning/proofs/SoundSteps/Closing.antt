@@ -11,7 +11,7 @@ use Rattle.serial_meaning.specs.declared.value.Value.{Value}
 use Rattle.serial_meaning.specs.declared.event.Fault.{Fault}
 use Rattle.serial_meaning.specs.declared.event.Event.{Event}
 use Rattle.serial_meaning.specs.declared.origin.Origin.{Origin}
-use Rattle.strand_meaning.specs.Rest.{children_of, closed_end, closed_at, closed}
+use Rattle.strand_meaning.specs.Rest.{children_of, closed_end, closed_at, closed_run}
 
 pub after-then : {I E A B : Type 0} (xs : List I) (r : Run I E A) (f : A → Run I E B) → (after_items xs r then f) ≡ after_items xs (r then f)
 after-then xs r f = goes_on-after xs r.items r.ending f
@@ -47,7 +47,7 @@ module _ (child : Origin → Evaluation) where
   matches-ends es None r (Err (Own f)) h = h
   matches-ends es None r (Err (ChildFaulted f)) h = absurd h
 
-  pub closed-then : {A B : Type 0} (r : Run Item NodeFault A) (f : A → B) → closed child (r then λ a. done (f a)) ≡ (closed child r then λ a. done (f a))
+  pub closed-then : {A B : Type 0} (r : Run Item NodeFault A) (f : A → B) → closed_run child (r then λ a. done (f a)) ≡ (closed_run child r then λ a. done (f a))
   closed-then {A} {B} r f = by_end r.items r.ending
     where
       by_items : (items : List Item) (a : A) → closed_at child (items ++ []) (Ok (f a)) ≡ (closed_at child items (Ok a) then λ a. done (f a))
@@ -67,12 +67,12 @@ module _ (child : Origin → Evaluation) where
       by_fault (Opened j ∷ items) e = by_fault items e
       by_fault (Closed j ∷ items) e = by_fault items e
 
-      by_end : (items : List Item) (e : Result A NodeFault) → closed child (goes_on items e (λ a. done (f a))) ≡ (closed_at child items e then λ a. done (f a))
+      by_end : (items : List Item) (e : Result A NodeFault) → closed_run child (goes_on items e (λ a. done (f a))) ≡ (closed_at child items e then λ a. done (f a))
       by_end items (Ok a) = by_items items a
       by_end items (Err e) = by_fault items e
 
 -- The evaluation of an origin is its node with its children's evaluations in their places.
-pub eval-closed : (plan : PlanView) (o : Origin) → eval plan o ≡ closed (children_of plan o) (opened plan o)
+pub eval-closed : (plan : PlanView) (o : Origin) → eval plan o ≡ closed_run (children_of plan o) (opened plan o)
 eval-closed plan o =
     let child : Origin → Evaluation = children_of plan o in
     let n = opened plan o in

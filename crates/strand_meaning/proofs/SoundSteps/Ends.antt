@@ -21,7 +21,7 @@ use Rattle.strand_meaning.specs.Clear.{IsClearPlan}
 use Rattle.strand_meaning.specs.Machine.{Destination, Spawned, Looped, Half, begun}
 use Rattle.strand_meaning.specs.Trace.{AwaitedChild, Trace, add_child}
 use Rattle.strand_meaning.specs.Task.{InstanceState, Running, AtSync, AtLoop, Ended, Work, Splits, Runs, Over, Task, begun_stage, start, own_instance, Stops, Spawn, waits, ends, ends_unless, faults_after, gave, stage_step, first_half, begins_last, split_step, over_step, work_step, step}
-use Rattle.strand_meaning.specs.Rest.{children_of, rest_of_stage, rest_open, closed, prefix_run, parts_run, turns_left, all_with, work_run, finish}
+use Rattle.strand_meaning.specs.Rest.{children_of, rest_of_stage, rest_open, closed_run, prefix_run, parts_run, turns_left, all_with, work_run, finish}
 use Rattle.strand_meaning.specs.Sound.{IsHalf, AreHalves, IsPartAfter, IsSoundStage, IsSoFar, IsEndOf, IsLoop, IsLongLoop, FitsOrigin, AreParts, IsInstanceOrLoop, IsSoundWork, UnfilledArePendingIn, IsTask}
 use Rattle.strand_meaning.specs.Found.{FindsTargets, functions_left}
 use Rattle.strand_meaning.specs.Laws.{IsFaultOf, IsSoundStep}
@@ -31,7 +31,7 @@ use Rattle.strand_meaning.proofs.SoundSteps.Starts.{begun-whole, begun-sound, be
 use Rattle.strand_meaning.proofs.SoundSteps.Closing.{closed-then, eval-closed}
 use Rattle.strand_meaning.proofs.SoundSteps.Finishing.{add_child-so_far}
 use Rattle.strand_meaning.proofs.SoundSteps.Begun.{shown-more}
-use Rattle.strand_meaning.proofs.SoundSteps.Passed.{ends-later}
+use Rattle.strand_meaning.proofs.SoundSteps.LoopsEndByRest.{ends-later}
 use Rattle.strand_meaning.proofs.SoundSteps.Depth.{loop-of-plan}
 use Rattle.strand_meaning.proofs.SoundSteps.Loops.{then-done, eval-loop, halves-turns, own-of-plan, part-of-loop}
 
@@ -136,7 +136,7 @@ module _ (t : Task) (is : IsTask t) where
           same : (vs : List Value) → run_at ps t.work vs ≡ run_at ps (Over v false) vs
           same vs =
               ap (λ (w : Work). run_at ps w vs) at
-              ∙ ap (λ (r : Run Item NodeFault Value). closed (children_of t.plan own) r then λ v. done (all_with t.origin vs v)) (ended-rest t.plan (children_of t.plan own) (path_of own) 0 ps (halves-places ps halves) (Ok v))
+              ∙ ap (λ (r : Run Item NodeFault Value). closed_run (children_of t.plan own) r then λ v. done (all_with t.origin vs v)) (ended-rest t.plan (children_of t.plan own) (path_of own) 0 ps (halves-places ps halves) (Ok v))
               ∙ ap (λ (o : Origin). done (all_with o vs v)) h
 
   fault-sound : (f : Fault) → t.work ≡ Runs (Ended (Err (Own f))) → (qs : List AwaitedChild) → ps ≡ qs → IsSoundStep t (faults_after qs t f)
@@ -241,13 +241,13 @@ module _ (t : Task) (is : IsTask t) where
         last : left.lo ≡ range.hi - 1
         last = let top : left.hi ≡ range.hi = end-of.1 in omega arith
 
-        evaluates : eval t.plan (iteration function rest first path left.lo) ≡ (closed kids (rest_open t.plan kids (path_of own) ps stage) then λ v. done (v ∷ []))
+        evaluates : eval t.plan (iteration function rest first path left.lo) ≡ (closed_run kids (rest_open t.plan kids (path_of own) ps stage) then λ v. done (v ∷ []))
         evaluates =
-            ap (λ k. eval t.plan (iteration function rest first path k)) last ∙ eval-closed t.plan own ∙ ap (closed kids) opens ∙ closed-then kids (rest_open t.plan kids (path_of own) ps stage) (λ v. v ∷ [])
+            ap (λ k. eval t.plan (iteration function rest first path k)) last ∙ eval-closed t.plan own ∙ ap (closed_run kids) opens ∙ closed-then kids (rest_open t.plan kids (path_of own) ps stage) (λ v. v ∷ [])
 
         same : (vs : List Value) → run_at ps t.work vs ≡ run_at ps (begins_last t.plan t.origin) vs
         same vs =
-            let inner : Run Event Fault Value = closed kids (rest_open t.plan kids (path_of own) ps stage) in
+            let inner : Run Event Fault Value = closed_run kids (rest_open t.plan kids (path_of own) ps stage) in
             ap (λ (w : Work). run_at ps w vs) at
             ∙ ap (λ (o : Origin). turns_left (eval t.plan) o left then λ us. done (vs ++ us)) loop
             ∙ ap (λ (n : ℕ). turns (eval t.plan) function rest first path left.lo n then λ us. done (vs ++ us)) h
@@ -366,7 +366,7 @@ tasks_begin plan (Instance function args path) known clear =
     let whole : opened plan o ≡ (rest_open plan kids path [] (begun_stage (begun plan function args)) then λ v. done (v ∷ [])) =
     begun-whole plan function args path ∙ ap (λ (r : Run Item NodeFault Value). r then λ v. done (v ∷ [])) (sym (halves-rest plan kids path [] tt (begun plan function args))) in
     record {
-      finishes = sym (eval-closed plan o ∙ ap (closed kids) whole ∙ closed-then kids (rest_open plan kids path [] (begun_stage (begun plan function args))) (λ v. v ∷ []));
+      finishes = sym (eval-closed plan o ∙ ap (closed_run kids) whole ∙ closed-then kids (rest_open plan kids path [] (begun_stage (begun plan function args))) (λ v. v ∷ []));
       known = known;
       clear = clear;
       parts = tt;

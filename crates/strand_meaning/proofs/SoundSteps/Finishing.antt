@@ -12,7 +12,7 @@ use Rattle.serial_meaning.specs.declared.origin.Origin.{Origin}
 use Rattle.strand_meaning.specs.Machine.{Destination, Spawned, Looped, Half, Effect, Opens, Closes, Emitted, Handed, Syncs, Loops}
 use Rattle.strand_meaning.specs.Trace.{AwaitedChild, Trace, after_last, emit, emit_at, add_child, with_effects}
 use Rattle.strand_meaning.specs.Task.{more_values}
-use Rattle.strand_meaning.specs.Rest.{closed, prefix_run, parts_run}
+use Rattle.strand_meaning.specs.Rest.{closed_run, prefix_run, parts_run}
 use Rattle.strand_meaning.specs.Observation.{effect_items}
 use Rattle.strand_meaning.proofs.SoundSteps.Closing.{after-then}
 
@@ -116,14 +116,14 @@ SameChild some other Syncs = Unit {0}
 SameChild some other Loops = Unit {0}
 
 pub played-closed : (some other : Origin → Evaluation) (ts : List Effect) → Each (SameChild some other) ts → {A : Type 0} (r : Run Item NodeFault A) (go : A → Evaluation) →
-    (closed some (after_items (effect_items ts) r) then go) ≡ played other ts (closed some r then go)
+    (closed_run some (after_items (effect_items ts) r) then go) ≡ played other ts (closed_run some r then go)
 played-closed some other [] same r go = refl
 played-closed some other (Opens j ∷ ts) same r go = played-closed some other ts same.1 r go
 played-closed some other (Closes j ∷ ts) same r go = played-closed some other ts same.1 r go
-played-closed some other (Emitted e ∷ ts) same r go = after-then (e ∷ []) (closed some (after_items (effect_items ts) r)) go ∙ ap (after_items (e ∷ [])) (played-closed some other ts same.1 r go)
+played-closed some other (Emitted e ∷ ts) same r go = after-then (e ∷ []) (closed_run some (after_items (effect_items ts) r)) go ∙ ap (after_items (e ∷ [])) (played-closed some other ts same.1 r go)
 played-closed some other (Handed o place ∷ ts) same r go =
-    then-then (some o) (λ vs. closed some (after_items (effect_items ts) r)) go
+    then-then (some o) (λ vs. closed_run some (after_items (effect_items ts) r)) go
     ∙ ap (λ (q : Evaluation). some o then λ vs. q) (played-closed some other ts same.1 r go)
-    ∙ ap (λ (q : Evaluation). q then λ vs. played other ts (closed some r then go)) same.0
+    ∙ ap (λ (q : Evaluation). q then λ vs. played other ts (closed_run some r then go)) same.0
 played-closed some other (Syncs ∷ ts) same r go = played-closed some other ts same.1 r go
 played-closed some other (Loops ∷ ts) same r go = played-closed some other ts same.1 r go

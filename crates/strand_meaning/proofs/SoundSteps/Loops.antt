@@ -16,7 +16,7 @@ use Rattle.serial_meaning.specs.declared.origin.Origin.TheVariants.{Instance, Lo
 use Rattle.strand_meaning.specs.Task.{own_instance}
 use Rattle.strand_meaning.specs.Sound.{IsInstanceOrLoop}
 use Rattle.strand_meaning.proofs.SoundSteps.Depth.{longer}
-use Rattle.strand_meaning.proofs.Unfilled.Keeps.{first-contained, later-contained}
+use Rattle.strand_meaning.proofs.Unfilled.UntouchedStays.{first-contained, later-contained}
 
 pub then-done : {I E A : Type 0} (r : Run I E A) → (r then λ a. done a) ≡ r
 then-done {I} {E} {A} r = from r.items r.ending

@@ -4,7 +4,7 @@ use Rattle.std.proofs.Common.{pos}
 use Rattle.std.specs.Prelude.{Contains}
 use Rattle.std.proofs.lemmas.Option.{slice_get_within, get_or_from_slice_get}
 use Rattle.script_grammar.specs.declared.tree.Function.{Function}
-use Rattle.script_check.specs.Names.{nobody}
+use Rattle.script_check.specs.Names.{no_names}
 use Rattle.serial_meaning.specs.Runs.{Run, done, ◌then◌}
 use Rattle.serial_meaning.specs.Names.{Names}
 use Rattle.serial_meaning.specs.Functions.{function_at}
@@ -18,7 +18,8 @@ use Rattle.serial_meaning.specs.declared.event.Fault.{Fault}
 use Rattle.serial_meaning.specs.declared.origin.Origin.{Origin}
 use Rattle.serial_meaning.specs.declared.origin.Origin.TheVariants.{Instance}
 use Rattle.strand_meaning.specs.Clear.{IsClear, IsClearPlan}
-use Rattle.strand_meaning.specs.Machine.{Destination, Spawned, Looped, Half, Machine, Reached, Stands, Gives, spawns_in, begun}
+use Rattle.script_check.specs.Spawns.{spawns_in}
+use Rattle.strand_meaning.specs.Machine.{Destination, Spawned, Looped, Half, Machine, Reached, Stands, Gives, begun}
 use Rattle.strand_meaning.specs.Trace.{AwaitedChild}
 use Rattle.strand_meaning.specs.Task.{InstanceState, Running, Ended, begun_stage}
 use Rattle.strand_meaning.specs.Rest.{children_of, closes, rest_of_stage, rest_open}
@@ -144,7 +145,7 @@ begun-pending plan function args ps halves = by_function (function_at (functions
     none name h = none-contained name (subst (λ (l : Names). Contains l name) (none-unfilled 0 ps (halves-none 0 ps halves)) h)
 
     going : (f : Function) → function_at (functions_of plan) function ≡ Some f → UnfilledArePending plan ps (Running (machine f))
-    going f h = (record { function = f; of_plan = h; now = nobody; stands = Outside Here; pending = λ name c. absurd (none name c) }, tt)
+    going f h = (record { function = f; of_plan = h; now = no_names; stands = Outside Here; pending = λ name c. absurd (none name c) }, tt)
 
     by_function : (o : Option Function) → function_at (functions_of plan) function ≡ o → UnfilledArePending plan ps (begun_stage (begun plan function args))
     by_function None h = subst (UnfilledArePending plan ps) (sym (stage-is None h)) tt

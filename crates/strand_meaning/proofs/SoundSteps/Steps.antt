@@ -2,7 +2,7 @@
 use Rattle.std.proofs.Common.{◌≡◌, ℕ, List, [], ◌∷◌, ◌++◌, Option, Some, None, Result, Ok, Err, inr, length, refl, sym, ap, ◌∙◌, append_assoc, append-nil, subst}
 use Rattle.std.specs.Prelude.{Contains}
 use Rattle.std.proofs.lemmas.List.Elements.{Contains-append_left, Contains-append_right}
-use Rattle.serial_meaning.specs.Runs.{Run, done, stopped, after_items, ◌then◌}
+use Rattle.serial_meaning.specs.Runs.{Run, done, run_ends_by, after_items, ◌then◌}
 use Rattle.serial_meaning.specs.Plan.{PlanView}
 use Rattle.serial_meaning.specs.Eval.{Evaluation, path_of, eval}
 use Rattle.serial_meaning.specs.Open.{Item, Happened, Child, Opened, Closed, NodeFault, Own, opened}
@@ -15,25 +15,25 @@ use Rattle.serial_meaning.specs.declared.origin.Origin.{Origin}
 use Rattle.strand_meaning.specs.Machine.{Destination, Spawned, Looped, Half, Effect, Opens, Closes, Emitted, Handed, Syncs, Loops, Machine, Reached, Stands, Gives, move}
 use Rattle.strand_meaning.specs.Trace.{AwaitedChild, Trace, with_effects}
 use Rattle.strand_meaning.specs.Task.{InstanceState, Running, Ended, Work, Runs, Task, own_instance, stage_after, child_in, stops_at, passing, moved, resumed}
-use Rattle.strand_meaning.specs.Rest.{children_of, rest_of_stage, rest_open, closed, parts_run, prefix_run, work_run, all_with, finish}
+use Rattle.strand_meaning.specs.Rest.{children_of, rest_of_stage, rest_open, closed_run, parts_run, prefix_run, work_run, all_with, finish}
 use Rattle.strand_meaning.specs.Sound.{IsDestination, AreDestinations, IsHalf, AreHalves, IsSoundStage, IsSoFar, AreParts, IsInstanceOrLoop, UnfilledArePending, IsTask}
 use Rattle.strand_meaning.specs.Found.{FindsTargets, IsFoundPlan, functions_at, functions_left}
 use Rattle.strand_meaning.specs.Laws.{IsSoundStep}
 use Rattle.strand_meaning.specs.Observation.{effect_items}
-use Rattle.strand_meaning.proofs.Unfilled.Shown.{effect_parts}
-use Rattle.strand_meaning.proofs.Unfilled.Taken.{takes-taken, shown_with, open-move, none-known}
+use Rattle.strand_meaning.proofs.Unfilled.RestAfterEffects.{effect_parts}
+use Rattle.strand_meaning.proofs.Unfilled.MovesBeforeAnswers.{takes-taken, shown_with, open-move, none-known}
 use Rattle.strand_meaning.proofs.Unfilled.SoundMoves.{sound-free, SoundEnd, sound-move}
 use Rattle.strand_meaning.proofs.UnfilledPending.PendingMoves.{PendingEnd, pending-move}
 use Rattle.strand_meaning.proofs.UnfilledPending.PendingAnswers.{alike-pending}
 use Rattle.strand_meaning.proofs.FoundTargets.FoundParts.{found-nowhere, found-alike}
 use Rattle.strand_meaning.proofs.FoundTargets.FoundMoves.{FoundEnd, found-move, functions-after}
-use Rattle.strand_meaning.proofs.UnfilledPending.Alike.{Alike, alike-effects, alike-takes, alike-parts, alike-stage}
+use Rattle.strand_meaning.proofs.UnfilledPending.AlikeButEvents.{Alike, alike-effects, alike-takes, alike-parts, alike-stage}
 use Rattle.strand_meaning.proofs.SoundSteps.Depth.{loop-of-plan, same-answer}
-use Rattle.strand_meaning.proofs.SoundSteps.Own.{own-move}
+use Rattle.strand_meaning.proofs.SoundSteps.ChildrenFollowEvents.{own-move}
 use Rattle.strand_meaning.proofs.SoundSteps.Begun.{Shows, effects-fault, move-shows}
 use Rattle.strand_meaning.proofs.SoundSteps.Closing.{after-then}
 use Rattle.strand_meaning.proofs.SoundSteps.Finishing.{NotHalf, so_far, played, effects-so_far, SameChild, played-closed}
-use Rattle.strand_meaning.proofs.Unfilled.Keeps.{first-contained, later-contained}
+use Rattle.strand_meaning.proofs.Unfilled.UntouchedStays.{first-contained, later-contained}
 
 pub so_far-same : (child : Origin → Evaluation) (trace : Trace) (values : List Value) (f g : List Value → Evaluation) → ((vs : List Value) → f vs ≡ g vs) → so_far child trace values f ≡ so_far child trace values g
 so_far-same child trace values f g same =
@@ -168,9 +168,9 @@ module _ (t : Task) (is : IsTask t) (m : Machine) (own-known : IsOriginOf t.plan
 
       the-rest : (vs : List Value) → work_run t.plan t.origin ps (Runs (Running m)) vs ≡ played (eval t.plan) ts (work_run t.plan t.origin after (Runs stage) vs)
       the-rest vs =
-          ap (λ (r : Run Item NodeFault Value). closed kids r then λ v. done (all_with t.origin vs v)) leaves
+          ap (λ (r : Run Item NodeFault Value). closed_run kids r then λ v. done (all_with t.origin vs v)) leaves
           ∙ played-closed kids (eval t.plan) ts (same-children t.plan t.origin ts (known ts rest leaves)) rest (λ v. done (all_with t.origin vs v))
-          ∙ ap (λ (r : Run Item NodeFault Value). played (eval t.plan) ts (closed kids r then λ v. done (all_with t.origin vs v))) lands-here
+          ∙ ap (λ (r : Run Item NodeFault Value). played (eval t.plan) ts (closed_run kids r then λ v. done (all_with t.origin vs v))) lands-here
 
       finishes : finish (passing t ts (Runs stage)) ≡ eval t.plan t.origin
       finishes =
@@ -200,7 +200,7 @@ module _ (t : Task) (is : IsTask t) (m : Machine) (own-known : IsOriginOf t.plan
       halves : AreHalves (ps ++ effect_parts ts)
       halves = subst AreHalves (sym (ap (λ (l : List AwaitedChild). ps ++ l) fits.0 ∙ append-nil ps)) fits.1
   sound-moved ts (Err f) own-effects shows leaves fits stands finds =
-      next-task ts own-effects shows (stopped (Own f)) leaves (Ended (Err (Own f))) (sym (ended-rest t.plan kids path fits.1 (ps ++ effect_parts ts) places (Err (Own f)))) (fits.1, places) tt (λ plan-found. found-nowhere t.plan (ps ++ effect_parts ts))
+      next-task ts own-effects shows (run_ends_by (Own f)) leaves (Ended (Err (Own f))) (sym (ended-rest t.plan kids path fits.1 (ps ++ effect_parts ts) places (Err (Own f)))) (fits.1, places) tt (λ plan-found. found-nowhere t.plan (ps ++ effect_parts ts))
     where
       places : AreDestinations fits.1 (ps ++ effect_parts ts)
       places = subst (AreDestinations fits.1) (sym (ap (λ (l : List AwaitedChild). ps ++ l) fits.0 ∙ append-nil ps)) fits.2

@@ -14,9 +14,9 @@ use Rattle.strand_meaning.specs.Clear.{IsWithin, IsApart, IsClear, Nothing, Simp
 use Rattle.strand_meaning.specs.Machine.{Destination, Spawned, Looped, Half}
 use Rattle.strand_meaning.specs.Trace.{AwaitedChild}
 use Rattle.strand_meaning.specs.Sound.{unfilled_by, unfilled, is_by, any_by, IsDestination, AreDestinations}
-use Rattle.strand_meaning.proofs.Unfilled.Keeps.{later-contained}
-use Rattle.strand_meaning.proofs.Unfilled.Shown.{same-number}
-use Rattle.strand_meaning.proofs.Unfilled.Changed.{other-number}
+use Rattle.strand_meaning.proofs.Unfilled.UntouchedStays.{later-contained}
+use Rattle.strand_meaning.proofs.Unfilled.RestAfterEffects.{same-number}
+use Rattle.strand_meaning.proofs.Unfilled.ChangesCommute.{other-number}
 
 pub within-itself : (names : Names) → IsWithin names names
 within-itself names name h = h

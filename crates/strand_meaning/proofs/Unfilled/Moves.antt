@@ -13,10 +13,10 @@ use Rattle.script_grammar.specs.declared.tree.Act.{Act, out-Act}
 use Rattle.script_grammar.specs.declared.tree.Act.TheOpen as act
 use Rattle.script_grammar.specs.declared.tree.Act.TheOpen.{Act-F}
 use Rattle.serial_meaning.specs.Runs.{Run, done, happens, after_items, ◌then◌}
-use Rattle.serial_meaning.specs.Values.{Env, value_of, values_of, slot_of, items_of, number, is_true, at_index}
+use Rattle.serial_meaning.specs.Values.{Env, value_of, values_of, slot_of, items_of, as_integer, is_true, at_index}
 use Rattle.serial_meaning.specs.Functions.{number_of, function_at}
 use Rattle.serial_meaning.specs.Plan.{PlanView, functions_of}
-use Rattle.serial_meaning.specs.Exec.{State, Manner, strand, fault, given, paid_from, tested, has_room, fits_depth, filled, spawn, join, leaves, goes_out, scoped, implied, frame, called, right_side, found, store, looped, does, statement, exec, count_of, bound}
+use Rattle.serial_meaning.specs.Exec.{State, Manner, strand, fault, unless_fault, paid_from, tested, has_room, fits_depth, filled, spawn, join, leaves, goes_out, scoped, implied, frame, called, right_side, found, store, looped, does, statement, exec, count_of, bound}
 use Rattle.serial_meaning.specs.Exec.{shown as passes}
 use Rattle.serial_meaning.specs.Eval.{Evaluation, first_of}
 use Rattle.serial_meaning.specs.Open.{Item, Happened, Child, Opened, Closed, NodeFault, put_off, put_off_all, joined, loop_end, is_empty_loop, filler}
@@ -32,11 +32,12 @@ use Rattle.serial_meaning.specs.declared.event.Event.{Event}
 use Rattle.serial_meaning.specs.declared.event.Event.TheVariants as event
 use Rattle.serial_meaning.specs.declared.origin.Origin.{Origin}
 use Rattle.serial_meaning.specs.declared.origin.Origin.TheVariants as origin
-use Rattle.strand_meaning.specs.Machine.{Destination, Spawned, Looped, Effect, Emitted, Exit, loop_effects, sync_effects, handing, inside, destination_of, Level, Frame, Machine, state_of, inside_of, present, here_of, with_left, into_level, with_leaving, out_of_level, with_returning, with_scalar, back, spawns_in, calling, entered, reached, gives, act_run, value_run, level_move, move}
-use Rattle.strand_meaning.specs.Task.{Running, AtLoop, stage_after, answered, takes, resumed, joins, with_answer}
+use Rattle.script_check.specs.Spawns.{spawns_in}
+use Rattle.strand_meaning.specs.Machine.{Destination, Spawned, Looped, Effect, Emitted, Exit, loop_effects, sync_effects, handing, inside, destination_of, Level, Frame, Machine, state_of, inside_of, present, here_of, with_left, into_level, with_leaving, out_of_level, with_returning, with_scalar, back, calling, machine_inside, reached, gives, act_run, value_run, level_move, move}
+use Rattle.strand_meaning.specs.Task.{Running, AtLoop, stage_after, frame_with_answer, takes, resumed, joins, with_answer}
 use Rattle.strand_meaning.specs.Rest.{valued, closes, level_end, outwards, afterwards, remains, caller_state, remains_below, open_state, rest_of_machine, rest_of_stage, rest_open}
 use Rattle.strand_meaning.specs.Observation.{effect_items}
-use Rattle.strand_meaning.proofs.Unfilled.Shown.{effect_parts, shown, changed-top}
+use Rattle.strand_meaning.proofs.Unfilled.RestAfterEffects.{effect_parts, shown, changed-top}
 use Rattle.strand_meaning.proofs.Unfilled.Variables.{replaced-with, filled-later}
 
 abbrev S : Type 0
@@ -77,7 +78,7 @@ module _ (plan : PlanView) (child : Origin → Evaluation) (path : List ℕ) whe
     at-fault place kind s = refl
 
     pub at-given : (place : Destination) {A : Type 0} (o : Result A FaultKind) (s : State Bool) (f : A → Run Effect Exit (State Bool)) (g : A → Run Item NodeFault S) → ((a : A) → Shows (f a) (g a)) →
-        Shows (given (what place) plan now o s f) (given tree plan now o (opens m.top.faulted s) g)
+        Shows (unless_fault (what place) plan now o s f) (unless_fault tree plan now o (opens m.top.faulted s) g)
     at-given place (Ok a) s f g h = h a
     at-given place (Err k) s f g h = refl
 
@@ -170,8 +171,8 @@ module _ (plan : PlanView) (child : Origin → Evaluation) (path : List ℕ) whe
               ≡ after_items (Happened e ∷ Child o ∷ []) (rest_of_stage plan child path (resumed (takes (Spawned height target) q (Running (on (next o))))))
           by_end o (Ok vs) =
               ap (λ (env : Env). after_items (Happened e ∷ Child o ∷ []) (go (record { env = env; rank = m.rank + 1; steps = n; spawned = m.top.faulted }))) (sym (answer-later target (filler plan o) (first_of vs) m.top.env))
-              ∙ ap (λ (k : Machine). after_items (Happened e ∷ Child o ∷ []) (rest_of_machine plan child path k)) (sym (changed-top (answered target (Ok vs)) (on (next o))))
-          by_end o (Err f) = ap (λ (k : Machine). after_items (Happened e ∷ Child o ∷ []) (rest_of_machine plan child path k)) (sym (changed-top (answered target (Err f)) (on (next o))))
+              ∙ ap (λ (k : Machine). after_items (Happened e ∷ Child o ∷ []) (rest_of_machine plan child path k)) (sym (changed-top (frame_with_answer target (Ok vs)) (on (next o))))
+          by_end o (Err f) = ap (λ (k : Machine). after_items (Happened e ∷ Child o ∷ []) (rest_of_machine plan child path k)) (sym (changed-top (frame_with_answer target (Err f)) (on (next o))))
 
           by_test : (vs : List Value) (b : Bool) →
               Moves into (tested (what place) plan now b Depth (here n) (child_run (what place) c vs (here n)) then λ p. done (sets target p)) (tested tree plan now b Depth (there n) (child_run tree c vs (there n)) then λ p. done (sets target p))
@@ -179,8 +180,8 @@ module _ (plan : PlanView) (child : Origin → Evaluation) (path : List ℕ) whe
           by_test vs false = refl
 
           by_args : (o : Result (List Value) FaultKind) →
-              Moves into (given (what place) plan now o (here n) (λ vs. tested (what place) plan now (nat_lt (length now + 1) plan.limits.depth) Depth (here n) (child_run (what place) c vs (here n))) then λ p. done (sets target p))
-              (given tree plan now o (there n) (λ vs. tested tree plan now (nat_lt (length now + 1) plan.limits.depth) Depth (there n) (child_run tree c vs (there n))) then λ p. done (sets target p))
+              Moves into (unless_fault (what place) plan now o (here n) (λ vs. tested (what place) plan now (nat_lt (length now + 1) plan.limits.depth) Depth (here n) (child_run (what place) c vs (here n))) then λ p. done (sets target p))
+              (unless_fault tree plan now o (there n) (λ vs. tested tree plan now (nat_lt (length now + 1) plan.limits.depth) Depth (there n) (child_run tree c vs (there n))) then λ p. done (sets target p))
           by_args (Ok vs) = by_test vs (nat_lt (length now + 1) plan.limits.depth)
           by_args (Err k) = refl
 
@@ -188,8 +189,8 @@ module _ (plan : PlanView) (child : Origin → Evaluation) (path : List ℕ) whe
           Moves into (called (what place) plan now inside height c (here n) then λ p. done (sets target p)) (called tree plan now (exec tree plan) height c (there n) then λ p. done (sets target p))
       called-shows c enters n = by_args (values_of c.args m.top.env)
         where
-          number : ℕ
-          number = number_of (functions_of plan) c.name.bytes
+          as_integer : ℕ
+          as_integer = number_of (functions_of plan) c.name.bytes
 
           begins : Function → List Value → State Bool
           begins f vs = record { env = bound f.params vs; rank = m.rank; steps = n; spawned = false }
@@ -197,7 +198,7 @@ module _ (plan : PlanView) (child : Origin → Evaluation) (path : List ℕ) whe
           callee_run : Function → List Value → ℕ → Option Function → Run Item NodeFault (Value × S)
           callee_run f vs calls o = exec tree plan now calls f.body (opens None (begins f vs)) then closes plan child path now false o
 
-          body : (f : Function) (vs : List Value) → function_at (functions_of plan) number ≡ Some f →
+          body : (f : Function) (vs : List Value) → function_at (functions_of plan) as_integer ≡ Some f →
               ((callee_run f vs (height + 1) (Some f) then λ r. done (r.0, record (there n) { rank = r.1.rank; steps = r.1.steps })) then λ p. done (sets target p)) then go
               ≡ rest_of_machine plan child path (calling plan target c left m f.body (begins f vs))
           body f vs e =
@@ -206,21 +207,21 @@ module _ (plan : PlanView) (child : Origin → Evaluation) (path : List ℕ) whe
               ∙ ap (λ (k : ℕ). callee_run f vs k (Some f) then λ r. go (caller_state plan child path (left_of m left).top target r)) (add-one height)
               ∙ ap (λ (o : Option Function). callee_run f vs (suc height) o then λ r. go (caller_state plan child path (left_of m left).top target r)) (sym e)
 
-          by_function : (vs : List Value) (o : Option Function) → function_at (functions_of plan) number ≡ o →
+          by_function : (vs : List Value) (o : Option Function) → function_at (functions_of plan) as_integer ≡ o →
               Moves into ((frame (what place) plan now inside (height + 1) o vs (here n) then λ r. done (r.0, record (here n) { rank = r.1.rank; steps = r.1.steps })) then λ p. done (sets target p))
               ((frame tree plan now (exec tree plan) (height + 1) o vs (there n) then λ r. done (r.0, record (there n) { rank = r.1.rank; steps = r.1.steps })) then λ p. done (sets target p))
           by_function vs None e = refl
           by_function vs (Some f) e = body f vs e ∙ ap (rest_of_machine plan child path) (sym (enters f.body (begins f vs)))
 
           by_test : (vs : List Value) (b : Bool) →
-              Moves into (tested (what place) plan now b Calls (here n) (frame (what place) plan now inside (height + 1) (function_at (functions_of plan) number) vs (here n) then λ r. done (r.0, record (here n) { rank = r.1.rank; steps = r.1.steps })) then λ p. done (sets target p))
-              (tested tree plan now b Calls (there n) (frame tree plan now (exec tree plan) (height + 1) (function_at (functions_of plan) number) vs (there n) then λ r. done (r.0, record (there n) { rank = r.1.rank; steps = r.1.steps })) then λ p. done (sets target p))
-          by_test vs true = by_function vs (function_at (functions_of plan) number) refl
+              Moves into (tested (what place) plan now b Calls (here n) (frame (what place) plan now inside (height + 1) (function_at (functions_of plan) as_integer) vs (here n) then λ r. done (r.0, record (here n) { rank = r.1.rank; steps = r.1.steps })) then λ p. done (sets target p))
+              (tested tree plan now b Calls (there n) (frame tree plan now (exec tree plan) (height + 1) (function_at (functions_of plan) as_integer) vs (there n) then λ r. done (r.0, record (there n) { rank = r.1.rank; steps = r.1.steps })) then λ p. done (sets target p))
+          by_test vs true = by_function vs (function_at (functions_of plan) as_integer) refl
           by_test vs false = refl
 
           by_args : (o : Result (List Value) FaultKind) →
-              Moves into (given (what place) plan now o (here n) (λ vs. tested (what place) plan now (nat_lt height 256) Calls (here n) (frame (what place) plan now inside (height + 1) (function_at (functions_of plan) number) vs (here n) then λ r. done (r.0, record (here n) { rank = r.1.rank; steps = r.1.steps }))) then λ p. done (sets target p))
-              (given tree plan now o (there n) (λ vs. tested tree plan now (nat_lt height 256) Calls (there n) (frame tree plan now (exec tree plan) (height + 1) (function_at (functions_of plan) number) vs (there n) then λ r. done (r.0, record (there n) { rank = r.1.rank; steps = r.1.steps }))) then λ p. done (sets target p))
+              Moves into (unless_fault (what place) plan now o (here n) (λ vs. tested (what place) plan now (nat_lt height 256) Calls (here n) (frame (what place) plan now inside (height + 1) (function_at (functions_of plan) as_integer) vs (here n) then λ r. done (r.0, record (here n) { rank = r.1.rank; steps = r.1.steps }))) then λ p. done (sets target p))
+              (unless_fault tree plan now o (there n) (λ vs. tested tree plan now (nat_lt height 256) Calls (there n) (frame tree plan now (exec tree plan) (height + 1) (function_at (functions_of plan) as_integer) vs (there n) then λ r. done (r.0, record (there n) { rank = r.1.rank; steps = r.1.steps }))) then λ p. done (sets target p))
           by_args (Ok vs) = by_test vs (nat_lt height 256)
           by_args (Err k) = refl
 
@@ -237,7 +238,7 @@ module _ (plan : PlanView) (child : Origin → Evaluation) (path : List ℕ) whe
       right-shows (right.Value e) enters n = by_value (value_of e m.top.env)
         where
           by_value : (o : Result Value FaultKind) →
-              Moves into (given (what place) plan now o (here n) (λ v. done (v, here n)) then λ p. done (sets target p)) (given tree plan now o (there n) (λ v. done (v, there n)) then λ p. done (sets target p))
+              Moves into (unless_fault (what place) plan now o (here n) (λ v. done (v, here n)) then λ p. done (sets target p)) (unless_fault tree plan now o (there n) (λ v. done (v, there n)) then λ p. done (sets target p))
           by_value (Ok v) = refl
           by_value (Err k) = refl
       right-shows (right.Draw at) enters n = refl
@@ -256,34 +257,34 @@ module _ (plan : PlanView) (child : Origin → Evaluation) (path : List ℕ) whe
 
     module _ (place : Destination) where
       if-shows : (e : Expr) (a b : List Stmt) (n : ℕ) →
-          Moves (entered plan st (act.If e a b) left m) (does (what place) plan now inside height st (act.If e a b) (here n)) (does tree plan now (exec tree plan) height st (act.If e a b) (there n))
+          Moves (machine_inside plan st (act.If e a b) left m) (does (what place) plan now inside height st (act.If e a b) (here n)) (does tree plan now (exec tree plan) height st (act.If e a b) (there n))
       if-shows e a b n = by_value (value_of e m.top.env)
         where
           by_value : (o : Result Value FaultKind) →
-              Moves (entered plan st (act.If e a b) left m) (given (what place) plan now o (here n) (λ v. inside now height (if is_true v then a else b) (here n))) (given tree plan now o (there n) (λ v. exec tree plan now height (if is_true v then a else b) (there n)))
+              Moves (machine_inside plan st (act.If e a b) left m) (unless_fault (what place) plan now o (here n) (λ v. inside now height (if is_true v then a else b) (here n))) (unless_fault tree plan now o (there n) (λ v. exec tree plan now height (if is_true v then a else b) (there n)))
           by_value (Ok v) =
               let chosen = if is_true v then a else b in sym (in-front (exec tree plan now height chosen (there n))) ∙ ap ends (sym (exec-append tree plan now height chosen left (there n)))
           by_value (Err k) = refl
 
       while-shows : (e : Expr) (a : List Stmt) (n : ℕ) →
-          Moves (entered plan st (act.While e a) left m) (does (what place) plan now inside height st (act.While e a) (here n)) (does tree plan now (exec tree plan) height st (act.While e a) (there n))
+          Moves (machine_inside plan st (act.While e a) left m) (does (what place) plan now inside height st (act.While e a) (here n)) (does tree plan now (exec tree plan) height st (act.While e a) (there n))
       while-shows e a n = by_value (value_of e m.top.env)
         where
           by_test : (b : Bool) →
-              Moves (entered plan st (act.While e a) left m) (if b then (inside now height a (here n) then inside now height (st ∷ [])) else done (here n)) (if b then (exec tree plan now height a (there n) then exec tree plan now height (st ∷ [])) else done (there n))
+              Moves (machine_inside plan st (act.While e a) left m) (if b then (inside now height a (here n) then inside now height (st ∷ [])) else done (here n)) (if b then (exec tree plan now height a (there n) then exec tree plan now height (st ∷ [])) else done (there n))
           by_test true =
               sym (in-front (exec tree plan now height a (there n) then exec tree plan now height (st ∷ []))) ∙ ap ends (exec-turn tree plan now height st a left (there n))
           by_test false = refl
 
           by_value : (o : Result Value FaultKind) →
-              Moves (entered plan st (act.While e a) left m) (given (what place) plan now o (here n) (λ v. if is_true v then (inside now height a (here n) then inside now height (st ∷ [])) else done (here n)))
-              (given tree plan now o (there n) (λ v. if is_true v then (exec tree plan now height a (there n) then exec tree plan now height (st ∷ [])) else done (there n)))
+              Moves (machine_inside plan st (act.While e a) left m) (unless_fault (what place) plan now o (here n) (λ v. if is_true v then (inside now height a (here n) then inside now height (st ∷ [])) else done (here n)))
+              (unless_fault tree plan now o (there n) (λ v. if is_true v then (exec tree plan now height a (there n) then exec tree plan now height (st ∷ [])) else done (there n)))
           by_value (Ok v) = by_test (is_true v)
           by_value (Err k) = refl
 
       store-shows : (into : List Stmt → State Bool → Machine) (x : Name) (i e : Expr) (n : ℕ) → Moves into (store (what place) plan now x i e (here n)) (store tree plan now x i e (there n))
       store-shows into x i e n =
-          at-given now m on into go (λ s. refl) place (value_of i m.top.env) (here n) _ _ (λ k. by_item (at_index (items_of (slot_of m.top.env x.bytes)) (number k)) _ _
+          at-given now m on into go (λ s. refl) place (value_of i m.top.env) (here n) _ _ (λ k. by_item (at_index (items_of (slot_of m.top.env x.bytes)) (as_integer k)) _ _
           (at-given now m on into go (λ s. refl) place (value_of e m.top.env) (here n) _ _ (λ v. refl)))
         where
           by_item : (o : Option ℤ) (r : Run Effect Exit (State Bool)) (q : Run Item NodeFault S) → Moves into r q → Moves into (found (what place) plan now o (here n) r) (found tree plan now o (there n) q)
@@ -326,19 +327,19 @@ module _ (plan : PlanView) (child : Origin → Evaluation) (path : List ℕ) whe
         Moves into (does (what (Looped target)) plan now inside height st (act.Pfor x lo hi target c) (here n)) (does tree plan now (exec tree plan) height st (act.Pfor x lo hi target c) (there n))
     pfor-shows into x lo hi target c n =
         at-given now m on into go (λ s. refl) place (value_of lo m.top.env) (here n) _ _ (λ l. at-given now m on into go (λ s. refl) place (value_of hi m.top.env) (here n) _ _ (λ h. at-given now m on into go (λ s. refl) place (values_of c.args m.top.env) (here n) _ _
-        (λ vs. loop-shows into target c (number l) (count_of (number h -ℤ number l)) vs n)))
+        (λ vs. loop-shows into target c (as_integer l) (count_of (as_integer h -ℤ as_integer l)) vs n)))
       where
         place : Destination
         place = Looped target
 
-    enters-let : (x : Name) (r : Right) → EntersBy (entered plan st (act.Let x r) left m) (Some x) r
+    enters-let : (x : Name) (r : Right) → EntersBy (machine_inside plan st (act.Let x r) left m) (Some x) r
     enters-let x (right.Value e) = tt
     enters-let x (right.Draw at) = tt
     enters-let x (right.New at) = tt
     enters-let x (right.Call at c) = λ inner s. refl
     enters-let x (right.Spawn at c) = tt
 
-    enters-set : (x : Name) (r : Right) → EntersBy (entered plan st (act.Set x r) left m) (Some x) r
+    enters-set : (x : Name) (r : Right) → EntersBy (machine_inside plan st (act.Set x r) left m) (Some x) r
     enters-set x (right.Value e) = tt
     enters-set x (right.Draw at) = tt
     enters-set x (right.New at) = tt
@@ -401,19 +402,19 @@ module _ (plan : PlanView) (child : Origin → Evaluation) (path : List ℕ) whe
           by_test false = refl
 
     does-shows : (a : Act-F Act Stmt) → m.top.leaving ≡ false → (m.top.spawned ≡ false → m.top.faulted ≡ None) → (n : ℕ) →
-        Moves (entered plan st a left m) (does (what (destination_of height a)) plan now inside height st a (here n)) (does tree plan now (exec tree plan) height st a (there n))
-    does-shows (act.Let x r) open_ended none n = right-shows (entered plan st (act.Let x r) left m) (Some x) r (enters-let x r) n
+        Moves (machine_inside plan st a left m) (does (what (destination_of height a)) plan now inside height st a (here n)) (does tree plan now (exec tree plan) height st a (there n))
+    does-shows (act.Let x r) open_ended none n = right-shows (machine_inside plan st (act.Let x r) left m) (Some x) r (enters-let x r) n
     does-shows (act.Array x k) open_ended none n = refl
-    does-shows (act.Set x r) open_ended none n = right-shows (entered plan st (act.Set x r) left m) (Some x) r (enters-set x r) n
-    does-shows (act.Store x i e) open_ended none n = store-shows (destination_of height (act.Store x i e)) (entered plan st (act.Store x i e) left m) x i e n
-    does-shows (act.Spawn c) open_ended none n = spawned-shows (entered plan st (act.Spawn c) left m) None c n
-    does-shows (act.Call c) open_ended none n = called-shows (entered plan st (act.Call c) left m) None c (λ inner s. refl) n
-    does-shows act.Sync open_ended none n = at-sync now m on (entered plan st act.Sync left m) go (λ s. refl) (Spawned height None) (here n) (λ s. refl) none
+    does-shows (act.Set x r) open_ended none n = right-shows (machine_inside plan st (act.Set x r) left m) (Some x) r (enters-set x r) n
+    does-shows (act.Store x i e) open_ended none n = store-shows (destination_of height (act.Store x i e)) (machine_inside plan st (act.Store x i e) left m) x i e n
+    does-shows (act.Spawn c) open_ended none n = spawned-shows (machine_inside plan st (act.Spawn c) left m) None c n
+    does-shows (act.Call c) open_ended none n = called-shows (machine_inside plan st (act.Call c) left m) None c (λ inner s. refl) n
+    does-shows act.Sync open_ended none n = at-sync now m on (machine_inside plan st act.Sync left m) go (λ s. refl) (Spawned height None) (here n) (λ s. refl) none
     does-shows (act.Print e) open_ended none n =
-        at-given now m on (entered plan st (act.Print e) left m) go (λ s. refl) (Spawned height None) (value_of e m.top.env) (here n) _ _ (λ v. refl)
+        at-given now m on (machine_inside plan st (act.Print e) left m) go (λ s. refl) (Spawned height None) (value_of e m.top.env) (here n) _ _ (λ v. refl)
     does-shows (act.If e a b) open_ended none n = if-shows (Spawned height None) e a b n
     does-shows (act.While e a) open_ended none n = while-shows (Spawned height None) e a n
-    does-shows (act.Pfor x lo hi target c) open_ended none n = pfor-shows (entered plan st (act.Pfor x lo hi target c) left m) x lo hi target c n
+    does-shows (act.Pfor x lo hi target c) open_ended none n = pfor-shows (machine_inside plan st (act.Pfor x lo hi target c) left m) x lo hi target c n
     does-shows (act.Scope a) open_ended none n = scope-shows open_ended (Spawned height None) a n
 
   -- What remains of a machine is what a move shows, and then what it leaves.
@@ -439,9 +440,9 @@ module _ (plan : PlanView) (child : Origin → Evaluation) (path : List ℕ) whe
       a : Act-F Act Stmt
       a = out-Act (out-Stmt st).act
 
-      paid-shows : Shows (here_of path k) k (with_left k left) (entered plan st a left k) (later k left) (λ s. refl) (act_run plan path k st a) (statement tree plan (here_of path k) (exec tree plan) (length m.below) st (open_state plan child path k))
+      paid-shows : Shows (here_of path k) k (with_left k left) (machine_inside plan st a left k) (later k left) (λ s. refl) (act_run plan path k st a) (statement tree plan (here_of path k) (exec tree plan) (length m.below) st (open_state plan child path k))
       paid-shows =
-          at-paid (here_of path k) k (with_left k left) (entered plan st a left k) (later k left) (λ s. refl) (destination_of (length m.below) a) m.steps (state_of k) _ _ (does-shows k left st a refl none)
+          at-paid (here_of path k) k (with_left k left) (machine_inside plan st a left k) (later k left) (λ s. refl) (destination_of (length m.below) a) m.steps (state_of k) _ _ (does-shows k left st a refl none)
 
   -- the value of a return goes to the frame below
   value-is : (m : Machine) (f : Option Function) →
@@ -461,8 +462,8 @@ module _ (plan : PlanView) (child : Origin → Evaluation) (path : List ℕ) whe
       place : Destination
       place = Spawned (length m.below) None
 
-      by_value : (o : Result Value FaultKind) → let r : Run Effect Exit (Value × State Bool) = given (what place) plan (here_of path m) o (state_of m) (λ v. done (v, state_of m)) in
-          (given tree plan (here_of path m) o (open_state plan child path m) (λ v. done (v, open_state plan child path m)) then remains_below plan child path m.below m.top.target)
+      by_value : (o : Result Value FaultKind) → let r : Run Effect Exit (Value × State Bool) = unless_fault (what place) plan (here_of path m) o (state_of m) (λ v. done (v, state_of m)) in
+          (unless_fault tree plan (here_of path m) o (open_state plan child path m) (λ v. done (v, open_state plan child path m)) then remains_below plan child path m.below m.top.target)
           ≡ after_items (effect_items r.items) (shown plan child path r.items (gives plan m r.ending))
       by_value (Ok v) = to_caller v m.below
       by_value (Err kind) = refl

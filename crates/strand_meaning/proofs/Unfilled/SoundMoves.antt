@@ -17,10 +17,10 @@ use Rattle.script_grammar.specs.declared.tree.Act.TheOpen as act
 use Rattle.script_grammar.specs.declared.tree.Act.TheOpen.{Act-F}
 use Rattle.serial_meaning.specs.Runs.{Run, done, happens, ◌then◌}
 use Rattle.serial_meaning.specs.Names.{Names}
-use Rattle.serial_meaning.specs.Values.{Env, value_of, values_of, slot_of, items_of, number, is_true, at_index}
+use Rattle.serial_meaning.specs.Values.{Env, value_of, values_of, slot_of, items_of, as_integer, is_true, at_index}
 use Rattle.serial_meaning.specs.Functions.{number_of, function_at, act_spawns, spawns, any_spawns, any_true}
 use Rattle.serial_meaning.specs.Plan.{PlanView, functions_of}
-use Rattle.serial_meaning.specs.Exec.{State, Manner, fault, given, paid_from, tested, has_room, fits_depth, filled, spawn, join, implied, frame, called, right_side, found, store, looped, does, count_of, bound}
+use Rattle.serial_meaning.specs.Exec.{State, Manner, fault, unless_fault, paid_from, tested, has_room, fits_depth, filled, spawn, join, implied, frame, called, right_side, found, store, looped, does, count_of, bound}
 use Rattle.serial_meaning.specs.Open.{is_empty_loop}
 use Rattle.serial_meaning.proofs.Equations.Computing.{act_has_spawn, spawns-out}
 use Rattle.serial_meaning.specs.declared.value.Value.{Value}
@@ -32,14 +32,15 @@ use Rattle.serial_meaning.specs.declared.event.Event.TheVariants as event
 use Rattle.serial_meaning.specs.declared.origin.Origin.{Origin}
 use Rattle.serial_meaning.specs.declared.origin.Origin.TheVariants as origin
 use Rattle.strand_meaning.specs.Clear.{IsWithin, IsApart, IsClear, Simple, Branches, Turns, Levels, IsSimple, touched, pending_right, pending_after, target_names, IsClearPlan}
-use Rattle.strand_meaning.specs.Machine.{Destination, Spawned, Looped, Half, Effect, Emitted, Exit, loop_effects, sync_effects, handing, inside, destination_of, Level, Frame, Machine, Reached, Stands, Gives, state_of, here_of, with_left, into_level, with_leaving, out_of_level, with_returning, with_scalar, back, spawns_in, calling, entered, reached, gives, value_run, statement_move, return_move, level_move, end_move, move_at, move}
+use Rattle.script_check.specs.Spawns.{spawns_in}
+use Rattle.strand_meaning.specs.Machine.{Destination, Spawned, Looped, Half, Effect, Emitted, Exit, loop_effects, sync_effects, handing, inside, destination_of, Level, Frame, Machine, Reached, Stands, Gives, state_of, here_of, with_left, into_level, with_leaving, out_of_level, with_returning, with_scalar, back, calling, machine_inside, reached, gives, value_run, statement_move, return_move, level_move, end_move, move_at, move}
 use Rattle.strand_meaning.specs.Trace.{AwaitedChild}
-use Rattle.strand_meaning.specs.Task.{changed, answered, Running, AtSync, stage_after}
+use Rattle.strand_meaning.specs.Task.{changed, frame_with_answer, Running, AtSync, stage_after}
 use Rattle.strand_meaning.specs.Sound.{unfilled, is_by, any_by, AreSoundLevels, IsSound, AreSound, IsDestination, AreDestinations, IsHalf, AreHalves, after_sync, IsSoundStage}
-use Rattle.strand_meaning.proofs.Unfilled.Shown.{effect_parts, same-number}
-use Rattle.strand_meaning.proofs.Unfilled.Keeps.{first-contained, later-contained}
+use Rattle.strand_meaning.proofs.Unfilled.RestAfterEffects.{effect_parts, same-number}
+use Rattle.strand_meaning.proofs.Unfilled.UntouchedStays.{first-contained, later-contained}
 use Rattle.strand_meaning.specs.Laws.{changed_run}
-use Rattle.strand_meaning.proofs.Unfilled.Taken.{take-move, shape_of, IsFreePlace, AreFree}
+use Rattle.strand_meaning.proofs.Unfilled.MovesBeforeAnswers.{take-move, shape_of, IsFreePlace, AreFree}
 use Rattle.strand_meaning.proofs.Unfilled.Clears.{within-itself, none-contained, nothing-within, clear-within, clear-append, next-apart, unfilled-append, or-assoc, any-append, or-false, neither, none-unfilled, none-above, target-unfilled}
 
 clash : true ≡ false → ⊥
@@ -236,7 +237,7 @@ module _ (plan : PlanView) (path : List ℕ) (clear-plan : IsClearPlan plan) (pa
     fine-fault : (place : Destination) (kind : FaultKind) (s : State Bool) → Fine (fault (what place) plan now kind s)
     fine-fault place kind s = (refl, height, sound.0)
 
-    fine-given : (place : Destination) {A : Type 0} (o : Result A FaultKind) (s : State Bool) (f : A → Run Effect Exit (State Bool)) → ((a : A) → Fine (f a)) → Fine (given (what place) plan now o s f)
+    fine-given : (place : Destination) {A : Type 0} (o : Result A FaultKind) (s : State Bool) (f : A → Run Effect Exit (State Bool)) → ((a : A) → Fine (f a)) → Fine (unless_fault (what place) plan now o s f)
     fine-given place (Ok a) s f h = h a
     fine-given place (Err k) s f h = fine-fault place k s
 
@@ -310,7 +311,7 @@ module _ (plan : PlanView) (path : List ℕ) (clear-plan : IsClearPlan plan) (pa
         by_test vs true = next vs _
         by_test vs false = (refl, height, sound.0)
 
-        by_args : (o : Result (List Value) FaultKind) → Fine (given (what place) plan now o (here n) (λ vs. tested (what place) plan now (nat_lt (length now + 1) plan.limits.depth) Depth (here n) (child_run vs)) then λ p. done (sets target p))
+        by_args : (o : Result (List Value) FaultKind) → Fine (unless_fault (what place) plan now o (here n) (λ vs. tested (what place) plan now (nat_lt (length now + 1) plan.limits.depth) Depth (here n) (child_run vs)) then λ p. done (sets target p))
         by_args (Ok vs) = by_test vs (nat_lt (length now + 1) plan.limits.depth)
         by_args (Err k) = (refl, height, sound.0)
 
@@ -322,8 +323,8 @@ module _ (plan : PlanView) (path : List ℕ) (clear-plan : IsClearPlan plan) (pa
         place : Destination
         place = Spawned height target
 
-        number : ℕ
-        number = number_of (functions_of plan) c.name.bytes
+        as_integer : ℕ
+        as_integer = number_of (functions_of plan) c.name.bytes
 
         begins : Function → List Value → State Bool
         begins f vs = record { env = bound f.params vs; rank = m.rank; steps = n; spawned = false }
@@ -331,9 +332,9 @@ module _ (plan : PlanView) (path : List ℕ) (clear-plan : IsClearPlan plan) (pa
         none : any_by (suc height) parts ≡ false
         none = none-above height parts sound.0
 
-        callee : (f : Function) (vs : List Value) → function_at (functions_of plan) number ≡ Some f → IsSoundStage plan parts (Running (calling plan target c left m f.body (begins f vs)))
+        callee : (f : Function) (vs : List Value) → function_at (functions_of plan) as_integer ≡ Some f → IsSoundStage plan parts (Running (calling plan target c left m f.body (begins f vs)))
         callee f vs e =
-            let clear-body = clear-plan f (contained-at (functions_of plan) number f e) in (
+            let clear-body = clear-plan f (contained-at (functions_of plan) as_integer f e) in (
               places-higher height parts sound.0,
               record {
                 clear = (clear-body.0, subst (λ (l : Names). IsClear l f.body clear-body.0) (sym (none-unfilled (suc height) parts none)) clear-body.1);
@@ -348,19 +349,19 @@ module _ (plan : PlanView) (path : List ℕ) (clear-plan : IsClearPlan plan) (pa
               (apart, top-sound left (state_of m) ends refl clear text-more, sound.2),
             )
 
-        by_function : (vs : List Value) (o : Option Function) → function_at (functions_of plan) number ≡ o →
+        by_function : (vs : List Value) (o : Option Function) → function_at (functions_of plan) as_integer ≡ o →
             Fine ((frame (what place) plan now inside (height + 1) o vs (here n) then λ r. done (r.0, record (here n) { rank = r.1.rank; steps = r.1.steps })) then λ p. done (sets target p))
         by_function vs None e = calm left _ ends clear text-more
         by_function vs (Some f) e = no-parts (λ ps. IsSoundStage plan ps (Running (into f.body (begins f vs)))) (subst (λ (k : Machine). IsSoundStage plan parts (Running k)) (sym (enters f.body (begins f vs))) (callee f vs e))
 
         run : List Value → Run Effect Exit (Value × State Bool)
-        run vs = frame (what place) plan now inside (height + 1) (function_at (functions_of plan) number) vs (here n) then λ r. done (r.0, record (here n) { rank = r.1.rank; steps = r.1.steps })
+        run vs = frame (what place) plan now inside (height + 1) (function_at (functions_of plan) as_integer) vs (here n) then λ r. done (r.0, record (here n) { rank = r.1.rank; steps = r.1.steps })
 
         by_test : (vs : List Value) (b : Bool) → Fine (tested (what place) plan now b Calls (here n) (run vs) then λ p. done (sets target p))
-        by_test vs true = by_function vs (function_at (functions_of plan) number) refl
+        by_test vs true = by_function vs (function_at (functions_of plan) as_integer) refl
         by_test vs false = (refl, height, sound.0)
 
-        by_args : (o : Result (List Value) FaultKind) → Fine (given (what place) plan now o (here n) (λ vs. tested (what place) plan now (nat_lt height 256) Calls (here n) (run vs)) then λ p. done (sets target p))
+        by_args : (o : Result (List Value) FaultKind) → Fine (unless_fault (what place) plan now o (here n) (λ vs. tested (what place) plan now (nat_lt height 256) Calls (here n) (run vs)) then λ p. done (sets target p))
         by_args (Ok vs) = by_test vs (nat_lt height 256)
         by_args (Err k) = (refl, height, sound.0)
 
@@ -382,7 +383,7 @@ module _ (plan : PlanView) (path : List ℕ) (clear-plan : IsClearPlan plan) (pa
         Fine (right_side (what (Spawned height (Some x))) plan now inside height r (here n) then λ p. done (sets (Some x) p))
     fine-right x (right.Value e) n enters text apart clear = by_value (value_of e m.top.env)
       where
-        by_value : (o : Result Value FaultKind) → Fine (given (what (Spawned height (Some x))) plan now o (here n) (λ v. done (v, here n)) then λ p. done (sets (Some x) p))
+        by_value : (o : Result Value FaultKind) → Fine (unless_fault (what (Spawned height (Some x))) plan now o (here n) (λ v. done (v, here n)) then λ p. done (sets (Some x) p))
         by_value (Ok v) = calm left _ ends clear text-more
         by_value (Err k) = (refl, height, sound.0)
     fine-right x (right.Draw at) n enters text apart clear = calm left _ ends clear text-more
@@ -392,7 +393,7 @@ module _ (plan : PlanView) (path : List ℕ) (clear-plan : IsClearPlan plan) (pa
 
     fine-store : (place : Destination) (x : Name) (i e : Expr) (n : ℕ) → IsClear pending left ends → Fine (store (what place) plan now x i e (here n))
     fine-store place x i e n clear =
-        fine-given place (value_of i m.top.env) (here n) _ (λ k. by_item (at_index (items_of (slot_of m.top.env x.bytes)) (number k)) _ (fine-given place (value_of e m.top.env) (here n) _ (λ v. calm left _ ends clear text-more)))
+        fine-given place (value_of i m.top.env) (here n) _ (λ k. by_item (at_index (items_of (slot_of m.top.env x.bytes)) (as_integer k)) _ (fine-given place (value_of e m.top.env) (here n) _ (λ v. calm left _ ends clear text-more)))
       where
         by_item : (o : Option ℤ) (r : Run Effect Exit (State Bool)) → Fine r → Fine (found (what place) plan now o (here n) r)
         by_item None r h = (refl, height, sound.0)
@@ -455,19 +456,19 @@ module _ (plan : PlanView) (path : List ℕ) (clear-plan : IsClearPlan plan) (pa
   run_of a n = does (what (destination_of height a)) plan now inside height st a (record (state_of m) { steps = n })
 
   abbrev FineAct : Act-F Act Stmt → ℕ → Type 0
-  FineAct a n = SoundEnd plan parts (run_of a n).items (reached plan (with_left m left) (entered plan st a left m) (run_of a n).ending)
+  FineAct a n = SoundEnd plan parts (run_of a n).items (reached plan (with_left m left) (machine_inside plan st a left m) (run_of a n).ending)
 
   abbrev Text : Act-F Act Stmt → Type 0
   Text a = act_spawns (map-Act Act Stmt Bool Bool act_has_spawn spawns a) ≡ true → InText
 
-  enters-let : (x : Name) (r : Right) (ends : Names) → EntersBy (entered plan st (act.Let x r) left m) ends x r
+  enters-let : (x : Name) (r : Right) (ends : Names) → EntersBy (machine_inside plan st (act.Let x r) left m) ends x r
   enters-let x (right.Value e) ends = tt
   enters-let x (right.Draw at) ends = tt
   enters-let x (right.New at) ends = tt
   enters-let x (right.Call at c) ends = λ inner s. refl
   enters-let x (right.Spawn at c) ends = tt
 
-  enters-set : (x : Name) (r : Right) (ends : Names) → EntersBy (entered plan st (act.Set x r) left m) ends x r
+  enters-set : (x : Name) (r : Right) (ends : Names) → EntersBy (machine_inside plan st (act.Set x r) left m) ends x r
   enters-set x (right.Value e) ends = tt
   enters-set x (right.Draw at) ends = tt
   enters-set x (right.New at) ends = tt
@@ -483,27 +484,27 @@ module _ (plan : PlanView) (path : List ℕ) (clear-plan : IsClearPlan plan) (pa
 
   simple-fine : (a : Act-F Act Stmt) → IsSimple a → Text a → IsApart (touched a) pending → (ends : Names) → IsClear (pending_after a pending) left ends → (n : ℕ) → FineAct a n
   simple-fine (act.Let x r) i text apart ends clear n =
-      fine-right (entered plan st (act.Let x r) left m) ends x r n (enters-let x r ends) (text-let (entered plan st (act.Let x r) left m) ends x r text) (first-within x.bytes _ apart) clear
+      fine-right (machine_inside plan st (act.Let x r) left m) ends x r n (enters-let x r ends) (text-let (machine_inside plan st (act.Let x r) left m) ends x r text) (first-within x.bytes _ apart) clear
   simple-fine (act.Array x k) i text apart ends clear n = calm left _ ends clear text-more
   simple-fine (act.Set x r) i text apart ends clear n =
-      fine-right (entered plan st (act.Set x r) left m) ends x r n (enters-set x r ends) (text-let (entered plan st (act.Set x r) left m) ends x r text) (first-within x.bytes _ apart) clear
-  simple-fine (act.Store x k e) i text apart ends clear n = fine-store (entered plan st (act.Store x k e) left m) ends (Spawned height None) x k e n clear
-  simple-fine (act.Spawn c) i text apart ends clear n = fine-spawn (entered plan st (act.Spawn c) left m) ends None c n clear (text refl)
-  simple-fine (act.Call c) i text apart ends clear n = fine-call (entered plan st (act.Call c) left m) ends None c n (λ inner s. refl) clear (λ name h g. none-contained name h)
-  simple-fine act.Sync i text apart ends clear n = fine-sync (entered plan st act.Sync left m) ends n clear
+      fine-right (machine_inside plan st (act.Set x r) left m) ends x r n (enters-set x r ends) (text-let (machine_inside plan st (act.Set x r) left m) ends x r text) (first-within x.bytes _ apart) clear
+  simple-fine (act.Store x k e) i text apart ends clear n = fine-store (machine_inside plan st (act.Store x k e) left m) ends (Spawned height None) x k e n clear
+  simple-fine (act.Spawn c) i text apart ends clear n = fine-spawn (machine_inside plan st (act.Spawn c) left m) ends None c n clear (text refl)
+  simple-fine (act.Call c) i text apart ends clear n = fine-call (machine_inside plan st (act.Call c) left m) ends None c n (λ inner s. refl) clear (λ name h g. none-contained name h)
+  simple-fine act.Sync i text apart ends clear n = fine-sync (machine_inside plan st act.Sync left m) ends n clear
   simple-fine (act.Print e) i text apart ends clear n =
-      fine-given (entered plan st (act.Print e) left m) ends (Spawned height None) (value_of e m.top.env) _ _ (λ v. calm left _ ends clear text-more)
+      fine-given (machine_inside plan st (act.Print e) left m) ends (Spawned height None) (value_of e m.top.env) _ _ (λ v. calm left _ ends clear text-more)
   simple-fine (act.If e a b) i text apart ends clear n = absurd i
   simple-fine (act.While e a) i text apart ends clear n = absurd i
   simple-fine (act.Scope a) i text apart ends clear n = absurd i
   simple-fine (act.Pfor x lo hi target c) i text apart ends clear n =
-      let into = entered plan st (act.Pfor x lo hi target c) left m in
+      let into = machine_inside plan st (act.Pfor x lo hi target c) left m in
       fine-given into ends (Looped target) (value_of lo m.top.env) _ _ (λ l. fine-given into ends (Looped target) (value_of hi m.top.env) _ _ (λ h. fine-given into ends (Looped target) (values_of c.args m.top.env) _ _
-      (λ vs. fine-loop into ends target c (number l) (count_of (number h -ℤ number l)) vs n clear)))
+      (λ vs. fine-loop into ends target c (as_integer l) (count_of (as_integer h -ℤ as_integer l)) vs n clear)))
 
   if-fine : (e : Expr) (a b : List Stmt) (both ends : Names) → Text (act.If e a b) → IsClear pending a both → IsClear pending b both → IsClear both left ends → (n : ℕ) → FineAct (act.If e a b) n
   if-fine e a b both ends text yes-clear no-clear rest n =
-      fine-given (entered plan st (act.If e a b) left m) ends (Spawned height None) (value_of e m.top.env) _ _ (λ v. by_test (is_true v))
+      fine-given (machine_inside plan st (act.If e a b) left m) ends (Spawned height None) (value_of e m.top.env) _ _ (λ v. by_test (is_true v))
     where
       text-block : (t : Bool) → any_spawns ((if t then a else b) ++ left) ≡ true → InText
       text-block true h = either (any_spawns a) (any_spawns left) (λ g. text (ap (λ s. s || any_spawns b) g)) text-more (sym (any-spawns-append a left) ∙ h)
@@ -518,9 +519,9 @@ module _ (plan : PlanView) (path : List ℕ) (clear-plan : IsClearPlan plan) (pa
 
   while-fine : (e : Expr) (a : List Stmt) (all ends : Names) → Text (act.While e a) → IsWithin pending all → IsClear all a all → IsClear all (st ∷ left) ends → IsClear all left ends → (n : ℕ) → FineAct (act.While e a) n
   while-fine e a all ends text within body again rest n =
-      fine-given (entered plan st (act.While e a) left m) ends (Spawned height None) (value_of e m.top.env) _ _ (λ v. by_test (is_true v))
+      fine-given (machine_inside plan st (act.While e a) left m) ends (Spawned height None) (value_of e m.top.env) _ _ (λ v. by_test (is_true v))
     where
-      by_test : (t : Bool) → Fine (entered plan st (act.While e a) left m) ends (if t then (inside now height a (record (state_of m) { steps = n }) then inside now height (st ∷ [])) else done (record (state_of m) { steps = n }))
+      by_test : (t : Bool) → Fine (machine_inside plan st (act.While e a) left m) ends (if t then (inside now height a (record (state_of m) { steps = n }) then inside now height (st ∷ [])) else done (record (state_of m) { steps = n }))
       by_test true =
           calm (a ++ st ∷ left) _ ends (clear-within pending all within (clear-append body again)) (λ h. either (any_spawns a) (any_spawns (st ∷ left)) text text-left (sym (any-spawns-append a (st ∷ left)) ∙ h))
       by_test false = calm left _ ends (clear-within pending all within rest) text-more
@@ -528,7 +529,7 @@ module _ (plan : PlanView) (path : List ℕ) (clear-plan : IsClearPlan plan) (pa
   -- a scope: its block, and after its end the statements that are left
   scope-fine : (a : List Stmt) (inner ends : Names) → Text (act.Scope a) → IsClear pending a inner → IsClear [] left ends → (n : ℕ) → FineAct (act.Scope a) n
   scope-fine a inner ends text block rest n =
-      fine-tested (entered plan st (act.Scope a) left m) ends (Spawned height None) (nat_lt (length now + 1) plan.limits.depth) Depth (record (state_of m) { steps = n }) _
+      fine-tested (machine_inside plan st (act.Scope a) left m) ends (Spawned height None) (nat_lt (length now + 1) plan.limits.depth) Depth (record (state_of m) { steps = n }) _
       (no-parts (λ ps. IsSoundStage plan ps (Running (into_level m left a s))) (sound.0, begun, sound.2))
     where
       s : State Bool
@@ -569,7 +570,7 @@ module _ (plan : PlanView) (path : List ℕ) (clear-plan : IsClearPlan plan) (pa
   statement-sound =
       let a = out-Act (out-Stmt st).act in
       let clear : IsClear pending (st ∷ left) sound.1.clear.0 = subst (λ (l : List Stmt). IsClear pending l sound.1.clear.0) top-left sound.1.clear.1 in
-      fine-paid (entered plan st a left m) sound.1.clear.0 (destination_of height a) m.steps (state_of m) _ (λ n. act-fine a refl sound.1.clear.0 clear n)
+      fine-paid (machine_inside plan st a left m) sound.1.clear.0 (destination_of height a) m.steps (state_of m) _ (λ n. act-fine a refl sound.1.clear.0 clear n)
 
 module _ (plan : PlanView) (path : List ℕ) (clear-plan : IsClearPlan plan) (parts : List AwaitedChild) where
   abbrev SoundMove : Machine → Type 0
@@ -661,7 +662,7 @@ module _ (plan : PlanView) (path : List ℕ) (clear-plan : IsClearPlan plan) (pa
           same-variables c = record { clear = c.clear; spawned = c.spawned; faulted = c.faulted; in_text = c.in_text; left_in_text = c.left_in_text; levels = c.levels; leaving = c.leaving; returning = c.returning }
 
       by_value : (f : Function) (o : Result Value FaultKind) →
-          let r : Run Effect Exit (Value × State Bool) = given (handing plan (Spawned (length m.below) None)) plan (here_of path m) o (state_of m) (λ v. done (v, state_of m)) in SoundEnd plan parts r.items (gives plan m r.ending)
+          let r : Run Effect Exit (Value × State Bool) = unless_fault (handing plan (Spawned (length m.below) None)) plan (here_of path m) o (state_of m) (λ v. done (v, state_of m)) in SoundEnd plan parts r.items (gives plan m r.ending)
       by_value f (Ok v) = to_caller v m.below none sound.0 sound.2
       by_value f (Err k) = (refl, length m.below, sound.0)
 
@@ -767,6 +768,6 @@ free-of (q ∷ ps) m p free c = by_index c.0 c.1 c.2 (λ d. free-of ps m p free.
 -- An answer may be taken before a move or after it.
 pub moves_leave_unfilled_alone : (plan : PlanView) (path : List ℕ) (parts : List AwaitedChild) (m : Machine) (p : AwaitedChild) (owner : ℕ) (target : Option Name) (ended : Result (List Value) Fault) →
     IsSoundStage plan parts (Running m) → Contains parts p → p.place ≡ Spawned owner target →
-    move plan path (changed owner (answered target ended) m) ≡ changed_run (changed owner (answered target ended)) (move plan path m)
+    move plan path (changed owner (frame_with_answer target ended) m) ≡ changed_run (changed owner (frame_with_answer target ended)) (move plan path m)
 moves_leave_unfilled_alone plan path parts m p owner target ended sound c e =
     take-move plan path (Spawned owner target) ended m (subst (IsFreePlace (shape_of m)) e (free-of parts m p (sound-free plan parts m sound) c))

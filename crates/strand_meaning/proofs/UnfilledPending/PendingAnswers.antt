@@ -14,11 +14,11 @@ use Rattle.serial_meaning.specs.declared.event.Fault.{Fault}
 use Rattle.serial_meaning.specs.declared.origin.Origin.{Origin}
 use Rattle.strand_meaning.specs.Machine.{Destination, Spawned, Looped, Half, Frame, Machine}
 use Rattle.strand_meaning.specs.Trace.{AwaitedChild}
-use Rattle.strand_meaning.specs.Task.{InstanceState, Running, AtSync, AtLoop, Ended, changed, changed_at, answered, takes, takes_all, joins, resumed}
+use Rattle.strand_meaning.specs.Task.{InstanceState, Running, AtSync, AtLoop, Ended, changed, changed_at, frame_with_answer, takes, takes_all, joins, resumed}
 use Rattle.strand_meaning.specs.Rest.{evaluations}
 use Rattle.strand_meaning.specs.Pending.{ArePending, ArePendingStill, IsCall, IsSync, IsPfor}
 use Rattle.strand_meaning.specs.Sound.{unfilled, ArePendingBelow, ArePendingAtSync, UnfilledArePending}
-use Rattle.strand_meaning.proofs.UnfilledPending.Alike.{Alike, alike-unfilled}
+use Rattle.strand_meaning.proofs.UnfilledPending.AlikeButEvents.{Alike, alike-unfilled}
 use Rattle.strand_meaning.proofs.Unfilled.Clears.{none-contained}
 use Rattle.strand_meaning.proofs.UnfilledPending.PendingMoves.{pending-fewer, still-fewer, below-fewer, still-left}
 
@@ -58,42 +58,42 @@ module _ (plan : PlanView) where
 
   -- one that takes an answer
   module _ (a : Frame) (to : Option Name) where
-    pending-kept : (q : Result (List Value) Fault) (left : List Stmt) → ArePending plan [] a left → ArePending plan [] (answered to q a) left
+    pending-kept : (q : Result (List Value) Fault) (left : List Stmt) → ArePending plan [] a left → ArePending plan [] (frame_with_answer to q a) left
     pending-kept (Ok vs) left p = record { function = p.function; of_plan = p.of_plan; now = p.now; stands = p.stands; pending = p.pending }
     pending-kept (Err f) left p = record { function = p.function; of_plan = p.of_plan; now = p.now; stands = p.stands; pending = p.pending }
 
-    still-kept : (IsSuch : Act-F Act Stmt → Type 0) (q : Result (List Value) Fault) → ArePendingStill plan [] a IsSuch → ArePendingStill plan [] (answered to q a) IsSuch
+    still-kept : (IsSuch : Act-F Act Stmt → Type 0) (q : Result (List Value) Fault) → ArePendingStill plan [] a IsSuch → ArePendingStill plan [] (frame_with_answer to q a) IsSuch
     still-kept IsSuch (Ok vs) p = record { st = p.st; such = p.such; there = pending-kept (Ok vs) (p.st ∷ a.left) p.there }
     still-kept IsSuch (Err f) p = record { st = p.st; such = p.such; there = pending-kept (Err f) (p.st ∷ a.left) p.there }
 
-    going-kept : (q : Result (List Value) Fault) → AtGoing a → AtGoing (answered to q a)
+    going-kept : (q : Result (List Value) Fault) → AtGoing a → AtGoing (frame_with_answer to q a)
     going-kept (Ok vs) p = pending-kept (Ok vs) a.left p
     going-kept (Err f) p = pending-kept (Err f) a.left p
 
-    by-sync : (b : Bool) (q : Result (List Value) Fault) → ArePendingAtSync plan [] a b → ArePendingAtSync plan [] (answered to q a) b
+    by-sync : (b : Bool) (q : Result (List Value) Fault) → ArePendingAtSync plan [] a b → ArePendingAtSync plan [] (frame_with_answer to q a) b
     by-sync true (Ok vs) p = (p.0, pending-kept (Ok vs) [] p.1)
     by-sync true (Err f) p = (p.0, pending-kept (Err f) [] p.1)
     by-sync false q p = still-kept IsSync q p
 
-    syncing-kept : (q : Result (List Value) Fault) → AtSyncing a → AtSyncing (answered to q a)
+    syncing-kept : (q : Result (List Value) Fault) → AtSyncing a → AtSyncing (frame_with_answer to q a)
     syncing-kept (Ok vs) p = by-sync (a.leaving || a.returning) (Ok vs) p
     syncing-kept (Err f) p = by-sync (a.leaving || a.returning) (Err f) p
 
-  below-kept : (owner : ℕ) (to : Option Name) (q : Result (List Value) Fault) (below : List Frame) → ArePendingBelow plan [] below → ArePendingBelow plan [] (changed_at owner (answered to q) below)
+  below-kept : (owner : ℕ) (to : Option Name) (q : Result (List Value) Fault) (below : List Frame) → ArePendingBelow plan [] below → ArePendingBelow plan [] (changed_at owner (frame_with_answer to q) below)
   below-kept owner to q [] p = tt
   below-kept owner to q (caller ∷ below) p = by_place (nat_eq owner (length below)) (below-kept owner to q below p.1)
     where
-      by_place : (b : Bool) → ArePendingBelow plan [] (changed_at owner (answered to q) below) →
-          ArePendingBelow plan [] (if b then answered to q caller ∷ below else caller ∷ changed_at owner (answered to q) below)
+      by_place : (b : Bool) → ArePendingBelow plan [] (changed_at owner (frame_with_answer to q) below) →
+          ArePendingBelow plan [] (if b then frame_with_answer to q caller ∷ below else caller ∷ changed_at owner (frame_with_answer to q) below)
       by_place true later = (still-kept caller to IsCall q p.0, p.1)
       by_place false later = (p.0, later)
 
-  machine-kept : (P : Frame → Type 0) (owner : ℕ) (to : Option Name) (q : Result (List Value) Fault) → ((a : Frame) → P a → P (answered to q a)) → (m : Machine) → P m.top → ArePendingBelow plan [] m.below →
-      let k = changed owner (answered to q) m in P k.top × ArePendingBelow plan [] k.below
+  machine-kept : (P : Frame → Type 0) (owner : ℕ) (to : Option Name) (q : Result (List Value) Fault) → ((a : Frame) → P a → P (frame_with_answer to q a)) → (m : Machine) → P m.top → ArePendingBelow plan [] m.below →
+      let k = changed owner (frame_with_answer to q) m in P k.top × ArePendingBelow plan [] k.below
   machine-kept P owner to q keeps m p below = by_place (nat_eq owner (length m.below))
     where
       by_place : (b : Bool) →
-          let k = if b then record m { top = answered to q m.top } else record m { below = changed_at owner (answered to q) m.below } in P k.top × ArePendingBelow plan [] k.below
+          let k = if b then record m { top = frame_with_answer to q m.top } else record m { below = changed_at owner (frame_with_answer to q) m.below } in P k.top × ArePendingBelow plan [] k.below
       by_place true = (keeps m.top p, below)
       by_place false = (p, below-kept owner to q m.below below)
 

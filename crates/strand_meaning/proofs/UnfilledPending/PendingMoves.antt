@@ -16,14 +16,14 @@ use Rattle.script_grammar.specs.declared.tree.Act.{Act}
 use Rattle.script_grammar.specs.declared.tree.Act.TheOpen as act
 use Rattle.script_grammar.specs.declared.tree.Act.TheOpen.{Act-F}
 use Rattle.script_check.specs.Names as check
-use Rattle.script_check.specs.Names.{nobody, with_name, after_right}
+use Rattle.script_check.specs.Names.{no_names, with_name, after_right}
 use Rattle.script_check.specs.Statements.{judge}
 use Rattle.serial_meaning.specs.Runs.{Run, done, happens, ◌then◌}
 use Rattle.serial_meaning.specs.Names.{Names}
-use Rattle.serial_meaning.specs.Values.{Env, value_of, values_of, slot_of, items_of, number, is_true, at_index}
+use Rattle.serial_meaning.specs.Values.{Env, value_of, values_of, slot_of, items_of, as_integer, is_true, at_index}
 use Rattle.serial_meaning.specs.Functions.{number_of, function_at}
 use Rattle.serial_meaning.specs.Plan.{PlanView, functions_of}
-use Rattle.serial_meaning.specs.Exec.{State, Manner, given, paid_from, tested, has_room, fits_depth, filled, spawn, join, implied, frame, called, right_side, found, store, looped, does, count_of, bound}
+use Rattle.serial_meaning.specs.Exec.{State, Manner, unless_fault, paid_from, tested, has_room, fits_depth, filled, spawn, join, implied, frame, called, right_side, found, store, looped, does, count_of, bound}
 use Rattle.serial_meaning.specs.Open.{is_empty_loop}
 use Rattle.serial_meaning.specs.declared.value.Value.{Value}
 use Rattle.serial_meaning.specs.declared.value.Value.TheVariants.{Int}
@@ -34,12 +34,13 @@ use Rattle.serial_meaning.specs.declared.event.Event.TheVariants as event
 use Rattle.serial_meaning.specs.declared.origin.Origin.{Origin}
 use Rattle.serial_meaning.specs.declared.origin.Origin.TheVariants as origin
 use Rattle.strand_meaning.specs.Clear.{pending_right, target_names}
-use Rattle.strand_meaning.specs.Machine.{Destination, Spawned, Looped, Effect, Emitted, Exit, loop_effects, sync_effects, handing, inside, destination_of, Level, Frame, Machine, Reached, Stands, Gives, state_of, here_of, with_left, into_level, with_leaving, out_of_level, with_returning, with_scalar, back, spawns_in, calling, entered, reached, gives, value_run, statement_move, return_move, level_move, end_move, move_at, move}
+use Rattle.script_check.specs.Spawns.{spawns_in}
+use Rattle.strand_meaning.specs.Machine.{Destination, Spawned, Looped, Effect, Emitted, Exit, loop_effects, sync_effects, handing, inside, destination_of, Level, Frame, Machine, Reached, Stands, Gives, state_of, here_of, with_left, into_level, with_leaving, out_of_level, with_returning, with_scalar, back, calling, machine_inside, reached, gives, value_run, statement_move, return_move, level_move, end_move, move_at, move}
 use Rattle.strand_meaning.specs.Trace.{AwaitedChild}
 use Rattle.strand_meaning.specs.Task.{Running, AtSync, stage_after}
 use Rattle.strand_meaning.specs.Pending.{act_of, Then, Else, LoopBody, Here, FrameStandsAt, Outside, InScope, judged_by, ArePending, ArePendingStill, IsCall, IsSync, IsPfor}
 use Rattle.strand_meaning.specs.Sound.{unfilled, any_by, IsSoundStage, ArePendingBelow, ArePendingAtSync, UnfilledArePending}
-use Rattle.strand_meaning.proofs.Unfilled.Shown.{effect_parts, same-number}
+use Rattle.strand_meaning.proofs.Unfilled.RestAfterEffects.{effect_parts, same-number}
 use Rattle.strand_meaning.proofs.Unfilled.Clears.{none-contained, unfilled-append, none-unfilled, none-above}
 use Rattle.strand_meaning.proofs.Unfilled.Variables.{is-itself}
 use Rattle.strand_meaning.proofs.ClearPlans.FreeNames.{single-name}
@@ -56,7 +57,7 @@ or-right : (a b : Bool) → b ≡ true → (a || b) ≡ true
 or-right true b h = refl
 or-right false b h = h
 
-abbrev AreIn : Names → check.Names → Type 0
+abbrev AreIn : Names → check.NameSet → Type 0
 AreIn names set = (name : List ℕ) → Contains names name → set name ≡ true
 
 -- Other variables, in the same place
@@ -81,7 +82,7 @@ below-more plan ps qs height none below h p = below-fewer plan ps (ps ++ qs) hei
 
 -- A statement that its frame stood still at, and which kept all that was pending, is passed.
 abbrev Keeps : (Act-F Act Stmt → Type 0) → Type 0
-Keeps IsSuch = (d : Act-F Act Stmt) → IsSuch d → (set : check.Names) → check.IsWithin (judged_by d set) (names_after d set)
+Keeps IsSuch = (d : Act-F Act Stmt) → IsSuch d → (set : check.NameSet) → check.IsWithin (judged_by d set) (names_after d set)
 
 call-keeps : Keeps IsCall
 call-keeps (act.Let x (right.Value e)) i set name h = absurd i
@@ -113,7 +114,7 @@ still-passed plan names a IsSuch keeps p =
       now = o.now;
       stands = o.stands;
       pending = λ name h.
-          o.all name (ap (λ (s : check.Names). s name) (after-as p.st (act_of p.st) refl p.there.now) ∙ keeps (act_of p.st) p.such p.there.now name (p.there.pending name h));
+          o.all name (ap (λ (s : check.NameSet). s name) (after-as p.st (act_of p.st) refl p.there.now) ∙ keeps (act_of p.st) p.such p.there.now name (p.there.pending name h));
     }
 
 -- where nothing is unfilled
@@ -147,7 +148,7 @@ module _ (plan : PlanView) (path : List ℕ) (parts : List AwaitedChild) (m : Ma
   top : ArePending plan pending m.top (st ∷ left)
   top = subst (ArePending plan pending m.top) top-left pends.0
 
-  abbrev set : check.Names
+  abbrev set : check.NameSet
   set = top.now
 
   -- in what is left, all that is in the set after the statement
@@ -174,7 +175,7 @@ module _ (plan : PlanView) (path : List ℕ) (parts : List AwaitedChild) (m : Ma
     abbrev Fine : Run Effect Exit (State Bool) → Type 0
     Fine r = PendingEnd plan parts r.items (reached plan (with_left m left) into r.ending)
 
-    fine-given : (place : Destination) {A : Type 0} (o : Result A FaultKind) (s : State Bool) (f : A → Run Effect Exit (State Bool)) → ((a : A) → Fine (f a)) → Fine (given (what place) plan now o s f)
+    fine-given : (place : Destination) {A : Type 0} (o : Result A FaultKind) (s : State Bool) (f : A → Run Effect Exit (State Bool)) → ((a : A) → Fine (f a)) → Fine (unless_fault (what place) plan now o s f)
     fine-given place (Ok a) s f h = h a
     fine-given place (Err k) s f h = tt
 
@@ -238,7 +239,7 @@ module _ (plan : PlanView) (path : List ℕ) (parts : List AwaitedChild) (m : Ma
         by_test vs true = next vs _
         by_test vs false = tt
 
-        by_args : (o : Result (List Value) FaultKind) → Fine (given (what place) plan now o (here n) (λ vs. tested (what place) plan now (nat_lt (length now + 1) plan.limits.depth) Depth (here n) (child_run vs)) then λ p. done (sets target p))
+        by_args : (o : Result (List Value) FaultKind) → Fine (unless_fault (what place) plan now o (here n) (λ vs. tested (what place) plan now (nat_lt (length now + 1) plan.limits.depth) Depth (here n) (child_run vs)) then λ p. done (sets target p))
         by_args (Ok vs) = by_test vs (nat_lt (length now + 1) plan.limits.depth)
         by_args (Err k) = tt
 
@@ -250,8 +251,8 @@ module _ (plan : PlanView) (path : List ℕ) (parts : List AwaitedChild) (m : Ma
         place : Destination
         place = Spawned height target
 
-        number : ℕ
-        number = number_of (functions_of plan) c.name.bytes
+        as_integer : ℕ
+        as_integer = number_of (functions_of plan) c.name.bytes
 
         begins : Function → List Value → State Bool
         begins f vs = record { env = bound f.params vs; rank = m.rank; steps = n; spawned = false }
@@ -259,25 +260,25 @@ module _ (plan : PlanView) (path : List ℕ) (parts : List AwaitedChild) (m : Ma
         none : unfilled (suc height) parts ≡ []
         none = none-unfilled (suc height) parts (none-above height parts sound.0)
 
-        callee : (f : Function) (vs : List Value) → function_at (functions_of plan) number ≡ Some f → UnfilledArePending plan parts (Running (calling plan target c left m f.body (begins f vs)))
+        callee : (f : Function) (vs : List Value) → function_at (functions_of plan) as_integer ≡ Some f → UnfilledArePending plan parts (Running (calling plan target c left m f.body (begins f vs)))
         callee f vs e = (
-          record { function = f; of_plan = e; now = nobody; stands = Outside Here; pending = λ name h. absurd (none-contained name (subst (λ (l : Names). Contains l name) none h)) },
+          record { function = f; of_plan = e; now = no_names; stands = Outside Here; pending = λ name h. absurd (none-contained name (subst (λ (l : Names). Contains l name) none h)) },
           (still pending (λ name h. h) IsCall is-call (state_of m), pends.1),
         )
 
-        by_function : (vs : List Value) (o : Option Function) → function_at (functions_of plan) number ≡ o →
+        by_function : (vs : List Value) (o : Option Function) → function_at (functions_of plan) as_integer ≡ o →
             Fine ((frame (what place) plan now inside (height + 1) o vs (here n) then λ r. done (r.0, record (here n) { rank = r.1.rank; steps = r.1.steps })) then λ p. done (sets target p))
         by_function vs None e = calm w _
         by_function vs (Some f) e = no-parts (λ ps. UnfilledArePending plan ps (Running (into f.body (begins f vs)))) (subst (λ (k : Machine). UnfilledArePending plan parts (Running k)) (sym (enters f.body (begins f vs))) (callee f vs e))
 
         run : List Value → Run Effect Exit (Value × State Bool)
-        run vs = frame (what place) plan now inside (height + 1) (function_at (functions_of plan) number) vs (here n) then λ r. done (r.0, record (here n) { rank = r.1.rank; steps = r.1.steps })
+        run vs = frame (what place) plan now inside (height + 1) (function_at (functions_of plan) as_integer) vs (here n) then λ r. done (r.0, record (here n) { rank = r.1.rank; steps = r.1.steps })
 
         by_test : (vs : List Value) (b : Bool) → Fine (tested (what place) plan now b Calls (here n) (run vs) then λ p. done (sets target p))
-        by_test vs true = by_function vs (function_at (functions_of plan) number) refl
+        by_test vs true = by_function vs (function_at (functions_of plan) as_integer) refl
         by_test vs false = tt
 
-        by_args : (o : Result (List Value) FaultKind) → Fine (given (what place) plan now o (here n) (λ vs. tested (what place) plan now (nat_lt height 256) Calls (here n) (run vs)) then λ p. done (sets target p))
+        by_args : (o : Result (List Value) FaultKind) → Fine (unless_fault (what place) plan now o (here n) (λ vs. tested (what place) plan now (nat_lt height 256) Calls (here n) (run vs)) then λ p. done (sets target p))
         by_args (Ok vs) = by_test vs (nat_lt height 256)
         by_args (Err k) = tt
 
@@ -292,7 +293,7 @@ module _ (plan : PlanView) (path : List ℕ) (parts : List AwaitedChild) (m : Ma
     fine-right : (x : Name) (r : Right) (n : ℕ) → EntersBy x r → AreIn (pending_right x r pending) ((judge st).after set) → Fine (right_side (what (Spawned height (Some x))) plan now inside height r (here n) then λ p. done (sets (Some x) p))
     fine-right x (right.Value e) n enters w = by_value (value_of e m.top.env)
       where
-        by_value : (o : Result Value FaultKind) → Fine (given (what (Spawned height (Some x))) plan now o (here n) (λ v. done (v, here n)) then λ p. done (sets (Some x) p))
+        by_value : (o : Result Value FaultKind) → Fine (unless_fault (what (Spawned height (Some x))) plan now o (here n) (λ v. done (v, here n)) then λ p. done (sets (Some x) p))
         by_value (Ok v) = calm w _
         by_value (Err k) = tt
     fine-right x (right.Draw at) n enters w = calm w _
@@ -302,7 +303,7 @@ module _ (plan : PlanView) (path : List ℕ) (parts : List AwaitedChild) (m : Ma
 
     fine-store : (place : Destination) (x : Name) (i e : Expr) (n : ℕ) → AreIn pending ((judge st).after set) → Fine (store (what place) plan now x i e (here n))
     fine-store place x i e n w =
-        fine-given place (value_of i m.top.env) (here n) _ (λ k. by_item (at_index (items_of (slot_of m.top.env x.bytes)) (number k)) _ (fine-given place (value_of e m.top.env) (here n) _ (λ v. calm w _)))
+        fine-given place (value_of i m.top.env) (here n) _ (λ k. by_item (at_index (items_of (slot_of m.top.env x.bytes)) (as_integer k)) _ (fine-given place (value_of e m.top.env) (here n) _ (λ v. calm w _)))
       where
         by_item : (o : Option ℤ) (r : Run Effect Exit (State Bool)) → Fine r → Fine (found (what place) plan now o (here n) r)
         by_item None r h = tt
@@ -367,7 +368,7 @@ module _ (plan : PlanView) (path : List ℕ) (parts : List AwaitedChild) (m : Ma
   run_of a n = does (what (destination_of height a)) plan now inside height st a (record (state_of m) { steps = n })
 
   abbrev PendingAct : Act-F Act Stmt → ℕ → Type 0
-  PendingAct a n = PendingEnd plan parts (run_of a n).items (reached plan (with_left m left) (entered plan st a left m) (run_of a n).ending)
+  PendingAct a n = PendingEnd plan parts (run_of a n).items (reached plan (with_left m left) (machine_inside plan st a left m) (run_of a n).ending)
 
   module _ (d : Act-F Act Stmt) (same : act_of st ≡ d) where
     -- by what the statement does
@@ -375,7 +376,7 @@ module _ (plan : PlanView) (path : List ℕ) (parts : List AwaitedChild) (m : Ma
     judged = subst (λ (c : Act-F Act Stmt). AreIn pending (judged_by c set)) same top.pending
 
     after-it : (names : Names) → AreIn names (names_after d set) → AreIn names ((judge st).after set)
-    after-it names w name h = ap (λ (s : check.Names). s name) (after-as st d same set) ∙ w name h
+    after-it names w name h = ap (λ (s : check.NameSet). s name) (after-as st d same set) ∙ w name h
 
     such : (IsSuch : Act-F Act Stmt → Type 0) → IsSuch d → IsSuch (act_of st)
     such IsSuch i = subst IsSuch (sym same) i
@@ -398,14 +399,14 @@ module _ (plan : PlanView) (path : List ℕ) (parts : List AwaitedChild) (m : Ma
         pends.1,
       )
 
-  enters-let : (x : Name) (r : Right) → act_of st ≡ act.Let x r → EntersBy (entered plan st (act.Let x r) left m) x r
+  enters-let : (x : Name) (r : Right) → act_of st ≡ act.Let x r → EntersBy (machine_inside plan st (act.Let x r) left m) x r
   enters-let x (right.Value e) same = tt
   enters-let x (right.Draw at) same = tt
   enters-let x (right.New at) same = tt
   enters-let x (right.Call at c) same = (such (act.Let x (right.Call at c)) same IsCall tt, λ inner s. refl)
   enters-let x (right.Spawn at c) same = tt
 
-  enters-set : (x : Name) (r : Right) → act_of st ≡ act.Set x r → EntersBy (entered plan st (act.Set x r) left m) x r
+  enters-set : (x : Name) (r : Right) → act_of st ≡ act.Set x r → EntersBy (machine_inside plan st (act.Set x r) left m) x r
   enters-set x (right.Value e) same = tt
   enters-set x (right.Draw at) same = tt
   enters-set x (right.New at) same = tt
@@ -414,18 +415,18 @@ module _ (plan : PlanView) (path : List ℕ) (parts : List AwaitedChild) (m : Ma
 
   by_act : (d : Act-F Act Stmt) → act_of st ≡ d → (n : ℕ) → PendingAct d n
   by_act (act.Let x r) same n =
-      fine-right (entered plan st (act.Let x r) left m) x r n (enters-let x r same) (after-it (act.Let x r) same (pending_right x r pending) (right-in x r (judged (act.Let x r) same)))
+      fine-right (machine_inside plan st (act.Let x r) left m) x r n (enters-let x r same) (after-it (act.Let x r) same (pending_right x r pending) (right-in x r (judged (act.Let x r) same)))
   by_act (act.Array x k) same n = calm (after-it (act.Array x k) same pending (judged (act.Array x k) same)) _
   by_act (act.Set x r) same n =
-      fine-right (entered plan st (act.Set x r) left m) x r n (enters-set x r same) (after-it (act.Set x r) same (pending_right x r pending) (right-in x r (judged (act.Set x r) same)))
-  by_act (act.Store x k e) same n = fine-store (entered plan st (act.Store x k e) left m) (Spawned height None) x k e n (after-it (act.Store x k e) same pending (judged (act.Store x k e) same))
-  by_act (act.Spawn c) same n = fine-spawn (entered plan st (act.Spawn c) left m) None c n (after-it (act.Spawn c) same pending (judged (act.Spawn c) same))
+      fine-right (machine_inside plan st (act.Set x r) left m) x r n (enters-set x r same) (after-it (act.Set x r) same (pending_right x r pending) (right-in x r (judged (act.Set x r) same)))
+  by_act (act.Store x k e) same n = fine-store (machine_inside plan st (act.Store x k e) left m) (Spawned height None) x k e n (after-it (act.Store x k e) same pending (judged (act.Store x k e) same))
+  by_act (act.Spawn c) same n = fine-spawn (machine_inside plan st (act.Spawn c) left m) None c n (after-it (act.Spawn c) same pending (judged (act.Spawn c) same))
   by_act (act.Call c) same n =
-      fine-call (entered plan st (act.Call c) left m) None c n (λ inner s. refl) (such (act.Call c) same IsCall tt) (after-it (act.Call c) same pending (judged (act.Call c) same))
-  by_act act.Sync same n = fine-sync (entered plan st act.Sync left m) n (such act.Sync same IsSync tt)
+      fine-call (machine_inside plan st (act.Call c) left m) None c n (λ inner s. refl) (such (act.Call c) same IsCall tt) (after-it (act.Call c) same pending (judged (act.Call c) same))
+  by_act act.Sync same n = fine-sync (machine_inside plan st act.Sync left m) n (such act.Sync same IsSync tt)
   by_act (act.Print e) same n =
-      fine-given (entered plan st (act.Print e) left m) (Spawned height None) (value_of e m.top.env) _ _ (λ v. calm (after-it (act.Print e) same pending (judged (act.Print e) same)) _)
-  by_act (act.If e a b) same n = fine-given (entered plan st (act.If e a b) left m) (Spawned height None) (value_of e m.top.env) _ _ (λ v. by_test (is_true v))
+      fine-given (machine_inside plan st (act.Print e) left m) (Spawned height None) (value_of e m.top.env) _ _ (λ v. calm (after-it (act.Print e) same pending (judged (act.Print e) same)) _)
+  by_act (act.If e a b) same n = fine-given (machine_inside plan st (act.If e a b) left m) (Spawned height None) (value_of e m.top.env) _ _ (λ v. by_test (is_true v))
     where
       s : State Bool
       s = record (state_of m) { steps = n }
@@ -433,7 +434,7 @@ module _ (plan : PlanView) (path : List ℕ) (parts : List AwaitedChild) (m : Ma
       by_test : (t : Bool) → UnfilledArePending plan (parts ++ []) (Running (with_left m ((if t then a else b) ++ left) s))
       by_test true = block-pending a s (stands-in top.stands a (Then e a b same)) (judged (act.If e a b) same)
       by_test false = block-pending b s (stands-in top.stands b (Else e a b same)) (judged (act.If e a b) same)
-  by_act (act.While e a) same n = fine-given (entered plan st (act.While e a) left m) (Spawned height None) (value_of e m.top.env) _ _ (λ v. by_test (is_true v))
+  by_act (act.While e a) same n = fine-given (machine_inside plan st (act.While e a) left m) (Spawned height None) (value_of e m.top.env) _ _ (λ v. by_test (is_true v))
     where
       s : State Bool
       s = record (state_of m) { steps = n }
@@ -446,15 +447,15 @@ module _ (plan : PlanView) (path : List ℕ) (parts : List AwaitedChild) (m : Ma
             pends.1,
           )
 
-      by_test : (t : Bool) → Fine (entered plan st (act.While e a) left m) (if t then (inside now height a s then inside now height (st ∷ [])) else done s)
+      by_test : (t : Bool) → Fine (machine_inside plan st (act.While e a) left m) (if t then (inside now height a s then inside now height (st ∷ [])) else done s)
       by_test true = turn
       by_test false = calm (after-it (act.While e a) same pending (judged (act.While e a) same)) _
   by_act (act.Pfor x lo hi target c) same n =
-      let into = entered plan st (act.Pfor x lo hi target c) left m in
+      let into = machine_inside plan st (act.Pfor x lo hi target c) left m in
       fine-given into (Looped target) (value_of lo m.top.env) _ _ (λ l. fine-given into (Looped target) (value_of hi m.top.env) _ _ (λ h. fine-given into (Looped target) (values_of c.args m.top.env) _ _
-      (λ vs. fine-loop into target c (number l) (count_of (number h -ℤ number l)) vs n (such (act.Pfor x lo hi target c) same IsPfor tt) (after-it (act.Pfor x lo hi target c) same pending (judged (act.Pfor x lo hi target c) same)))))
+      (λ vs. fine-loop into target c (as_integer l) (count_of (as_integer h -ℤ as_integer l)) vs n (such (act.Pfor x lo hi target c) same IsPfor tt) (after-it (act.Pfor x lo hi target c) same pending (judged (act.Pfor x lo hi target c) same)))))
   by_act (act.Scope a) same n =
-      fine-tested (entered plan st (act.Scope a) left m) (Spawned height None) (nat_lt (length now + 1) plan.limits.depth) Depth (record (state_of m) { steps = n }) _
+      fine-tested (machine_inside plan st (act.Scope a) left m) (Spawned height None) (nat_lt (length now + 1) plan.limits.depth) Depth (record (state_of m) { steps = n }) _
       (no-parts (λ ps. UnfilledArePending plan ps (Running (into_level m left a s))) (
         record {
           function = top.function;
@@ -470,7 +471,7 @@ module _ (plan : PlanView) (path : List ℕ) (parts : List AwaitedChild) (m : Ma
       s = record (state_of m) { rank = 0; steps = n }
 
   statement-pending : PendingEnd plan parts (statement_move plan path m st left).items (statement_move plan path m st left).ending
-  statement-pending = fine-paid (entered plan st (act_of st) left m) (destination_of height (act_of st)) m.steps (state_of m) _ (λ n. by_act (act_of st) refl n)
+  statement-pending = fine-paid (machine_inside plan st (act_of st) left m) (destination_of height (act_of st)) m.steps (state_of m) _ (λ n. by_act (act_of st) refl n)
 
 module _ (plan : PlanView) (path : List ℕ) (parts : List AwaitedChild) where
   no-more : (T : List AwaitedChild → Type 0) → T parts → T (parts ++ [])
@@ -545,7 +546,7 @@ module _ (plan : PlanView) (path : List ℕ) (parts : List AwaitedChild) where
           same-place p = record { function = p.function; of_plan = p.of_plan; now = p.now; stands = p.stands; pending = p.pending }
 
       by_value : (o : Result Value FaultKind) →
-          let r : Run Effect Exit (Value × State Bool) = given (handing plan (Spawned (length m.below) None)) plan (here_of path m) o (state_of m) (λ v. done (v, state_of m)) in PendingEnd plan parts r.items (gives plan m r.ending)
+          let r : Run Effect Exit (Value × State Bool) = unless_fault (handing plan (Spawned (length m.below) None)) plan (here_of path m) o (state_of m) (λ v. done (v, state_of m)) in PendingEnd plan parts r.items (gives plan m r.ending)
       by_value (Ok v) = to_caller v m.below pends.1
       by_value (Err k) = tt
 

@@ -15,7 +15,7 @@ use Rattle.strand_moves.specs.Acts.{Costs, Stays}
 use Rattle.strand_moves.specs.Cursors.{left_of, PassesStatement}
 use Rattle.strand_moves.specs.Moves.{acted, run_of}
 use Rattle.strand_moves.specs.Quick.{EndsFrame, IsSentMove}
-use Rattle.strand_moves.specs.Rows.{Comes, HasPassedStatement, IsNextStatement, More, Row, RunsOn, Emits, unpassed}
+use Rattle.strand_moves.specs.Rows.{ComesToStatement, HasPassedStatement, IsNextStatement, More, Row, RunsOn, Emits, unpassed}
 use Rattle.strand_moves.specs.Running.{IsInstance, KeepsNames, block_inside, body_of, machine_of, path_of, present_of, statements_of}
 use Rattle.strand_moves.proofs.Statements.Going.{moves-on}
 use Rattle.strand_moves.proofs.Statements.Naming.{top-named}
@@ -57,7 +57,7 @@ module _ (plan : PlanView) (i : Running) where
     passed-has (Some st) sound h = (passed-on plan i _ _ sound h.first, h.after)
 
 -- where moves in a row came to
-module _ {S : Type 0} (after : Event → S → S) (plan : PlanView) (first : Running) (start : S) (now : Running) (sent : S) (next : Option Stmt) (h : Comes after plan first start now sent next) where
+module _ {S : Type 0} (after : Event → S → S) (plan : PlanView) (first : Running) (start : S) (now : Running) (sent : S) (next : Option Stmt) (h : ComesToStatement after plan first start now sent next) where
   pub comes-sound : IsInstance plan now
   comes-sound = subst (λ (x : Running). IsInstance plan x) (sym h.passed) (passed-sound plan h.before now.top.cursor next h.sound h.at)
 
@@ -88,11 +88,11 @@ text-same plan old new function levels =
 
 -- a statement whose step was taken back after moves in a row, and that the cursor still stands after
 pub comes-undone : {S : Type 0} (after : Event → S → S) (plan : PlanView) (first : Running) (start : S) (i : Running) (sent : S) → Row after plan first start i sent → IsInstance plan i → path_of i ≡ path_of first → (st : Stmt) (cursor : Cursor) (n : ℕ) → PassesStatement (statements_of plan i.top) i.top.cursor cursor st → n + 1 ≡ i.steps →
-    (paid : Running) → paid ≡ with_cursor plan i n cursor → (last : Running) → last ≡ record paid { steps = paid.steps + 1 } → (heard : S) → heard ≡ sent → Comes after plan first start last heard (Some st)
+    (paid : Running) → paid ≡ with_cursor plan i n cursor → (last : Running) → last ≡ record paid { steps = paid.steps + 1 } → (heard : S) → heard ≡ sent → ComesToStatement after plan first start last heard (Some st)
 comes-undone {S = S} after plan first start i sent row sound path st cursor n passes less paid same last back heard is =
     let undone : last ≡ record i { top = record i.top { cursor = cursor } } =
     back ∙ ap (λ (x : Running). let y : Running = record x { steps = x.steps + 1 } in y) same ∙ ap (λ (k : ℕ). let y : Running = record i { steps = k; top = record i.top { cursor = cursor } } in y) less in
-    subst (λ (x : Running). Comes after plan first start x heard (Some st)) (sym undone) (record {
+    subst (λ (x : Running). ComesToStatement after plan first start x heard (Some st)) (sym undone) (record {
       before = i;
       row = subst (λ (x : S). Row after plan first start i x) (sym is) row;
       sound = sound;
@@ -122,9 +122,9 @@ module _ {S : Type 0} (after : Event → S → S) (plan : PlanView) (first : Run
   row-ended new heard h = ended-on new heard h.0 h.1 h.2
 
   -- and where the row ends there
-  pub comes-ended : path_of i ≡ path_of first → (last : Running) (heard : S) → EndsFrame after plan (passed_by plan i cursor) sent last heard false → Comes after plan first start last heard None
+  pub comes-ended : path_of i ≡ path_of first → (last : Running) (heard : S) → EndsFrame after plan (passed_by plan i cursor) sent last heard false → ComesToStatement after plan first start last heard None
   comes-ended path last heard h =
-      subst (λ (x : Running). Comes after plan first start x heard None) (sym h.0)
+      subst (λ (x : Running). ComesToStatement after plan first start x heard None) (sym h.0)
       (record { before = i; row = subst (λ (x : S). Row after plan first start i x) (sym h.1) row; sound = sound; path = path; passed = refl; at = none })
 
 module _ {S : Type 0} (after : Event → S → S) (plan : PlanView) (first : Running) (start : S) (i : Running) (sent : S) (row : Row after plan first start i sent) (sound : IsInstance plan i) (st : Stmt) (cursor : Cursor) (n : ℕ) (passes : PassesStatement (statements_of plan i.top) i.top.cursor cursor st) (less : n + 1 ≡ i.steps) where

@@ -6,7 +6,8 @@ use Rattle.serial_meaning.specs.Plan.{PlanView, functions_of}
 use Rattle.serial_meaning.specs.declared.value.Value.{Value}
 use Rattle.serial_meaning.specs.declared.event.Event.TheVariants as event
 use Rattle.serial_meaning.specs.declared.event.FaultKind.{FaultKind}
-use Rattle.strand_meaning.specs.Machine.{Stands, Gives, Emitted, back, here_of, spawns_in, sync_effects, with_scalar, return_move, Effect, Machine, Reached}
+use Rattle.script_check.specs.Spawns.{spawns_in}
+use Rattle.strand_meaning.specs.Machine.{Stands, Gives, Emitted, back, here_of, sync_effects, with_scalar, return_move, Effect, Machine, Reached}
 use Rattle.strand_values.specs.Environments.{EnvironmentView}
 use Rattle.strand_moves.specs.declared.frame.Frame.{Frame}
 use Rattle.strand_moves.specs.declared.running.Running.{Running}

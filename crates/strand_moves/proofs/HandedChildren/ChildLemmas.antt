@@ -7,7 +7,7 @@ use Rattle.script_grammar.specs.declared.tree.Expr.{Expr}
 use Rattle.script_grammar.specs.declared.tree.CallText.{CallText}
 use Rattle.script_grammar.specs.declared.tree.Stmt.{Stmt}
 use Rattle.script_grammar.specs.declared.tree.Act.TheOpen as act
-use Rattle.serial_meaning.specs.Values.{value_of, values_of, number}
+use Rattle.serial_meaning.specs.Values.{value_of, values_of, as_integer}
 use Rattle.serial_meaning.specs.Functions.{number_of, function_at}
 use Rattle.serial_meaning.specs.Plan.{PlanView, functions_of}
 use Rattle.serial_meaning.specs.Exec.{count_of, filled}
@@ -38,14 +38,14 @@ module _ (plan : PlanView) (i : Running) (st : Stmt) where
       height ≡ length i.below.items → to ≡ target →
       acted plan (present_of i) (machine_of plan i) st (spawn_to target c)
       ≡ went (Emitted (event.Spawn at) ∷ Handed (origin.Instance function vs path) (Spawned height to) ∷ []) (machine_of plan (record received { rank = received.rank + 1; top = record received.top { spawned = true } }))
-  spawned-child target c vs instead function height at path to env received known room number a p filler e r h t =
+  spawned-child target c vs instead function height at path to env received known room as_integer a p filler e r h t =
       let deep = is_below (length (present_of i) + 1) plan.limits.depth room in
-      let put = rw (filler, number) at e in
-      rw (number, a, p, r, h ∙ sym (calls-open plan i), t) (spawn plan (present_of i) (machine_of plan i) st target c vs env.variables known deep put)
+      let put = rw (filler, as_integer) at e in
+      rw (as_integer, a, p, r, h ∙ sym (calls-open plan i), t) (spawn plan (present_of i) (machine_of plan i) st target c vs env.variables known deep put)
 
   module _ (var : Name) (lo hi : Expr) (target : Option Name) (c : CallText) (l h : Value) (vs : List Value) (n steps : ℕ) (begun : Running)
       (known-lo : value_of lo i.top.env.variables ≡ Ok l) (known-hi : value_of hi i.top.env.variables ≡ Ok h) (known-args : values_of c.args i.top.env.variables ≡ Ok vs)
-      (counted : n ≡ count_of (number h -ℤ number l)) (begins : loop_begins plan (present_of i) n target i.top.env.variables i.steps ≡ Ok tt)
+      (counted : n ≡ count_of (as_integer h -ℤ as_integer l)) (begins : loop_begins plan (present_of i) n target i.top.env.variables i.steps ≡ Ok tt)
       (paid : steps + n ≡ i.steps) (is-begun : begun ≡ record i { steps = steps }) where
     abbrev pub passed_on : Running
     passed_on = record begun { rank = begun.rank + 1; top = record begun.top { env = with_variables begun.top.env (filled target [] begun.top.env.variables) } }
@@ -58,7 +58,7 @@ module _ (plan : PlanView) (i : Running) (st : Stmt) where
     looped-none none s passed e p =
         rw (e, p, is-begun, ← left) (pfor-none plan (present_of i) (machine_of plan i) st var lo hi target c l h vs n known-lo known-hi known-args counted none begins)
 
-    pub looped-some : 0 < n → (s : Effects) (passed : Running) (function : ℕ) (first : ℤ) (path : List ℕ) (trail : Trail) → function ≡ number_of (functions_of plan) c.name.bytes → first ≡ number l → path ≡ strand_at begun →
+    pub looped-some : 0 < n → (s : Effects) (passed : Running) (function : ℕ) (first : ℤ) (path : List ℕ) (trail : Trail) → function ≡ number_of (functions_of plan) c.name.bytes → first ≡ as_integer l → path ≡ strand_at begun →
         s ≡ effect.Looped (event.Loop (strand_at begun)) (record { child = record { origin = origin.Loop function vs first path (record { lo = 0; hi = n }); trail = trail }; target = target }) → passed ≡ passed_on →
         acted plan (present_of i) (machine_of plan i) st (act.Pfor var lo hi target c) ≡ went (effects_of s) (machine_of plan passed)
     looped-some some s passed function first path trail f g a e p =

@@ -24,7 +24,7 @@ use Rattle.strand_moves.specs.Acts.{Acts, Costs, IsKept, Stays}
 use Rattle.strand_moves.specs.Moves.{Makes, acted, spawn_to, present_pedigree}
 use Rattle.strand_moves.specs.Rows.{HasPassedStatement}
 use Rattle.strand_moves.specs.Running.{IsInstance, KeepsNames, machine_of, path_of, present_of}
-use Rattle.strand_moves.specs.Spawns.{DoesAs, HasSpawned, handed}
+use Rattle.strand_moves.specs.Spawns.{DoesAs, HasSpawned, spawn_as_move}
 use Rattle.strand_moves.proofs.Cursors.Passing.{next-moves}
 use Rattle.strand_moves.proofs.OpenScopes.Exits.{shows-exit}
 use Rattle.strand_moves.proofs.OpenScopes.Keeping.{here-is, keeps-paid}
@@ -33,7 +33,7 @@ use Rattle.strand_moves.proofs.Statements.Paying.{shows-same, spawn-at, statemen
 
 -- a spawn that is left by a `?`
 pub handed-exit : (run : Run Effect Fault Reached) (strand : List ℕ) (m : Machine) {A : Type 0} (r : Result Spawning values.Halt) (h : values.Halt) (defined : Result A FaultKind) → IsErrAnd r (λ y. y ≡ h) → Gives (Err h) defined →
-    ((kind : FaultKind) → defined ≡ Err kind → run ≡ faults kind strand) → Makes run strand m (handed r)
+    ((kind : FaultKind) → defined ≡ Err kind → run ≡ faults kind strand) → Makes run strand m (spawn_as_move r)
 handed-exit run strand m (Ok s) h defined e g f = absurd e
 handed-exit run strand m (Err y) h defined e g f = shows-exit run strand m (Err y) h defined e g f
 
@@ -67,13 +67,13 @@ module _ (i : Running) (n : ℕ) (less : n + 1 ≡ i.steps) where
     pub spawn-kept : KeepsNames plan paid new → Stays paid new → Costs paid new → IsKept plan i new
     spawn-kept named stays few = keeps-paid plan i paid n sound passed.0 refl less new named stays few (Ok (moved.Went effect.Nothing))
 
-    pub spawn-did : (to : Option Name) (c : CallText) → DoesAs st to c → (done : Result Spawning values.Halt) (s : Spawning) → done ≡ Ok s → Acts plan st (spawn_to to c) paid new (handed done) → HasSpawned plan i (Some st) new (Some s)
+    pub spawn-did : (to : Option Name) (c : CallText) → DoesAs st to c → (done : Result Spawning values.Halt) (s : Spawning) → done ≡ Ok s → Acts plan st (spawn_to to c) paid new (spawn_as_move done) → HasSpawned plan i (Some st) new (Some s)
     spawn-did to c does done s is acts =
         let m = machine_of plan i in
         let a = out-Act (out-Stmt st).act in
         let alike =
-        shows-same (acted plan (present_of paid) (machine_of plan paid) st a) (acted plan (present_of paid) (machine_of plan paid) st (spawn_to to c)) (present_pedigree (present_of paid) (machine_of plan paid)) (machine_of plan new) (handed done)
+        shows-same (acted plan (present_of paid) (machine_of plan paid) st a) (acted plan (present_of paid) (machine_of plan paid) st (spawn_to to c)) (present_pedigree (present_of paid) (machine_of plan paid)) (machine_of plan new) (spawn_as_move done)
         (does plan (present_of paid) (machine_of plan paid)) acts in
-        let made = statement-paid plan i paid n refl less (here-is plan i sound) st a new (handed done) refl alike in
+        let made = statement-paid plan i paid n refl less (here-is plan i sound) st a new (spawn_as_move done) refl alike in
         next-moves plan i (Some st) st refl
-        ∙ subst (λ (d : Result Spawning values.Halt). Makes (statement_move plan (path_of i) m st m.top.left) (present_pedigree (present_of i) m) (machine_of plan new) (handed d)) is made
+        ∙ subst (λ (d : Result Spawning values.Halt). Makes (statement_move plan (path_of i) m st m.top.left) (present_pedigree (present_of i) m) (machine_of plan new) (spawn_as_move d)) is made

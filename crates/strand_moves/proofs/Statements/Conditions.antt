@@ -1,7 +1,7 @@
 -- Expressions of which only the number or the truth was asked.
 use Rattle.std.proofs.Common.{◌≡◌, Bool, Ok, Err, refl, ap}
 use Rattle.std.proofs.Common.{ℤ}
-use Rattle.serial_meaning.specs.Values.{Val, number, is_true}
+use Rattle.serial_meaning.specs.Values.{Val, as_integer, is_true}
 use Rattle.serial_meaning.specs.declared.value.Value.{Value}
 use Rattle.serial_meaning.specs.declared.event.FaultKind.{FaultKind}
 use Rattle.strand_values.specs.Gives.{numbered, holding}
@@ -14,7 +14,7 @@ pub holding-fault : (d : Val) (kind : FaultKind) → holding d ≡ Err kind → 
 holding-fault (Ok v) kind h = absurd (cc)
 holding-fault (Err k) kind h = let e : k ≡ kind = cc in ap Err e
 
-pub number-known : (d : Val) (n : ℤ) → numbered d ≡ Ok n → (v : Value) × ((d ≡ Ok v) × (number v ≡ n))
+pub number-known : (d : Val) (n : ℤ) → numbered d ≡ Ok n → (v : Value) × ((d ≡ Ok v) × (as_integer v ≡ n))
 number-known (Ok v) n h = (v, (refl, (cc)))
 number-known (Err kind) n h = absurd (cc)
 

@@ -15,7 +15,7 @@ use Rattle.script_grammar.specs.declared.tree.Act.{Act, out-Act}
 use Rattle.script_grammar.specs.declared.tree.Act.TheOpen as act
 use Rattle.script_grammar.specs.declared.tree.Act.TheOpen.{Act-F}
 use Rattle.serial_meaning.specs.Runs.{Run}
-use Rattle.serial_meaning.specs.Values.{Env, value_of, values_of, slot_of, items_of, number, is_true, at_index}
+use Rattle.serial_meaning.specs.Values.{Env, value_of, values_of, slot_of, items_of, as_integer, is_true, at_index}
 use Rattle.serial_meaning.specs.Functions.{number_of, function_at}
 use Rattle.serial_meaning.specs.Plan.{PlanView, functions_of, drawn}
 use Rattle.serial_meaning.specs.Exec.{with_slot, does, bound, set_item, zeros, count_of, paid_from}
@@ -29,7 +29,7 @@ use Rattle.serial_meaning.specs.declared.event.Fault.{Fault}
 use Rattle.serial_meaning.specs.declared.event.Event.TheVariants as event
 use Rattle.serial_meaning.specs.declared.origin.Origin.{Origin}
 use Rattle.serial_meaning.specs.declared.origin.Origin.TheVariants as origin
-use Rattle.strand_meaning.specs.Machine.{Spawned, Effect, Emitted, Handed, Opens, handing, here_of, inside, destination_of, Frame, Machine, Reached, Stands, state_of, with_left, with_scalar, entered, reached, statement_move, sync_effects}
+use Rattle.strand_meaning.specs.Machine.{Spawned, Effect, Emitted, Handed, Opens, handing, here_of, inside, destination_of, Frame, Machine, Reached, Stands, state_of, with_left, with_scalar, machine_inside, reached, statement_move, sync_effects}
 use Rattle.strand_moves.specs.Moves.{acted, call_to, spawn_to}
 
 abbrev pub with_env : Machine → Env → Machine
@@ -51,7 +51,7 @@ after_statement m n left = record m { steps = n; top = record m.top { left = lef
 module _ (plan : PlanView) (here : List ℕ) (m : Machine) (st : Stmt) (left : List Stmt) where
   by_act : (n : ℕ) (a : Act-F Act Stmt) →
       (let r = does (handing plan (destination_of (length m.below) a)) plan here inside (length m.below) st a (record (state_of m) { steps = n }) in
-      let run : Run Effect Fault Reached = record { items = r.items; ending = reached plan (with_left m left) (entered plan st a left m) r.ending } in run)
+      let run : Run Effect Fault Reached = record { items = r.items; ending = reached plan (with_left m left) (machine_inside plan st a left m) r.ending } in run)
       ≡ acted plan here (after_statement m n left) st a
   unfolding acted
   by_act n (act.Let x (right.Value e)) = refl
@@ -81,7 +81,7 @@ module _ (plan : PlanView) (path : List ℕ) (m : Machine) (st : Stmt) (left : L
       let a = out-Act (out-Stmt st).act in
       ap (λ (k : ℕ).
       let r = paid_from (handing plan (destination_of (length m.below) a)) plan (here_of path m) k (state_of m) (λ s. does (handing plan (destination_of (length m.below) a)) plan (here_of path m) inside (length m.below) st a s) in
-      let run : Run Effect Fault Reached = record { items = r.items; ending = reached plan (with_left m left) (entered plan st a left m) r.ending } in run) h
+      let run : Run Effect Fault Reached = record { items = r.items; ending = reached plan (with_left m left) (machine_inside plan st a left m) r.ending } in run) h
       ∙ by_act plan (here_of path m) m st left n a
 
   pub unpaid-move : m.steps ≡ 0 → statement_move plan path m st left ≡ faults Budget (here_of path m ++ m.rank ∷ [])
@@ -91,7 +91,7 @@ module _ (plan : PlanView) (path : List ℕ) (m : Machine) (st : Stmt) (left : L
 
 -- the frame that a call begins
 abbrev pub callee : Option Name → ℕ → Function → List Value → Frame
-callee target number f vs = record { function = number; left = f.body; levels = []; leaving = false; returning = false; env = bound f.params vs; spawned = false; faulted = None; target = target }
+callee target as_integer f vs = record { function = as_integer; left = f.body; levels = []; leaving = false; returning = false; env = bound f.params vs; spawned = false; faulted = None; target = target }
 
 module _ (plan : PlanView) (path : List ℕ) (m : Machine) (st : Stmt) where
   pub let-is-set : (x : Name) (r : Right) → acted plan path m st (act.Let x r) ≡ acted plan path m st (act.Set x r)
@@ -135,8 +135,8 @@ module _ (plan : PlanView) (path : List ℕ) (m : Machine) (st : Stmt) where
   unfolding acted
   print e v h = rw h refl
 
-  pub store : (x : Name) (i e : Expr) (k v : Value) (old : ℤ) (env : Env) → value_of i m.top.env ≡ Ok k → at_index (items_of (slot_of m.top.env x.bytes)) (number k) ≡ Some old → value_of e m.top.env ≡ Ok v →
-      env ≡ with_slot m.top.env x.bytes (Array (set_item (items_of (slot_of m.top.env x.bytes)) (number k) v)) → acted plan path m st (act.Store x i e) ≡ went [] (with_env m env)
+  pub store : (x : Name) (i e : Expr) (k v : Value) (old : ℤ) (env : Env) → value_of i m.top.env ≡ Ok k → at_index (items_of (slot_of m.top.env x.bytes)) (as_integer k) ≡ Some old → value_of e m.top.env ≡ Ok v →
+      env ≡ with_slot m.top.env x.bytes (Array (set_item (items_of (slot_of m.top.env x.bytes)) (as_integer k) v)) → acted plan path m st (act.Store x i e) ≡ went [] (with_env m env)
   unfolding acted
   store x i e k v old env f g h j = rw (f, g, h, j) refl
 
@@ -144,12 +144,12 @@ module _ (plan : PlanView) (path : List ℕ) (m : Machine) (st : Stmt) where
   unfolding acted
   store-index-fault x i e kind f = rw f refl
 
-  pub store-fault : (x : Name) (i e : Expr) (k : Value) → value_of i m.top.env ≡ Ok k → at_index (items_of (slot_of m.top.env x.bytes)) (number k) ≡ None →
+  pub store-fault : (x : Name) (i e : Expr) (k : Value) → value_of i m.top.env ≡ Ok k → at_index (items_of (slot_of m.top.env x.bytes)) (as_integer k) ≡ None →
       acted plan path m st (act.Store x i e) ≡ faults Index (path ++ m.rank ∷ [])
   unfolding acted
   store-fault x i e k f g = rw (f, g) refl
 
-  pub store-value-fault : (x : Name) (i e : Expr) (k : Value) (old : ℤ) (kind : FaultKind) → value_of i m.top.env ≡ Ok k → at_index (items_of (slot_of m.top.env x.bytes)) (number k) ≡ Some old → value_of e m.top.env ≡ Err kind →
+  pub store-value-fault : (x : Name) (i e : Expr) (k : Value) (old : ℤ) (kind : FaultKind) → value_of i m.top.env ≡ Ok k → at_index (items_of (slot_of m.top.env x.bytes)) (as_integer k) ≡ Some old → value_of e m.top.env ≡ Err kind →
       acted plan path m st (act.Store x i e) ≡ faults kind (path ++ m.rank ∷ [])
   unfolding acted
   store-value-fault x i e k old kind f g h = rw (f, g, h) refl

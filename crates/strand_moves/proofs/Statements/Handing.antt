@@ -12,7 +12,7 @@ use Rattle.strand_moves.specs.declared.effects.Spawning.{Spawning}
 use Rattle.strand_moves.specs.Acts.{Acts}
 use Rattle.strand_moves.specs.Moves.{IsTrailOf, MovesTrail}
 use Rattle.strand_moves.specs.Quick.{emitted_if_any}
-use Rattle.strand_moves.specs.Spawns.{IsHanded, handed}
+use Rattle.strand_moves.specs.Spawns.{IsHanded, spawn_as_move}
 
 -- an event, or nothing, is no child
 pub emitted_if_any-child : (plan : PlanView) (done : Result (Option Event) values.Halt) → IfOk (emitted_if_any done) (MovesTrail plan)
@@ -21,11 +21,11 @@ emitted_if_any-child plan (Ok (Some e)) = tt
 emitted_if_any-child plan (Err h) = tt
 
 -- a spawn does as a move what it does
-pub handed-acts : (plan : PlanView) (st : Stmt) (a : Act-F Act Stmt) (old new : Running) (done : Result Spawning values.Halt) (r : Result MoveResult values.Halt) → IsHanded done r → Acts plan st a old new (handed done) → Acts plan st a old new r
+pub handed-acts : (plan : PlanView) (st : Stmt) (a : Act-F Act Stmt) (old new : Running) (done : Result Spawning values.Halt) (r : Result MoveResult values.Halt) → IsHanded done r → Acts plan st a old new (spawn_as_move done) → Acts plan st a old new r
 handed-acts plan st a old new done r (inl e) h = subst (Acts plan st a old new) (sym e) h
 handed-acts plan st a old new done r (inr e) h = subst (Acts plan st a old new) (sym e) tt
 
-handed-trail : (plan : PlanView) (done : Result Spawning values.Halt) → IfOk done (λ s. IsTrailOf plan s.spawned.child.origin s.spawned.child.trail) → IfOk (handed done) (MovesTrail plan)
+handed-trail : (plan : PlanView) (done : Result Spawning values.Halt) → IfOk done (λ s. IsTrailOf plan s.spawned.child.origin s.spawned.child.trail) → IfOk (spawn_as_move done) (MovesTrail plan)
 handed-trail plan (Ok s) h = h
 handed-trail plan (Err e) h = tt
 

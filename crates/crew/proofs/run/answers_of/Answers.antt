@@ -2,7 +2,7 @@ use Rattle.std.proofs.Common.{◌≡◌, List, [], ◌∷◌, ◌++◌, length, 
 use Rattle.std.specs.Vec.Iter.{into_iter_items}
 use Rattle.meet_block.specs.Joined.{Joined}
 use Rattle.serial_meaning.specs.Answer.{AnswerTag, AnswerView}
-use Rattle.crew.specs.Crews.{AreAnswersOf}
+use Rattle.crew.specs.Crews.{AreRootAnswers}
 use Rattle.crew.proofs.Rooted.{one-more-answer, no-more-answers}
 use Rattle.crew.proofs.run.answers_of.Goals as goal
 
@@ -12,8 +12,8 @@ loop-root-init g c =
     let roots : into_iter_items c.into_iter-root-iterator.result ≡ c.args.roots.items = gives.0 in
     record {
       roots = gives.1 ∙ c.args.roots.ok.0 ∙ ap length (sym roots);
-      answers = λ rest h. subst (λ (l : List AnswerView). AreAnswersOf c.args.roots.items (l ++ rest)) (sym c.new-answers.ensures.items)
-          (subst (λ (rs : List (Joined AnswerTag)). AreAnswersOf rs rest) roots h);
+      answers = λ rest h. subst (λ (l : List AnswerView). AreRootAnswers c.args.roots.items (l ++ rest)) (sym c.new-answers.ensures.items)
+          (subst (λ (rs : List (Joined AnswerTag)). AreRootAnswers rs rest) roots h);
     }
 
 pub loop-root-preserved : goal.loop-root-preserved
@@ -22,7 +22,7 @@ loop-root-preserved g c =
     let roots = c.in-Some.ensures.steps in
     record {
       roots = omega (arith, was.roots, ap length roots.0, roots.1);
-      answers = λ rest h. subst (λ (l : List AnswerView). AreAnswersOf c.args.roots.items (l ++ rest)) (sym c.in_ok-push.ensures.items)
+      answers = λ rest h. subst (λ (l : List AnswerView). AreRootAnswers c.args.roots.items (l ++ rest)) (sym c.in_ok-push.ensures.items)
           (one-more-answer _ _ _ c.in-Some.root c.answer_of.result c.loop-root.answers.items rest was.answers roots.0 c.answer_of.ensures.tag c.answer_of.ensures.meant h);
     }
 

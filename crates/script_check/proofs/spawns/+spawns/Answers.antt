@@ -1,6 +1,6 @@
 use Rattle.std.proofs.Common.{◌≡◌, ◌-◌, ◌&&◌, false, true, drop, sym, ap, ◌∙◌, arith, rules}
 use Rattle.script_grammar.specs.declared.tree.Act.{the_lemmas}
-use Rattle.script_check.specs.Names.{Names, nobody, both, with_name}
+use Rattle.script_check.specs.Names.{NameSet, no_names, union, with_name}
 use Rattle.script_check.specs.Statements.{judge, after}
 use Rattle.script_check.specs.Walk.{WalkState, keeps, keeps_all, state_of}
 use Rattle.script_check.proofs.Walk.Collected.{alone, two_sets, kept_more, one_more, all_of_it, keeps_none}
@@ -39,32 +39,32 @@ collect-loop-i-preserved t c =
 
 pub collect_one-returns-then-first-clause-state : goal.collect_one-returns-then-first-clause-state
 collect_one-returns-then-first-clause-state t c =
-    let a = after c.as_slice.result.now nobody in
-    let b = after c.as_slice-in-If.result.now nobody in
+    let a = after c.as_slice.result.now no_names in
+    let b = after c.as_slice-in-If.result.now no_names in
     let s = state_of c.args.symbols.now in
-    let e : (judge c.args.statement.now).after nobody ≡ both a b = search (rules, the_lemmas) in
-    c.in_ok-second-in-If.ensures.state ∙ ap (λ (t : WalkState). record t { names = both b t.names }) c.in_ok-first-in-If.ensures.state
-    ∙ ap (λ (p : Names). record s { names = p }) (two_sets a b s.names ∙ ap (λ (f : Names). both f s.names) (sym e))
+    let e : (judge c.args.statement.now).after no_names ≡ union a b = search (rules, the_lemmas) in
+    c.in_ok-second-in-If.ensures.state ∙ ap (λ (t : WalkState). record t { names = union b t.names }) c.in_ok-first-in-If.ensures.state
+    ∙ ap (λ (p : NameSet). record s { names = p }) (two_sets a b s.names ∙ ap (λ (f : NameSet). union f s.names) (sym e))
 
 pub collect_one-returns-else-first-clause-state : goal.collect_one-returns-else-first-clause-state
 collect_one-returns-else-first-clause-state t c =
-    let a = after c.as_slice.result.now nobody in
-    let b = after c.as_slice-in-If.result.now nobody in
+    let a = after c.as_slice.result.now no_names in
+    let b = after c.as_slice-in-If.result.now no_names in
     let s = state_of c.args.symbols.now in
-    let e : (judge c.args.statement.now).after nobody ≡ both a b = search (rules, the_lemmas) in
-    c.in_ok-second-in-If.ensures.state ∙ ap (λ (t : WalkState). record t { names = both b t.names }) c.in_ok-first-in-If.ensures.state
-    ∙ ap (λ (p : Names). record s { names = p }) (two_sets a b s.names ∙ ap (λ (f : Names). both f s.names) (sym e))
+    let e : (judge c.args.statement.now).after no_names ≡ union a b = search (rules, the_lemmas) in
+    c.in_ok-second-in-If.ensures.state ∙ ap (λ (t : WalkState). record t { names = union b t.names }) c.in_ok-first-in-If.ensures.state
+    ∙ ap (λ (p : NameSet). record s { names = p }) (two_sets a b s.names ∙ ap (λ (f : NameSet). union f s.names) (sym e))
 
 pub collect_one-returns-in_ok-spawn_to-in-Let-default-Spawn-clause-state : goal.collect_one-returns-in_ok-spawn_to-in-Let-default-Spawn-clause-state
 collect_one-returns-in_ok-spawn_to-in-Let-default-Spawn-clause-state t c =
     let x = c.in-Let-default-Spawn.x.bytes in
     let s = state_of c.args.symbols.now in
-    let e : (judge c.args.statement.now).after nobody ≡ with_name x nobody = search (rules, the_lemmas) in
-    c.in_ok-spawn_to-in-Let-default-Spawn.ensures ∙ ap (λ (p : Names). record s { names = p }) (alone x s.names ∙ ap (λ (f : Names). both f s.names) (sym e))
+    let e : (judge c.args.statement.now).after no_names ≡ with_name x no_names = search (rules, the_lemmas) in
+    c.in_ok-spawn_to-in-Let-default-Spawn.ensures ∙ ap (λ (p : NameSet). record s { names = p }) (alone x s.names ∙ ap (λ (f : NameSet). union f s.names) (sym e))
 
 pub collect_one-returns-in_ok-spawn_to-in-Set-default-Spawn-clause-state : goal.collect_one-returns-in_ok-spawn_to-in-Set-default-Spawn-clause-state
 collect_one-returns-in_ok-spawn_to-in-Set-default-Spawn-clause-state t c =
     let x = c.in-Set-default-Spawn.x.bytes in
     let s = state_of c.args.symbols.now in
-    let e : (judge c.args.statement.now).after nobody ≡ with_name x nobody = search (rules, the_lemmas) in
-    c.in_ok-spawn_to-in-Set-default-Spawn.ensures ∙ ap (λ (p : Names). record s { names = p }) (alone x s.names ∙ ap (λ (f : Names). both f s.names) (sym e))
+    let e : (judge c.args.statement.now).after no_names ≡ with_name x no_names = search (rules, the_lemmas) in
+    c.in_ok-spawn_to-in-Set-default-Spawn.ensures ∙ ap (λ (p : NameSet). record s { names = p }) (alone x s.names ∙ ap (λ (f : NameSet). union f s.names) (sym e))

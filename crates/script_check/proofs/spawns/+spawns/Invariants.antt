@@ -1,5 +1,5 @@
 use Rattle.std.proofs.Common.{◌≡◌, ◌≤◌, true, drop, length}
-use Rattle.script_check.specs.Names.{nobody, both}
+use Rattle.script_check.specs.Names.{no_names, union}
 use Rattle.script_check.specs.Statements.{after}
 use Rattle.script_check.specs.Walk.{state_of, keeps_all}
 use Rattle.script_check.proofs.spawns.+spawns.Given as goal
@@ -8,7 +8,7 @@ abbrev pub invariant-collect-loop-i : goal.invariant-collect-loop-i
 invariant-collect-loop-i l =
     (l.i ≤ length l.statements)
     × (keeps_all (drop l.i l.statements) ≡ true)
-    × (state_of l.symbols ≡ record (state_of l.initial.symbols) { names = both (after (drop l.i l.statements) nobody) (state_of l.initial.symbols).names })
+    × (state_of l.symbols ≡ record (state_of l.initial.symbols) { names = union (after (drop l.i l.statements) no_names) (state_of l.initial.symbols).names })
 
 abbrev pub decreases-collect-loop-i : goal.decreases-collect-loop-i
 decreases-collect-loop-i l = l.i

@@ -3,7 +3,7 @@ use Rattle.script_grammar.specs.declared.tree.Kind.TheVariants.{Int}
 use Rattle.script_grammar.specs.declared.tree.Act.{Act}
 use Rattle.script_grammar.specs.declared.tree.Act.TheVariants as variant
 use Rattle.script_check.specs.Violations.{noted}
-use Rattle.script_check.specs.Names.{nobody, both}
+use Rattle.script_check.specs.Names.{no_names, union}
 use Rattle.script_check.specs.Expressions.{read, wanted}
 use Rattle.script_check.specs.Statements.{context, Judged, judge_what, judge_all, violations_each, after}
 use Rattle.script_check.specs.Walk.{WalkState, keeps_what, keeps_all, state_of}
@@ -21,7 +21,7 @@ judge_nested-returns-in_ok-end_if-in-If-clause-state t c =
     let k : Bool = c.in_ok-first-in-If.first || c.in_ok-second-in-If.second in
     let kept : k ≡ (keeps_all a || keeps_all b) = search rules in
     let last : state_of c.end_if.new.symbols ≡ record (state_of c.judge_block-in-If.new.symbols) {
-      names = both (after a (state_of c.judge_block-in-If.new.symbols).names) (after b (state_of c.judge_block-in-If.new.symbols).names);
+      names = union (after a (state_of c.judge_block-in-If.new.symbols).names) (after b (state_of c.judge_block-in-If.new.symbols).names);
       keeps = k && (state_of c.judge_block-in-If.new.symbols).keeps;
     } = search rules in
     let what : st.act ≡ variant.If c.in-If.e a b = search rules in
@@ -63,7 +63,7 @@ judge_nested-returns-in_ok-judge_block-in-While-clause-found t c in_block =
     let m = state_of c.begin_while.new.symbols in
     let what : st.act ≡ variant.While c.in-While.e a = search rules in
     let known : m.known ≡ s.known = ap (λ (t : WalkState). t.known) c.in_ok-begin_while-in-While.ensures in
-    let set : m.names ≡ both s.names (after a s.names) = ap (λ (t : WalkState). t.names) c.in_ok-begin_while-in-While.ensures in
+    let set : m.names ≡ union s.names (after a s.names) = ap (λ (t : WalkState). t.names) c.in_ok-begin_while-in-While.ensures in
     let body : c.judge_block-in-While.new.found ≡ noted c.want-in-While.new.found (violations_each (judge_all a) (context fs true) m.known m.names) = search rules in
     while_violations fs a (read c.in-While.e) s.known m.known s.names m.names c.args.found.now c.want-in-While.new.found c.judge_block-in-While.new.found
     known set c.want-in-While.ensures.found body
@@ -77,7 +77,7 @@ judge_nested-returns-in_ok-sync-in-Scope-clause-state t c =
     let s = state_of c.args.symbols.now in
     let what : st.act ≡ variant.Scope a = search rules in
     let first : state_of c.judge_block-in-Scope.new.symbols ≡ with_known fs a s = search rules in
-    let last : state_of c.sync.new.self ≡ record (state_of c.judge_block-in-Scope.new.symbols) { names = nobody; keeps = false } = search rules in
+    let last : state_of c.sync.new.self ≡ record (state_of c.judge_block-in-Scope.new.symbols) { names = no_names; keeps = false } = search rules in
     scope_state fs a s (state_of c.judge_block-in-Scope.new.symbols) (state_of c.sync.new.self) first last
     ∙ sym (after_by fs st _ _ s (judge_is st ∙ ap (λ (w : Act). judge_what w st.at) what ∙ judge_scope st.at a) (keeps_is st ∙ ap keeps_what what ∙ keeps_scope a))
 

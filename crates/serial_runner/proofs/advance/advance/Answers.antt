@@ -1,6 +1,6 @@
 use Rattle.std.proofs.Common.{◌≡◌, ◌∙◌, [], ◌∷◌, sym, ap, subst}
 use Rattle.serial_runner.specs.Stacks.{Closes}
-use Rattle.serial_runner.proofs.Noting.{made}
+use Rattle.serial_runner.proofs.ObservedStops.{made}
 use Rattle.strand_machine.proofs.NextStops.Pausing.{ended-stop}
 use Rattle.serial_runner.proofs.Advancing.{went_whole, spawned, waits, has_answers, went_up, known_fault, answer_below, all_ended, ended}
 use Rattle.serial_runner.proofs.advance.advance.Goals as goal

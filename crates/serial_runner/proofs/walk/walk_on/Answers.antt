@@ -6,7 +6,7 @@ use Rattle.strand_machine.specs.Stops.{answer_tags, any_cut, WentOn}
 use Rattle.strand_machine.specs.Tasks.{TaskView}
 use Rattle.serial_runner.specs.Observed.{origin_of, with_child, WalksOn}
 use Rattle.serial_runner.specs.declared.walk.Walked.TheVariants.{Goes}
-use Rattle.serial_runner.proofs.Noting.{made}
+use Rattle.serial_runner.proofs.ObservedStops.{made}
 use Rattle.serial_runner.proofs.Walking.{it_waits, children_known, it_has_answers, walks_by_child, over_by_child, walks_by_wait, over_by_wait, walk_ends}
 use Rattle.serial_runner.proofs.walk.walk_on.Goals as goal
 

@@ -4,7 +4,7 @@ use Rattle.std.specs.Prelude.{OnOk}
 use Rattle.serial_meaning.specs.Answer.{AnswerView}
 use Rattle.serial_meaning.specs.Plan.{PlanView}
 use Rattle.strand_meaning.specs.Trace.{AwaitedChild}
-use Rattle.strand_machine.specs.Merge.{TakesAnswers, WorkFinds, Works, ending_of, merge_of}
+use Rattle.strand_machine.specs.Merge.{TakesAnswers, WorkFinds, Works, result_of_outcome, merge_of}
 use Rattle.strand_machine.specs.Parts.{awaited_child, destination_of}
 use Rattle.strand_machine.specs.Tasks.{work_of}
 use Rattle.strand_machine.specs.declared.body.Body.{Body}
@@ -29,7 +29,7 @@ returns-in-Ok-clause-takes c =
     let after : Parts = record { body = record b { trace = c.hear.new.trace; values = c.merge_value.new.values }; work = c.merge_value.new.work } in
     subst (λ (x : AnswerView). OnOk c.merge_value.result (TakesAnswers (awaited_child x.origin c.args.after ∷ []) (x ∷ []) (merge_of c.args.parts.now c.args.heard.now) (merge_of after c.hear.new.self))) c.answer.view_is
     (on-both c.merge_value.result _ _ _
-    (λ values work. takes-answer p v (merge_of c.args.parts.now c.args.heard.now) (merge_of after c.hear.new.self) (heard-front p (record { items = a.out; ending = ending_of a.outcome }) b.trace c.hear.new.trace (e.trace p refl))
+    (λ values work. takes-answer p v (merge_of c.args.parts.now c.args.heard.now) (merge_of after c.hear.new.self) (heard-front p (record { items = a.out; ending = result_of_outcome a.outcome }) b.trace c.hear.new.trace (e.trace p refl))
     e.ended e.cut values work c.answer.invariant)
     c.merge_value.ensures.values c.merge_value.ensures.work)
 
@@ -38,4 +38,4 @@ returns-in-Ok-clause-rest c =
     let a = c.answer.inside in
     let p : AwaitedChild = awaited_child a.origin c.args.after in
     ok-of c.merge_value.result _
-    (record { body = refl; handed = heard-alone p (record { items = a.out; ending = ending_of a.outcome }) c.args.parts.now.body.trace c.hear.new.trace (c.in-Ok.ensures.trace p refl) })
+    (record { body = refl; handed = heard-alone p (record { items = a.out; ending = result_of_outcome a.outcome }) c.args.parts.now.body.trace c.hear.new.trace (c.in-Ok.ensures.trace p refl) })

@@ -1,5 +1,5 @@
 use Rattle.strand_meaning.specs.Task.{takes}
-use Rattle.strand_machine.specs.Merge.{ending_of}
+use Rattle.strand_machine.specs.Merge.{result_of_outcome}
 use Rattle.strand_machine.specs.Parts.{destination_of}
 use Rattle.strand_machine.proofs.TakenAnswers.Taking.{runs-taken, stands-of}
 use Rattle.strand_machine.proofs.TakenAnswers.Targets.{target-of}
@@ -12,4 +12,4 @@ pub merge_stage-requires-clause-found : goal.merge_stage-requires-clause-found
 merge_stage-requires-clause-found c = target-of c.args.plan.now (destination_of c.args.place) c.args.work.now _ c.in-Runs.is c.requires.found
 
 pub returns-in_ok-merge_stage-in-Runs : goal.returns-in_ok-merge_stage-in-Runs
-returns-in_ok-merge_stage-in-Runs c = runs-taken (takes (destination_of c.args.place) (ending_of c.args.outcome)) c.args.work.now _ _ c.in-Runs.is c.in_ok-merge_stage-in-Runs.ensures
+returns-in_ok-merge_stage-in-Runs c = runs-taken (takes (destination_of c.args.place) (result_of_outcome c.args.outcome)) c.args.work.now _ _ c.in-Runs.is c.in_ok-merge_stage-in-Runs.ensures

@@ -1,7 +1,7 @@
 use Rattle.std.proofs.Common.{refl}
 use Rattle.strand_meaning.specs.Machine.{Spawned}
-use Rattle.strand_meaning.specs.Task.{takes, changed, answered}
-use Rattle.strand_machine.specs.Merge.{ending_of}
+use Rattle.strand_meaning.specs.Task.{takes, changed, frame_with_answer}
+use Rattle.strand_machine.specs.Merge.{result_of_outcome}
 use Rattle.strand_machine.proofs.TakenAnswers.Taking.{at-goes, at-sync, at-loop, goes-of, loop-of, sync-of}
 use Rattle.strand_machine.proofs.TakenAnswers.Targets.{goes-found, loop-found, sync-found}
 use Rattle.strand_machine.proofs.merge.spawned.Goals as goal
@@ -27,17 +27,17 @@ merge_spawned-requires-in-AtLoop-clause-found c = loop-found c.args.plan.now c.a
 pub returns-in-Running : goal.returns-in-Running
 returns-in-Running c =
     let e = c.merge_spawned.ensures in
-    let ending = ending_of c.args.outcome in
-    at-goes (takes (Spawned c.args.height c.args.target.now) ending) (changed c.args.height (answered c.args.target.now ending)) c.args.stage.now _ _ (λ m. refl) c.in-Running.is e.machine e.path e.sound
+    let ending = result_of_outcome c.args.outcome in
+    at-goes (takes (Spawned c.args.height c.args.target.now) ending) (changed c.args.height (frame_with_answer c.args.target.now ending)) c.args.stage.now _ _ (λ m. refl) c.in-Running.is e.machine e.path e.sound
 
 pub returns-in-AtSync : goal.returns-in-AtSync
 returns-in-AtSync c =
     let e = c.merge_spawned-in-AtSync.ensures in
-    let ending = ending_of c.args.outcome in
-    at-sync (takes (Spawned c.args.height c.args.target.now) ending) (changed c.args.height (answered c.args.target.now ending)) c.args.stage.now _ _ (λ m. refl) c.in-AtSync.is e.machine e.path e.sound
+    let ending = result_of_outcome c.args.outcome in
+    at-sync (takes (Spawned c.args.height c.args.target.now) ending) (changed c.args.height (frame_with_answer c.args.target.now ending)) c.args.stage.now _ _ (λ m. refl) c.in-AtSync.is e.machine e.path e.sound
 
 pub returns-in-AtLoop : goal.returns-in-AtLoop
 returns-in-AtLoop c =
     let e = c.merge_spawned-in-AtLoop.ensures in
-    let ending = ending_of c.args.outcome in
-    at-loop (takes (Spawned c.args.height c.args.target.now) ending) (changed c.args.height (answered c.args.target.now ending)) c.args.stage.now _ _ (λ m. refl) c.in-AtLoop.is e.machine e.path e.sound
+    let ending = result_of_outcome c.args.outcome in
+    at-loop (takes (Spawned c.args.height c.args.target.now) ending) (changed c.args.height (frame_with_answer c.args.target.now ending)) c.args.stage.now _ _ (λ m. refl) c.in-AtLoop.is e.machine e.path e.sound

@@ -1,4 +1,4 @@
-use Rattle.strand_meaning.proofs.NodesObserved.Noted.{observation_begins}
+use Rattle.strand_meaning.proofs.NodesObserved.StopsObserved.{observation_begins}
 use Rattle.strand_meaning.proofs.laws.observation_begins.Goals as goal
 
 pub returns : goal.returns

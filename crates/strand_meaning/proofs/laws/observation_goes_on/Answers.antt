@@ -1,4 +1,4 @@
-use Rattle.strand_meaning.proofs.NodesObserved.Noted.{observation_goes_on}
+use Rattle.strand_meaning.proofs.NodesObserved.StopsObserved.{observation_goes_on}
 use Rattle.strand_meaning.proofs.laws.observation_goes_on.Goals as goal
 
 pub returns : goal.returns

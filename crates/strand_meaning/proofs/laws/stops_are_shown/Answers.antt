@@ -1,4 +1,4 @@
-use Rattle.strand_meaning.proofs.NodesObserved.Noted.{stops_are_shown}
+use Rattle.strand_meaning.proofs.NodesObserved.StopsObserved.{stops_are_shown}
 use Rattle.strand_meaning.proofs.laws.stops_are_shown.Goals as goal
 
 pub returns : goal.returns

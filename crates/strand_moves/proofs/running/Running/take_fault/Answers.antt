@@ -1,5 +1,5 @@
 use Rattle.std.proofs.Common.{false, Err, refl, ap, set, arith}
-use Rattle.strand_meaning.specs.Task.{answered}
+use Rattle.strand_meaning.specs.Task.{frame_with_answer}
 use Rattle.strand_moves.specs.Running.{frame_of}
 use Rattle.strand_moves.proofs.Frames.BelowLemmas.{changed-inside, changed-beyond}
 use Rattle.strand_moves.proofs.Frames.Names.{named-set}
@@ -8,10 +8,10 @@ use Rattle.strand_moves.proofs.running.Running.take_fault.Goals as goal
 
 pub returns-then-height-len-2-clause-machine : goal.returns-then-height-len-2-clause-machine
 returns-then-height-len-2-clause-machine c = λ plan target.
-    changed-inside plan (answered target (Err c.args.fault)) c.args.height c.args.self.now _ c.index_mut.result.now (record c.index_mut.result.now { faulted = c.take_least-then-height-len-2.new.faulted }) (omega (arith, c.args.self.now.below.ok.0)) c.index_mut.ensures.value refl (ap (λ x. record (frame_of plan false c.index_mut.result.now) { faulted = x }) c.take_least-then-height-len-2.ensures)
+    changed-inside plan (frame_with_answer target (Err c.args.fault)) c.args.height c.args.self.now _ c.index_mut.result.now (record c.index_mut.result.now { faulted = c.take_least-then-height-len-2.new.faulted }) (omega (arith, c.args.self.now.below.ok.0)) c.index_mut.ensures.value refl (ap (λ x. record (frame_of plan false c.index_mut.result.now) { faulted = x }) c.take_least-then-height-len-2.ensures)
 
 pub returns-else-height-len-2-clause-machine : goal.returns-else-height-len-2-clause-machine
-returns-else-height-len-2-clause-machine c = λ plan target. changed-beyond plan (answered target (Err c.args.fault)) c.args.height c.args.self.now (omega (arith, c.args.self.now.below.ok.0))
+returns-else-height-len-2-clause-machine c = λ plan target. changed-beyond plan (frame_with_answer target (Err c.args.fault)) c.args.height c.args.self.now (omega (arith, c.args.self.now.below.ok.0))
 
 pub returns-then-height-len-2-clause-path : goal.returns-then-height-len-2-clause-path
 returns-then-height-len-2-clause-path c =

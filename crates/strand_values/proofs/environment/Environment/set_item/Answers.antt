@@ -2,7 +2,7 @@ use lib.IntN.{nat_abs}
 use Rattle.std.proofs.Common.{get_or, sym, ap, ◌∙◌, arith, w64, rules, SFits}
 use Rattle.std.proofs.lemmas.Int.{to_z-of_z}
 use Rattle.serial_meaning.specs.Exec.{with_item, with_slot}
-use Rattle.serial_meaning.specs.Values.{items_of, number, slot_of}
+use Rattle.serial_meaning.specs.Values.{items_of, as_integer, slot_of}
 use Rattle.serial_meaning.specs.declared.environment.Slot.TheVariants.{Array}
 use Rattle.strand_values.specs.Environments.{held, with_filled, with_variables}
 use Rattle.strand_values.proofs.Filled.{entry_holds, entry_put, entry_there, in_table, place_found, seen_put, some_of}
@@ -58,5 +58,5 @@ returns c =
     let noted = sym (ap (λ o. with_filled i.filled.items place o) some.1) in
     let fits : SFits w64 c.number.result = search rules in
     let holds = rw (to_z-of_z w64 c.args.index c.ranges.index, to_z-of_z w64 c.number.result fits, c.number.ensures) at c.set_at.ensures in
-    seen_put i.names.value i.entries.items i.filled.items c.self.invariant env c.self.view_is place x.bytes there e c.index_mut.ensures.value i.filled.items noted c.set_at.new.self (Array (with_item (items_of (held e)) (nat_abs c.args.index) (number c.args.value.now))) holds
+    seen_put i.names.value i.entries.items i.filled.items c.self.invariant env c.self.view_is place x.bytes there e c.index_mut.ensures.value i.filled.items noted c.set_at.new.self (Array (with_item (items_of (held e)) (nat_abs c.args.index) (as_integer c.args.value.now))) holds
     ∙ ap (λ s. with_variables env (with_slot env.variables x.bytes s)) (stored_there (slot_of env.variables x.bytes) (held e) c.args.index c.args.value.now is c.requires.there)

@@ -4,7 +4,7 @@ use Rattle.std.specs.Prelude.{Contains}
 use Rattle.script_grammar.specs.declared.tree.Name.{Name}
 use Rattle.script_grammar.specs.declared.tree.Stmt.{Stmt, out-Stmt}
 use Rattle.script_grammar.specs.declared.tree.Act.{out-Act}
-use Rattle.serial_meaning.specs.Runs.{Run, done, stopped, after_items}
+use Rattle.serial_meaning.specs.Runs.{Run, done, run_ends_by, after_items}
 use Rattle.serial_meaning.specs.Plan.{PlanView}
 use Rattle.serial_meaning.specs.Eval.{Evaluation, first_of}
 use Rattle.serial_meaning.specs.Open.{Item, NodeFault, Own, least}
@@ -14,19 +14,19 @@ use Rattle.serial_meaning.specs.declared.origin.Origin.{Origin}
 use Rattle.strand_meaning.specs.Clear.{IsApart, target_names, touched}
 use Rattle.strand_meaning.specs.Machine.{Destination, Spawned, Looped, Half, Effect, Opens, Closes, Emitted, Handed, Syncs, Loops, Frame, Machine, Reached, Stands, Gives, move}
 use Rattle.strand_meaning.specs.Trace.{AwaitedChild}
-use Rattle.strand_meaning.specs.Task.{InstanceState, Running, AtSync, AtLoop, Ended, stage_after, changed, changed_at, answered, in_machine, takes, takes_all, resumed, with_answer}
+use Rattle.strand_meaning.specs.Task.{InstanceState, Running, AtSync, AtLoop, Ended, stage_after, changed, changed_at, frame_with_answer, in_machine, takes, takes_all, resumed, with_answer}
 use Rattle.strand_meaning.specs.Rest.{evaluations, rest_of_stage, rest_open}
 use Rattle.strand_meaning.specs.Sound.{IsDestination, AreDestinations, is_by, any_by}
 use Rattle.strand_meaning.specs.Observation.{effect_items}
-use Rattle.strand_meaning.proofs.Unfilled.Shown.{effect_parts, shown}
-use Rattle.strand_meaning.proofs.Unfilled.Keeps.{keeps-answer, keeps-nothing, first-contained}
+use Rattle.strand_meaning.proofs.Unfilled.RestAfterEffects.{effect_parts, shown}
+use Rattle.strand_meaning.proofs.Unfilled.UntouchedStays.{keeps-answer, keeps-nothing, first-contained}
 use Rattle.strand_meaning.proofs.Unfilled.Moves.{complete-move}
 use Rattle.strand_meaning.specs.Laws.{on_reached, changed_run}
-use Rattle.strand_meaning.proofs.Unfilled.Changed.{length-changed, IsFree, altered-move}
+use Rattle.strand_meaning.proofs.Unfilled.ChangesCommute.{length-changed, IsFree, altered-move}
 
 -- a machine that takes an answer
 abbrev pub take : Destination → Result (List Value) Fault → Machine → Machine
-take (Spawned height target) ended m = changed height (answered target ended) m
+take (Spawned height target) ended m = changed height (frame_with_answer target ended) m
 take (Looped target) ended m = m
 take Half ended m = m
 
@@ -46,13 +46,13 @@ pub record Shape : Type 0 where
 abbrev pub shape_of : Machine → Shape
 shape_of m = record { height = length m.below; left = m.top.left; leaving = m.top.leaving; returning = m.top.returning; target = m.top.target; spawned = m.top.spawned }
 
-shape-answered : (height : ℕ) (target : Option Name) (ended : Result (List Value) Fault) (m : Machine) → shape_of (changed height (answered target ended) m) ≡ shape_of m
+shape-answered : (height : ℕ) (target : Option Name) (ended : Result (List Value) Fault) (m : Machine) → shape_of (changed height (frame_with_answer target ended) m) ≡ shape_of m
 shape-answered height target ended m = by_place (nat_eq height (length m.below)) ended
   where
-    by_place : (b : Bool) (ended : Result (List Value) Fault) → shape_of (if b then record m { top = answered target ended m.top } else record m { below = changed_at height (answered target ended) m.below }) ≡ shape_of m
+    by_place : (b : Bool) (ended : Result (List Value) Fault) → shape_of (if b then record m { top = frame_with_answer target ended m.top } else record m { below = changed_at height (frame_with_answer target ended) m.below }) ≡ shape_of m
     by_place true (Ok vs) = refl
     by_place true (Err f) = refl
-    by_place false ended = ap (λ (n : ℕ). record { height = n; left = m.top.left; leaving = m.top.leaving; returning = m.top.returning; target = m.top.target; spawned = m.top.spawned }) (length-changed height (answered target ended) m.below)
+    by_place false ended = ap (λ (n : ℕ). record { height = n; left = m.top.left; leaving = m.top.leaving; returning = m.top.returning; target = m.top.target; spawned = m.top.spawned }) (length-changed height (frame_with_answer target ended) m.below)
 
 shape-take : (place : Destination) (ended : Result (List Value) Fault) (m : Machine) → shape_of (take place ended m) ≡ shape_of m
 shape-take (Spawned height target) ended m = shape-answered height target ended m
@@ -167,7 +167,7 @@ stage-in change (Loops ∷ ts) m = refl
 abbrev pub shown_with : PlanView → (Origin → Evaluation) → List ℕ → List AwaitedChild → List Effect → Result Reached Fault → Run Item NodeFault Value
 shown_with plan child path ps ts (Ok (Stands m)) = rest_open plan child path (ps ++ effect_parts ts) (stage_after ts m)
 shown_with plan child path ps ts (Ok (Gives v)) = done v
-shown_with plan child path ps ts (Err f) = stopped (Own f)
+shown_with plan child path ps ts (Err f) = run_ends_by (Own f)
 
 module _ (plan : PlanView) (child : Origin → Evaluation) (path : List ℕ) (height : ℕ) (ps : List AwaitedChild) (places : AreDestinations height ps) where
   shown-taken : (ts : List Effect) (e : Result Reached Fault) → shown plan child path ts (on_reached (taken child ps) e) ≡ shown_with plan child path ps ts e

@@ -13,12 +13,12 @@ use Rattle.serial_meaning.specs.declared.origin.Origin.{Origin}
 use Rattle.strand_meaning.specs.Clear.{IsWithin, IsApart, target_names}
 use Rattle.strand_meaning.specs.Machine.{Destination, Spawned, Looped, Half, Frame, Machine}
 use Rattle.strand_meaning.specs.Trace.{AwaitedChild, Trace, heard_unless, heard, heard_all}
-use Rattle.strand_meaning.specs.Task.{InstanceState, Running, AtSync, AtLoop, Ended, Work, Splits, Runs, Over, Task, own_instance, changed, changed_at, answered, takes, takes_all, joins, resumed, resumed_work, more_values, all_values, on}
+use Rattle.strand_meaning.specs.Task.{InstanceState, Running, AtSync, AtLoop, Ended, Work, Splits, Runs, Over, Task, own_instance, changed, changed_at, frame_with_answer, takes, takes_all, joins, resumed, resumed_work, more_values, all_values, on}
 use Rattle.strand_meaning.specs.Found.{FindsTargets, functions_left}
-use Rattle.strand_meaning.specs.Rest.{children_of, evaluations, rest_of_stage, rest_open, closed, prefix_end, prefix_run, parts_run, all_with, work_run, finish}
+use Rattle.strand_meaning.specs.Rest.{children_of, evaluations, rest_of_stage, rest_open, closed_run, prefix_end, prefix_run, parts_run, all_with, work_run, finish}
 use Rattle.strand_meaning.specs.Sound.{unfilled_by, unfilled, is_by, any_by, IsSound, AreSound, IsDestination, AreDestinations, IsHalf, after_sync, IsSoundStage, AreParts, IsSoundWork, AreShownBy, UnfilledArePendingIn, IsTask}
 use Rattle.strand_meaning.proofs.SoundSteps.Closing.{after-then}
-use Rattle.strand_meaning.proofs.Unfilled.Changed.{length-changed}
+use Rattle.strand_meaning.proofs.Unfilled.ChangesCommute.{length-changed}
 use Rattle.strand_meaning.proofs.Unfilled.Clears.{clear-within}
 use Rattle.strand_meaning.proofs.UnfilledPending.PendingAnswers.{answers-pending}
 use Rattle.strand_meaning.proofs.SoundSteps.Steps.{so_far-same}
@@ -111,7 +111,7 @@ module _ (plan : PlanView) (p : AwaitedChild) (ps : List AwaitedChild) where
     returning = s.returning;
   }
 
-  answered-sound : (height : ℕ) (a : Frame) (target : Option Name) (q : Result (List Value) Fault) → is_by height p.place ≡ true → IsSound plan (p ∷ ps) height a → IsSound plan ps height (answered target q a)
+  answered-sound : (height : ℕ) (a : Frame) (target : Option Name) (q : Result (List Value) Fault) → is_by height p.place ≡ true → IsSound plan (p ∷ ps) height a → IsSound plan ps height (frame_with_answer target q a)
   answered-sound height a target (Ok vs) h s =
       let l = less-sound height a s in record { clear = l.clear; spawned = l.spawned; faulted = l.faulted; in_text = l.in_text; left_in_text = l.left_in_text; levels = l.levels; leaving = l.leaving; returning = l.returning }
   answered-sound height a target (Err f) h s =
@@ -134,43 +134,43 @@ module _ (plan : PlanView) (p : AwaitedChild) (ps : List AwaitedChild) where
     by-owner : (height : ℕ) → nat_eq owner height ≡ true → is_by height p.place ≡ true
     by-owner height h = ap (is_by height) is-spawned ∙ h
 
-    same-target : (a : Frame) → (answered to q a).target ≡ a.target
+    same-target : (a : Frame) → (frame_with_answer to q a).target ≡ a.target
     same-target a = from q
       where
-        from : (q : Result (List Value) Fault) → (answered to q a).target ≡ a.target
+        from : (q : Result (List Value) Fault) → (frame_with_answer to q a).target ≡ a.target
         from (Ok vs) = refl
         from (Err f) = refl
 
-    changed-below : (target : Option Name) (below : List Frame) → AreSound plan (p ∷ ps) target below → AreSound plan ps target (changed_at owner (answered to q) below)
+    changed-below : (target : Option Name) (below : List Frame) → AreSound plan (p ∷ ps) target below → AreSound plan ps target (changed_at owner (frame_with_answer to q) below)
     changed-below target [] s = tt
     changed-below target (caller ∷ below) s = by_place (nat_eq owner (length below)) refl (changed-below caller.target below s.2)
       where
         height : ℕ
-        height = length (changed_at owner (answered to q) below)
+        height = length (changed_at owner (frame_with_answer to q) below)
 
         same : length below ≡ height
-        same = sym (length-changed owner (answered to q) below)
+        same = sym (length-changed owner (frame_with_answer to q) below)
 
         apart : IsApart (target_names target) (unfilled (length below) ps)
         apart name c d = s.0 name c (fewer (length below) p ps name d)
 
-        by_place : (b : Bool) → nat_eq owner (length below) ≡ b → AreSound plan ps caller.target (changed_at owner (answered to q) below) →
-            AreSound plan ps target (if b then answered to q caller ∷ below else caller ∷ changed_at owner (answered to q) below)
+        by_place : (b : Bool) → nat_eq owner (length below) ≡ b → AreSound plan ps caller.target (changed_at owner (frame_with_answer to q) below) →
+            AreSound plan ps target (if b then frame_with_answer to q caller ∷ below else caller ∷ changed_at owner (frame_with_answer to q) below)
         by_place true e later =
             (apart, answered-sound (length below) caller to q (by-owner (length below) e) s.1, subst (λ (x : Option Name). AreSound plan ps x below) (sym (same-target caller)) (less-below caller.target below s.2))
         by_place false e later =
             (subst (λ n. IsApart (target_names target) (unfilled n ps)) same apart, subst (λ n. IsSound plan ps n caller) same (less-sound (length below) caller s.1), later)
 
     -- the innermost frame and the others
-    changed-machine : (T : ℕ → Frame → Type 0) → ((height : ℕ) (a : Frame) → nat_eq owner height ≡ true → T height a → T height (answered to q a)) →
+    changed-machine : (T : ℕ → Frame → Type 0) → ((height : ℕ) (a : Frame) → nat_eq owner height ≡ true → T height a → T height (frame_with_answer to q a)) →
         (m : Machine) → T (length m.below) m.top → AreSound plan (p ∷ ps) m.top.target m.below →
-        let k = changed owner (answered to q) m in T (length k.below) k.top × AreSound plan ps k.top.target k.below
+        let k = changed owner (frame_with_answer to q) m in T (length k.below) k.top × AreSound plan ps k.top.target k.below
     changed-machine T keeps m t s = by_place (nat_eq owner (length m.below)) refl
       where
         by_place : (b : Bool) → nat_eq owner (length m.below) ≡ b →
-            let k = if b then record m { top = answered to q m.top } else record m { below = changed_at owner (answered to q) m.below } in T (length k.below) k.top × AreSound plan ps k.top.target k.below
+            let k = if b then record m { top = frame_with_answer to q m.top } else record m { below = changed_at owner (frame_with_answer to q) m.below } in T (length k.below) k.top × AreSound plan ps k.top.target k.below
         by_place true e = (keeps (length m.below) m.top e t, subst (λ (x : Option Name). AreSound plan ps x m.below) (sym (same-target m.top)) (less-below m.top.target m.below s))
-        by_place false e = (subst (λ n. T n m.top) (sym (length-changed owner (answered to q) m.below)) t, changed-below m.top.target m.below s)
+        by_place false e = (subst (λ n. T n m.top) (sym (length-changed owner (frame_with_answer to q) m.below)) t, changed-below m.top.target m.below s)
 
 -- Stages that take answers: what holds of them, or they have ended by a fault.
 
@@ -190,37 +190,37 @@ places-owner : (height : ℕ) (ps : List AwaitedChild) (n : ℕ) → height ≡ 
 places-owner height ps n e h = subst (λ k. AreDestinations k ps) e h
 
 module _ (plan : PlanView) (p : AwaitedChild) (ps : List AwaitedChild) (q : Result (List Value) Fault) where
-  same-height : (owner : ℕ) (to : Option Name) (m : Machine) → length m.below ≡ length (changed owner (answered to q) m).below
+  same-height : (owner : ℕ) (to : Option Name) (m : Machine) → length m.below ≡ length (changed owner (frame_with_answer to q) m).below
   same-height owner to m = from (nat_eq owner (length m.below))
     where
-      from : (b : Bool) → length m.below ≡ length (if b then record m { top = answered to q m.top } else record m { below = changed_at owner (answered to q) m.below }).below
+      from : (b : Bool) → length m.below ≡ length (if b then record m { top = frame_with_answer to q m.top } else record m { below = changed_at owner (frame_with_answer to q) m.below }).below
       from true = refl
-      from false = sym (length-changed owner (answered to q) m.below)
+      from false = sym (length-changed owner (frame_with_answer to q) m.below)
 
-  sync-kept : (height : ℕ) (a : Frame) (to : Option Name) → IsSound plan [] height (after_sync a) → IsSound plan [] height (after_sync (answered to q a))
+  sync-kept : (height : ℕ) (a : Frame) (to : Option Name) → IsSound plan [] height (after_sync a) → IsSound plan [] height (after_sync (frame_with_answer to q a))
   sync-kept height a to s = from q
     where
-      from : (q : Result (List Value) Fault) → IsSound plan [] height (after_sync (answered to q a))
+      from : (q : Result (List Value) Fault) → IsSound plan [] height (after_sync (frame_with_answer to q a))
       from (Ok vs) = record { clear = s.clear; spawned = s.spawned; faulted = s.faulted; in_text = s.in_text; left_in_text = s.left_in_text; levels = s.levels; leaving = s.leaving; returning = s.returning }
       from (Err f) = record { clear = s.clear; spawned = s.spawned; faulted = s.faulted; in_text = s.in_text; left_in_text = s.left_in_text; levels = s.levels; leaving = s.leaving; returning = s.returning }
 
   top-changed : (owner : ℕ) (to : Option Name) → p.place ≡ Spawned owner to → (m : Machine) → IsSound plan (p ∷ ps) (length m.below) m.top → AreSound plan (p ∷ ps) m.top.target m.below →
-      let k = changed owner (answered to q) m in IsSound plan ps (length k.below) k.top × AreSound plan ps k.top.target k.below
+      let k = changed owner (frame_with_answer to q) m in IsSound plan ps (length k.below) k.top × AreSound plan ps k.top.target k.below
   top-changed owner to e m s b = by_place (nat_eq owner (length m.below)) refl
     where
       by_place : (t : Bool) → nat_eq owner (length m.below) ≡ t →
-          let k = if t then record m { top = answered to q m.top } else record m { below = changed_at owner (answered to q) m.below } in IsSound plan ps (length k.below) k.top × AreSound plan ps k.top.target k.below
+          let k = if t then record m { top = frame_with_answer to q m.top } else record m { below = changed_at owner (frame_with_answer to q) m.below } in IsSound plan ps (length k.below) k.top × AreSound plan ps k.top.target k.below
       by_place true h =
           (answered-sound plan p ps (length m.below) m.top to q (ap (is_by (length m.below)) e ∙ h) s, subst (λ (x : Option Name). AreSound plan ps x m.below) (sym (same-target plan p ps owner to q e m.top)) (less-below plan p ps m.top.target m.below b))
       by_place false h =
-          (subst (λ n. IsSound plan ps n m.top) (sym (length-changed owner (answered to q) m.below)) (less-sound plan p ps (length m.below) m.top s), changed-below plan p ps owner to q e m.top.target m.below b)
+          (subst (λ n. IsSound plan ps n m.top) (sym (length-changed owner (frame_with_answer to q) m.below)) (less-sound plan p ps (length m.below) m.top s), changed-below plan p ps owner to q e m.top.target m.below b)
 
   takes-spawned : (owner : ℕ) (to : Option Name) → p.place ≡ Spawned owner to → (stage : InstanceState) → IsSoundStage plan (p ∷ ps) stage → Taking plan ps (takes (Spawned owner to) q stage)
   takes-spawned owner to e (Running m) s =
-      let k = top-changed owner to e m s.1 s.2 in inl (places-owner (length m.below) ps (length (changed owner (answered to q) m).below) (same-height owner to m) s.0.1, k.0, k.1)
+      let k = top-changed owner to e m s.1 s.2 in inl (places-owner (length m.below) ps (length (changed owner (frame_with_answer to q) m).below) (same-height owner to m) s.0.1, k.0, k.1)
   takes-spawned owner to e (AtSync m) s =
       let k = changed-machine plan p ps owner to q e (λ height a. IsSound plan [] height (after_sync a)) (λ height a h t. sync-kept height a to t) m s.1 s.2 in
-      inl (places-owner (length m.below) ps (length (changed owner (answered to q) m).below) (same-height owner to m) s.0.1, k.0, k.1)
+      inl (places-owner (length m.below) ps (length (changed owner (frame_with_answer to q) m).below) (same-height owner to m) s.0.1, k.0, k.1)
   takes-spawned owner to e (AtLoop m) s =
       let k = top-changed owner to e m s.0 s.1 in inl (k.0, k.1)
   takes-spawned owner to e (Ended (Ok v)) s = inl s.1
@@ -305,7 +305,7 @@ module _ (t : Task) (is : IsTask t) where
 
   work-same : (work : Work) (vs : List Value) → work_run t.plan t.origin ps work vs ≡ work_run t.plan t.origin [] (resumed_work ps answers work) vs
   work-same (Splits left) vs = refl
-  work-same (Runs stage) vs = ap (λ (r : Run Item NodeFault Value). closed kids r then λ v. done (all_with t.origin vs v)) (rest-same stage)
+  work-same (Runs stage) vs = ap (λ (r : Run Item NodeFault Value). closed_run kids r then λ v. done (all_with t.origin vs v)) (rest-same stage)
   work-same (Over v gone_on) vs = refl
 
   work-sound : (work : Work) → IsSoundWork t.plan t.origin ps work → IsSoundWork t.plan t.origin [] (resumed_work ps answers work)

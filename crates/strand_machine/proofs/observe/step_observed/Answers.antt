@@ -1,13 +1,13 @@
 use Rattle.std.proofs.Common.{◌≡◌, sym, ap, ◌∙◌, subst}
 use Rattle.strand_meaning.specs.Observation.{step_observation}
 use Rattle.strand_machine.specs.Made.{made}
-use Rattle.strand_machine.specs.Noted.{with_step}
+use Rattle.strand_machine.specs.Observed.{with_step}
 use Rattle.strand_machine.specs.Stops.{IsStep}
 use Rattle.strand_machine.specs.Tasks.{IsSound, TaskView, view_of}
 use Rattle.strand_machine.specs.declared.parts.Parts.{Parts}
 use Rattle.strand_machine.specs.declared.stop.MoveOrStop.{MoveOrStop}
 use Rattle.strand_machine.proofs.NextStops.Advancing.{is-sound}
-use Rattle.strand_machine.proofs.note.step_observed.Goals as goal
+use Rattle.strand_machine.proofs.observe.step_observed.Goals as goal
 
 pub pass_observed-requires : goal.pass_observed-requires
 pass_observed-requires c =

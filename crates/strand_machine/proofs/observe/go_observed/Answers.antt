@@ -1,5 +1,5 @@
 use Rattle.strand_machine.proofs.Moves.Moving.{went-sound, gave-sound, faulted-sound}
-use Rattle.strand_machine.proofs.note.go_observed.Goals as goal
+use Rattle.strand_machine.proofs.observe.go_observed.Goals as goal
 
 pub show-requires : goal.show-requires
 show-requires c =

@@ -11,10 +11,10 @@ use Rattle.script_grammar.specs.declared.tree.Act.{Act, out-Act}
 use Rattle.script_grammar.specs.declared.tree.Act.TheOpen as act
 use Rattle.script_grammar.specs.declared.tree.Act.TheOpen.{Act-F}
 use Rattle.serial_meaning.specs.Runs.{Run, done, goes_on, ◌then◌}
-use Rattle.serial_meaning.specs.Values.{value_of, values_of, slot_of, items_of, number, is_true, at_index}
+use Rattle.serial_meaning.specs.Values.{value_of, values_of, slot_of, items_of, as_integer, is_true, at_index}
 use Rattle.serial_meaning.specs.Functions.{number_of, function_at}
 use Rattle.serial_meaning.specs.Plan.{PlanView, functions_of}
-use Rattle.serial_meaning.specs.Exec.{State, Manner, strand, given, paid_from, tested, has_room, fits_depth, spawn, join, implied, frame, called, right_side, found, looped, does, count_of}
+use Rattle.serial_meaning.specs.Exec.{State, Manner, strand, unless_fault, paid_from, tested, has_room, fits_depth, spawn, join, implied, frame, called, right_side, found, looped, does, count_of}
 use Rattle.serial_meaning.specs.Laws.{places}
 use Rattle.serial_meaning.specs.Eval.{path_of}
 use Rattle.serial_meaning.specs.Open.{is_empty_loop}
@@ -26,7 +26,8 @@ use Rattle.serial_meaning.specs.declared.event.Event.{Event}
 use Rattle.serial_meaning.specs.declared.event.Event.TheVariants as event
 use Rattle.serial_meaning.specs.declared.origin.Origin.{Origin}
 use Rattle.serial_meaning.specs.declared.origin.Origin.TheVariants as origin
-use Rattle.strand_meaning.specs.Machine.{Destination, Spawned, Looped, Effect, Opens, Closes, Emitted, Handed, Exit, loop_effects, sync_effects, handing, inside, destination_of, Level, Frame, Machine, inside_of, present, here_of, state_of, spawns_in, value_run, return_move, level_move, end_move, move_at, move}
+use Rattle.script_check.specs.Spawns.{spawns_in}
+use Rattle.strand_meaning.specs.Machine.{Destination, Spawned, Looped, Effect, Opens, Closes, Emitted, Handed, Exit, loop_effects, sync_effects, handing, inside, destination_of, Level, Frame, Machine, inside_of, present, here_of, state_of, value_run, return_move, level_move, end_move, move_at, move}
 use Rattle.strand_meaning.specs.Sound.{IsUndivided}
 use Rattle.strand_meaning.proofs.SoundSteps.Finishing.{NotHalf}
 
@@ -88,7 +89,7 @@ module _ (P : List Effect → Type 0) (plan : PlanView) (whole : List ℕ) (rule
       from (Ok a) = rules.more r.items (f a).items h (k a)
       from (Err e) = h
 
-  owns-given : {A B : Type 0} (place : Destination) (o : Result A FaultKind) (s : State Bool) (f : A → Run Effect Exit B) → ((a : A) → Owns (f a)) → Owns (given (what place) plan path o s f)
+  owns-given : {A B : Type 0} (place : Destination) (o : Result A FaultKind) (s : State Bool) (f : A → Run Effect Exit B) → ((a : A) → Owns (f a)) → Owns (unless_fault (what place) plan path o s f)
   owns-given place (Ok a) s f h = h a
   owns-given place (Err k) s f h = rules.none
 
@@ -142,7 +143,7 @@ module _ (P : List Effect → Type 0) (plan : PlanView) (whole : List ℕ) (rule
   owns-does height st (act.Array x n) s = rules.none
   owns-does height st (act.Set x r) s = owns-then (right_side (what (Spawned height (Some x))) plan path inside height r s) _ (owns-right height (Some x) height r s) (λ p. rules.none)
   owns-does height st (act.Store x i e) s =
-      owns-given (Spawned height None) (value_of i s.env) s _ (λ k. by_item (at_index (items_of (slot_of s.env x.bytes)) (number k)) _ (owns-given (Spawned height None) (value_of e s.env) s _ (λ v. rules.none)))
+      owns-given (Spawned height None) (value_of i s.env) s _ (λ k. by_item (at_index (items_of (slot_of s.env x.bytes)) (as_integer k)) _ (owns-given (Spawned height None) (value_of e s.env) s _ (λ v. rules.none)))
     where
       by_item : (o : Option ℤ) (r : Run Effect Exit (State Bool)) → Owns r → Owns (found (what (Spawned height None)) plan path o s r)
       by_item None r h = rules.none
@@ -159,7 +160,7 @@ module _ (P : List Effect → Type 0) (plan : PlanView) (whole : List ℕ) (rule
       by_test false = rules.none
   owns-does height st (act.Pfor x lo hi target c) s =
       owns-given (Looped target) (value_of lo s.env) s _ (λ l. owns-given (Looped target) (value_of hi s.env) s _ (λ h. owns-given (Looped target) (values_of c.args s.env) s _
-      (λ vs. owns-loop target c (number l) (count_of (number h -ℤ number l)) vs s)))
+      (λ vs. owns-loop target c (as_integer l) (count_of (as_integer h -ℤ as_integer l)) vs s)))
   owns-does height st (act.Scope a) s =
       owns-tested (Spawned height None) (nat_lt (length path + 1) plan.limits.depth) Depth s _ (rules.opened (strand path s))
 

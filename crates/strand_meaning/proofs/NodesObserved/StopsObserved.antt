@@ -18,16 +18,16 @@ use Rattle.strand_meaning.specs.Rest.{children_of, rest_of_stage, rest_open}
 use Rattle.strand_meaning.specs.Laws.{IsSoundStep, IsOf}
 use Rattle.strand_meaning.specs.Sound.{AreDestinations, AreHalves, IsSoundStage, IsTask}
 use Rattle.strand_meaning.specs.Strands.{joined_fault}
-use Rattle.strand_meaning.specs.Observation.{IsInstance, work_left, Observation, no_observation, newest, also, effect_items, move_fault, stage_observation, step_observation, Shows, Now as ShownNow, Later as ShownLater, own_fault_of, stage_fault, IsOnWay, IsAllNoted, OnWay}
-use Rattle.strand_meaning.proofs.UnfilledPending.Alike.{alike-effects, alike-takes}
+use Rattle.strand_meaning.specs.Observation.{IsInstance, work_left, Observation, no_observation, newest, also, effect_items, move_fault, stage_observation, step_observation, Shows, Now as ShownNow, Later as ShownLater, own_fault_of, stage_fault, IsOnWay, IsAllObserved, OnWay}
+use Rattle.strand_meaning.proofs.UnfilledPending.AlikeButEvents.{alike-effects, alike-takes}
 use Rattle.strand_meaning.proofs.SoundSteps.Closing.{after-then}
 use Rattle.strand_meaning.proofs.SoundSteps.Ends.{steps_are_sound}
-use Rattle.strand_meaning.proofs.Unfilled.Shown.{effect_parts}
+use Rattle.strand_meaning.proofs.Unfilled.RestAfterEffects.{effect_parts}
 use Rattle.strand_meaning.proofs.Unfilled.SoundMoves.{sound-free, SoundEnd, sound-move}
 use Rattle.strand_meaning.proofs.SoundSteps.Steps.{ended-rest, halves-places}
 use Rattle.strand_meaning.proofs.SoundSteps.Starts.{begun-whole, halves-rest}
 use Rattle.strand_meaning.proofs.NextStops.Stops.{KeepsStep, step-keeps}
-use Rattle.strand_meaning.proofs.Unfilled.Taken.{shown_with, open-move, none-known}
+use Rattle.strand_meaning.proofs.Unfilled.MovesBeforeAnswers.{shown_with, open-move, none-known}
 
 -- Notes one after another
 
@@ -139,10 +139,10 @@ module _ (plan : PlanView) (o : Origin) (ps : List AwaitedChild) (height : ℕ) 
       by_end (Err x) = refl
 
   -- an end shows no more than the fault of a child
-  whole-ended : (observation : Observation) (e : Result Value NodeFault) → Way plan o ps (Ended e) observation → IsAllNoted plan o (also observation (stage_observation plan (path_of o) (Ended e)))
+  whole-ended : (observation : Observation) (e : Result Value NodeFault) → Way plan o ps (Ended e) observation → IsAllObserved plan o (also observation (stage_observation plan (path_of o) (Ended e)))
   whole-ended observation e w = by_end e (w.node ∙ ap (after_items observation.items) (ended-node e)) w.fault
     where
-      by_end : (e : Result Value NodeFault) → opened plan o ≡ record { items = observation.items ++ []; ending = all_ended e } → observation.fault ≡ own_fault_of e → IsAllNoted plan o (also observation (stage_observation plan (path_of o) (Ended e)))
+      by_end : (e : Result Value NodeFault) → opened plan o ≡ record { items = observation.items ++ []; ending = all_ended e } → observation.fault ≡ own_fault_of e → IsAllObserved plan o (also observation (stage_observation plan (path_of o) (Ended e)))
       by_end (Ok v) same fault = record {
         items = ap (λ (n : Node). n.items) same;
         fault = ap (λ (n : Node). own_fault_of n.ending) same ∙ sym fault;
@@ -166,7 +166,7 @@ abbrev OnStep : Observation → Task → MoveOrStop → Type 0
 OnStep observation t (Passes next) = IsOnWay observation next
 OnStep observation t (Stops stop) = OnWay observation t stop
 
-ends-whole : (observation : Observation) (t : Task) → IsAllNoted t.plan t.origin observation → (f : Option Fault) (ended : Outcome) → OnStep observation t (ends_unless f t ended)
+ends-whole : (observation : Observation) (t : Task) → IsAllObserved t.plan t.origin observation → (f : Option Fault) (ended : Outcome) → OnStep observation t (ends_unless f t ended)
 ends-whole observation t h None ended = h
 ends-whole observation t h (Some f) ended = h
 
@@ -226,7 +226,7 @@ module _ (t : Task) (function : ℕ) (args : List Value) (at : List ℕ) where
   waits-on : (stage : InstanceState) (observation : Observation) → IsOnWay observation (with_stage stage) → IsOnWay (also observation no_observation) (record t { origin = own; work = Runs stage; waiting = true; advanced = true })
   waits-on stage observation h = on-way t.trace true stage (also observation no_observation) (subst (Going stage) (sym (also-nothing observation)) (way-of stage observation h))
 
-  ends-so : (e : Result Value NodeFault) (height : ℕ) → AreDestinations height t.trace.handed → (observation : Observation) → IsOnWay observation (with_stage (Ended e)) → IsAllNoted t.plan own (also observation (stage_observation t.plan at (Ended e)))
+  ends-so : (e : Result Value NodeFault) (height : ℕ) → AreDestinations height t.trace.handed → (observation : Observation) → IsOnWay observation (with_stage (Ended e)) → IsAllObserved t.plan own (also observation (stage_observation t.plan at (Ended e)))
   ends-so e height places observation h = whole-ended t.plan own t.trace.handed height places observation e (way-of (Ended e) observation h)
 
   stage-on : (stage : InstanceState) → IsTask (with_stage stage) → (observation : Observation) → IsOnWay observation (with_stage stage) → OnStep (also observation (step_observation (with_stage stage))) (with_stage stage) (step (with_stage stage))
@@ -261,7 +261,7 @@ on-further : (observation : Observation) (t next : Task) (stop : Stop) → IsOf 
 on-further observation t next (Spawn child rest) of h = h
 on-further observation t next (Wait rest) of h = h
 on-further observation t next (End out ended) of h =
-    subst (λ (p : PlanView). IsAllNoted p t.origin observation) of.0 (subst (λ (o : Origin). IsAllNoted next.plan o observation) of.1 h)
+    subst (λ (p : PlanView). IsAllObserved p t.origin observation) of.0 (subst (λ (o : Origin). IsAllObserved next.plan o observation) of.1 h)
 
 pub observation_goes_on : (t : Task) (observation later : Observation) (stop : Stop) → IsTask t → IsInstance t.origin → IsOnWay observation t → Shows t later stop → OnWay (also observation later) t stop
 observation_goes_on t observation later stop is inst h (ShownNow e same) =

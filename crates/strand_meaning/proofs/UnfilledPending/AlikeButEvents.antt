@@ -13,7 +13,7 @@ use Rattle.strand_meaning.specs.Trace.{AwaitedChild, Trace, after_last, emit, em
 use Rattle.strand_meaning.specs.Task.{InstanceState, Running, AtSync, AtLoop, Ended, takes, takes_all}
 use Rattle.strand_meaning.specs.Rest.{evaluations}
 use Rattle.strand_meaning.specs.Sound.{unfilled_by, unfilled, is_by, any_by, AreSound, AreDestinations, AreHalves, IsSoundStage, AreParts}
-use Rattle.strand_meaning.proofs.Unfilled.Shown.{effect_parts}
+use Rattle.strand_meaning.proofs.Unfilled.RestAfterEffects.{effect_parts}
 use Rattle.strand_meaning.proofs.Unfilled.SoundMoves.{sound-as}
 
 pub data Alike : List AwaitedChild → List AwaitedChild → Type 0 where

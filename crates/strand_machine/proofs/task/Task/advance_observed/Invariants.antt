@@ -1,9 +1,9 @@
 use Rattle.strand_meaning.specs.Left.{moves_left}
-use Rattle.strand_machine.proofs.NodesObserved.Noting.{LeadsNoted}
-use Rattle.strand_machine.proofs.task.Task.advance_noted.Given as goal
+use Rattle.strand_machine.proofs.NodesObserved.Observing.{LeadsObserved}
+use Rattle.strand_machine.proofs.task.Task.advance_observed.Given as goal
 
 abbrev pub invariant-loop-observation : goal.invariant-loop-observation
-invariant-loop-observation l = LeadsNoted l.fn.self l.fn.at l.fn.eye l.task l.observation
+invariant-loop-observation l = LeadsObserved l.fn.self l.fn.at l.fn.eye l.task l.observation
 
 abbrev pub decreases-loop-observation : goal.decreases-loop-observation
 decreases-loop-observation l = moves_left l.task.task

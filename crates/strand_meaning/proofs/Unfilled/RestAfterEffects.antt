@@ -1,7 +1,7 @@
 -- What a move shows, as items of the open tree.
 use Rattle.std.proofs.Common.{◌≡◌, ℕ, true, nat_eq, List, [], ◌∷◌, Result, Ok, Err, refl, length}
 use Rattle.std.proofs.lemmas.Bool.{eq-eqb}
-use Rattle.serial_meaning.specs.Runs.{Run, done, stopped}
+use Rattle.serial_meaning.specs.Runs.{Run, done, run_ends_by}
 use Rattle.serial_meaning.specs.Plan.{PlanView}
 use Rattle.serial_meaning.specs.Eval.{Evaluation}
 use Rattle.serial_meaning.specs.Open.{Item, NodeFault, Own}
@@ -33,4 +33,4 @@ changed-top change m = rw (same-number (length m.below)) refl
 abbrev pub shown : PlanView → (Origin → Evaluation) → List ℕ → List Effect → Result Reached Fault → Run Item NodeFault Value
 shown plan child path ts (Ok (Stands m)) = rest_open plan child path (effect_parts ts) (stage_after ts m)
 shown plan child path ts (Ok (Gives v)) = done v
-shown plan child path ts (Err f) = stopped (Own f)
+shown plan child path ts (Err f) = run_ends_by (Own f)

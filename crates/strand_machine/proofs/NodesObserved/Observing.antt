@@ -8,15 +8,15 @@ use Rattle.strand_meaning.specs.Observation.{newest, also, no_observation, step_
 use Rattle.strand_meaning.specs.Sound.{IsTask}
 use Rattle.strand_meaning.specs.Strands.{own_events, events_at}
 use Rattle.strand_meaning.specs.Task.{Stop}
-use Rattle.strand_meaning.proofs.NodesObserved.Noted.{also-assoc}
-use Rattle.strand_meaning.proofs.NodesObserved.NoteWords.{events_at-append}
+use Rattle.strand_meaning.proofs.NodesObserved.StopsObserved.{also-assoc}
+use Rattle.strand_meaning.proofs.NodesObserved.EventsOfPedigree.{events_at-append}
 use Rattle.strand_machine.specs.Eyes.{eye_after}
-use Rattle.strand_machine.specs.Noted.{IsNoted, with_step}
+use Rattle.strand_machine.specs.Observed.{IsObserved, with_step}
 use Rattle.strand_machine.specs.Made.{LeadsTo}
 use Rattle.strand_machine.specs.Stops.{IsStep, stop_of}
 use Rattle.strand_machine.specs.Tasks.{TaskView}
 use Rattle.strand_machine.specs.declared.eye.Eye.{Eye}
-use Rattle.strand_machine.specs.declared.note.Observed.{Observed}
+use Rattle.strand_machine.specs.declared.observe.Observed.{Observed}
 use Rattle.strand_machine.specs.declared.stop.MoveOrStop.{MoveOrStop as MadeStep}
 use Rattle.strand_machine.specs.declared.stop.MoveOrStop.TheVariants as step-in
 use Rattle.strand_machine.specs.declared.stop.Stop.{Stop as MadeStop}
@@ -32,7 +32,7 @@ also-nothing later =
     ap (λ (f : Option Fault). record later { fault = f }) (sym (newest-none later.fault)) ∙ ap (λ (f : Option Fault). record later { fault = newest None later.fault; joined = f }) (sym (newest-none later.joined))
 
 -- What comes next of a task comes next of the first one, after what is noted, of which the notes have what is of the pedigree j.
-pub record LeadsNoted (first : TaskView) (j : List ℕ) (before : Eye) (now : TaskView) (observation : Observed) : Type 0 where
+pub record LeadsObserved (first : TaskView) (j : List ℕ) (before : Eye) (now : TaskView) (observation : Observed) : Type 0 where
   pub leads : LeadsTo first now
   pub front : meaning.Observation
   pub shows : (later : meaning.Observation) (stop : Stop) → Shows now.task later stop → Shows first.task (also front later) stop
@@ -41,7 +41,7 @@ pub record LeadsNoted (first : TaskView) (j : List ℕ) (before : Eye) (now : Ta
   pub fault : observation.fault ≡ front.fault
   pub joined : observation.joined ≡ front.joined
 
-pub noted-start : (t : TaskView) (j : List ℕ) (eye : Eye) (observation : Observed) → t.cut ≡ None → observation ≡ record { eye = eye; events = []; fault = None; joined = None } → LeadsNoted t j eye t observation
+pub noted-start : (t : TaskView) (j : List ℕ) (eye : Eye) (observation : Observed) → t.cut ≡ None → observation ≡ record { eye = eye; events = []; fault = None; joined = None } → LeadsObserved t j eye t observation
 noted-start t j eye observation goes h = record {
   leads = leads-start t goes;
   front = no_observation;
@@ -52,7 +52,7 @@ noted-start t j eye observation goes h = record {
   joined = ap (λ (n : Observed). n.joined) h;
 }
 
-module _ (first : TaskView) (j : List ℕ) (eye : Eye) (now : TaskView) (observation after : Observed) (h : LeadsNoted first j eye now observation) (same : after ≡ with_step j (step_observation now.task) observation) where
+module _ (first : TaskView) (j : List ℕ) (eye : Eye) (now : TaskView) (observation after : Observed) (h : LeadsObserved first j eye now observation) (same : after ≡ with_step j (step_observation now.task) observation) where
   abbrev step-shows : meaning.Observation
   step-shows = step_observation now.task
 
@@ -66,7 +66,7 @@ module _ (first : TaskView) (j : List ℕ) (eye : Eye) (now : TaskView) (observa
       ∙ sym (events_at-append j (own_events h.front.items) (own_events step-shows.items))
       ∙ ap (events_at j) (sym (own-append h.front.items step-shows.items))
 
-  pub noted-on : MovesFall → (next : TaskView) (s : MadeStep) → IsStep now s → s ≡ step-in.Passes next → LeadsNoted first j eye next after
+  pub noted-on : MovesFall → (next : TaskView) (s : MadeStep) → IsStep now s → s ≡ step-in.Passes next → LeadsObserved first j eye next after
   noted-on law next s g e =
       let k : IsStep now (step-in.Passes next) = subst (IsStep now) e g in
       record {
@@ -80,7 +80,7 @@ module _ (first : TaskView) (j : List ℕ) (eye : Eye) (now : TaskView) (observa
       }
 
   pub noted-stop : StopsAreSound → IsTask first.task → (stop : MadeStop) (s : MadeStep) → IsStep now s → s ≡ step-in.Stops stop →
-      IsNoted first j eye (record { stop = stop; eye = after.eye; events = after.events; fault = after.fault; joined = after.joined })
+      IsObserved first j eye (record { stop = stop; eye = after.eye; events = after.events; fault = after.fault; joined = after.joined })
   noted-stop sounds sound stop s g e =
       let k : IsStep now (step-in.Stops stop) = subst (IsStep now) e g in
       record {

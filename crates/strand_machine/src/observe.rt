@@ -1,11 +1,11 @@
-// What a task shows on its way to its next stop, noted for one pedigree.
+// What a task shows on its way to its next stop, observed for one pedigree.
 ghost use Rattle.std.specs.Prelude.{◌≡◌, ◌++◌, ◌∷◌, [], None, IfOk, OnOk};
 ghost use Rattle.serial_meaning.specs.Open.{Happened};
 ghost use Rattle.strand_meaning.specs.Observation.{step_observation};
 ghost use Rattle.strand_meaning.specs.Strands.{events_at};
 ghost use Rattle.strand_machine.specs.Eyes.{eye_after};
 ghost use Rattle.strand_machine.specs.Made.{IsSoundMade, made};
-ghost use Rattle.strand_machine.specs.Noted.{moved_observation, with_step};
+ghost use Rattle.strand_machine.specs.Observed.{moved_observation, with_step};
 ghost use Rattle.strand_machine.specs.Stops.{IsStep};
 ghost use Rattle.strand_machine.specs.Tasks.{IsSound, view_of, task_of};
 ghost use Rattle.strand_machine.specs.declared.work.InstanceState.TheVariants as stage;
@@ -30,7 +30,7 @@ use strand_moves::{Effects, Instance, MoveResult};
 
 /// What a task came to, and what it showed on its way there, for one pedigree.
 #[derive(Drop)]
-pub struct Noted {
+pub struct ObservedStop {
     /// Where the task stopped.
     pub stop: Stop,
     /// What was seen of the pedigree up to there.
@@ -43,7 +43,7 @@ pub struct Noted {
     pub joined: Option<Fault>,
 }
 
-/// What is noted on the way.
+/// What is observed on the way.
 #[derive(Drop)]
 pub(crate) struct Observed {
     pub eye: Eye,
@@ -109,7 +109,7 @@ impl Observed {
     }
 }
 
-/// One move of the instance, which is noted.
+/// One move of the instance, which is observed.
 fn go_observed(
     parts: &mut Parts,
     alloc: Global,
@@ -150,7 +150,7 @@ fn go_observed(
     }
 }
 
-/// A move of the task's instance, or its stop, by where the instance stands, which is noted.
+/// A move of the task's instance, or its stop, by where the instance stands, which is observed.
 fn run_observed(
     parts: &mut Parts,
     alloc: Global,
@@ -173,7 +173,7 @@ fn run_observed(
     }
 }
 
-/// A move of the task in place, or its stop, by what remains, which is noted.
+/// A move of the task in place, or its stop, by what remains, which is observed.
 fn work_observed(
     parts: &mut Parts,
     alloc: Global,
@@ -192,7 +192,7 @@ fn work_observed(
     }
 }
 
-/// A move of the task in place, or its stop, which is noted.
+/// A move of the task in place, or its stop, which is observed.
 fn pass_observed(
     parts: &mut Parts,
     alloc: Global,
@@ -208,7 +208,7 @@ fn pass_observed(
     work_observed(parts, alloc, at, work, observation)
 }
 
-/// A move of the task, or its stop, which is noted.
+/// A move of the task, or its stop, which is observed.
 fn step_observed(
     task: Task,
     alloc: Global,
@@ -226,14 +226,19 @@ fn step_observed(
 
 impl Task {
     ghost use Rattle.strand_meaning.specs.Observation.{IsInstance};
-    ghost use Rattle.strand_machine.specs.Noted.{IsNoted};
+    ghost use Rattle.strand_machine.specs.Observed.{IsObserved};
 
-    /// Runs to the next stop as `advance` does, and notes what the task itself does on its way in the strand of this pedigree. The eye
+    /// Runs to the next stop as `advance` does, and observes what the task itself does on its way in the strand of this pedigree. The eye
     /// has what was seen of it before. On `Memory` the task is dropped.
-    pub fn advance_noted(self, alloc: Global, at: &Pedigree, eye: Eye) -> Result<Noted, Memory>
+    pub fn advance_observed(
+        self,
+        alloc: Global,
+        at: &Pedigree,
+        eye: Eye,
+    ) -> Result<ObservedStop, Memory>
         requires instance { IsInstance self.task.origin }
         requires goes_on { self.cut ≡ None }
-        ensures { IfOk result (IsNoted self at.now eye) }
+        ensures { IfOk result (IsObserved self at.now eye) }
     {
         laws::moves_fall();
         laws::stops_are_sound();
@@ -251,7 +256,7 @@ impl Task {
                         fault,
                         joined,
                     } = observation;
-                    return Ok(Noted {
+                    return Ok(ObservedStop {
                         stop,
                         eye,
                         events,

@@ -14,10 +14,10 @@ use Rattle.script_grammar.specs.declared.tree.Act.TheOpen as act
 use Rattle.script_grammar.specs.declared.tree.Act.TheOpen.{Act-F}
 use Rattle.serial_meaning.specs.Runs.{Run, done, happens, ◌then◌}
 use Rattle.serial_meaning.specs.Names.{names_in}
-use Rattle.serial_meaning.specs.Values.{Env, value_of, values_of, slot_of, items_of, number, is_true, at_index}
+use Rattle.serial_meaning.specs.Values.{Env, value_of, values_of, slot_of, items_of, as_integer, is_true, at_index}
 use Rattle.serial_meaning.specs.Functions.{number_of, function_at}
 use Rattle.serial_meaning.specs.Plan.{PlanView, functions_of, drawn}
-use Rattle.serial_meaning.specs.Exec.{State, Manner, strand, given, paid_from, tested, has_room, fits_depth, filled, spawn, join, implied, frame, called, right_side, found, store, looped, does, count_of, with_slot, set_item, set_array, bound}
+use Rattle.serial_meaning.specs.Exec.{State, Manner, strand, unless_fault, paid_from, tested, has_room, fits_depth, filled, spawn, join, implied, frame, called, right_side, found, store, looped, does, count_of, with_slot, set_item, set_array, bound}
 use Rattle.serial_meaning.specs.Open.{is_empty_loop, filler}
 use Rattle.serial_meaning.specs.declared.value.Value.{Value}
 use Rattle.serial_meaning.specs.declared.value.Value.TheVariants.{Int}
@@ -29,11 +29,12 @@ use Rattle.serial_meaning.specs.declared.event.Event.TheVariants as event
 use Rattle.serial_meaning.specs.declared.origin.Origin.{Origin}
 use Rattle.serial_meaning.specs.declared.origin.Origin.TheVariants as origin
 use Rattle.strand_meaning.specs.Clear.{names_in_all, names_in_right, target_names, touched}
-use Rattle.strand_meaning.specs.Machine.{Destination, Spawned, Looped, Effect, Opens, Closes, Emitted, Handed, Exit, Faulted, Inside, loop_effects, sync_effects, handing, inside, destination_of, Level, Frame, Machine, Reached, Stands, state_of, inside_of, present, here_of, with_left, into_level, with_leaving, out_of_level, with_returning, with_scalar, back, spawns_in, calling, entered, reached, gives, value_run, statement_move, return_move, level_move, end_move, move_at, move}
+use Rattle.script_check.specs.Spawns.{spawns_in}
+use Rattle.strand_meaning.specs.Machine.{Destination, Spawned, Looped, Effect, Opens, Closes, Emitted, Handed, Exit, Faulted, Inside, loop_effects, sync_effects, handing, inside, destination_of, Level, Frame, Machine, Reached, Stands, state_of, inside_of, present, here_of, with_left, into_level, with_leaving, out_of_level, with_returning, with_scalar, back, calling, machine_inside, reached, gives, value_run, statement_move, return_move, level_move, end_move, move_at, move}
 use Rattle.strand_meaning.specs.Task.{changed, changed_at}
 use Rattle.strand_meaning.specs.Laws.{on_reached, changed_run}
-use Rattle.strand_meaning.proofs.Unfilled.Shown.{changed-top, same-number}
-use Rattle.strand_meaning.proofs.Unfilled.Keeps.{Keep, Keeps, each-left, each-right, value-kept, values-kept, scalar-kept, room-kept, filled-kept}
+use Rattle.strand_meaning.proofs.Unfilled.RestAfterEffects.{changed-top, same-number}
+use Rattle.strand_meaning.proofs.Unfilled.UntouchedStays.{Keep, Keeps, each-left, each-right, value-kept, values-kept, scalar-kept, room-kept, filled-kept}
 
 pub other-number : (n k : ℕ) → n < k → nat_eq n k ≡ false
 other-number n k h = from (nat_eq n k) refl
@@ -102,10 +103,10 @@ module _ (plan : PlanView) (path : List ℕ) (fix : Env → Env) (mark : Option 
       so-done s = ends-so [] (fixed s) s refl
 
       so-given : {A : Type 0} (place : Destination) (o' o : Result A FaultKind) (n : ℕ) (f g : A → Run Effect Exit (State Bool)) → o' ≡ o → ((a : A) → Same (f a) (g a)) →
-          Same (given (what place) plan now o' (there n) f) (given (what place) plan now o (here n) g)
-      so-given {A} place o' o n f g e h = ap (λ (q : Result A FaultKind). finished (with_left other left) into' (given (what place) plan now q (there n) f)) e ∙ by_value o
+          Same (unless_fault (what place) plan now o' (there n) f) (unless_fault (what place) plan now o (here n) g)
+      so-given {A} place o' o n f g e h = ap (λ (q : Result A FaultKind). finished (with_left other left) into' (unless_fault (what place) plan now q (there n) f)) e ∙ by_value o
         where
-          by_value : (o : Result A FaultKind) → Same (given (what place) plan now o (there n) f) (given (what place) plan now o (here n) g)
+          by_value : (o : Result A FaultKind) → Same (unless_fault (what place) plan now o (there n) f) (unless_fault (what place) plan now o (here n) g)
           by_value (Ok a) = h a
           by_value (Err k) = refl
 
@@ -146,7 +147,7 @@ module _ (plan : PlanView) (path : List ℕ) (fix : Env → Env) (mark : Option 
       so-spawn : (place : Destination) (target : Option Name) (c : CallText) (n : ℕ) → Keeps fix (names_in_all c.args) → Keeps fix (target_names target) →
           Same (spawn (what place) plan now c (there n) then λ p. done (sets target p)) (spawn (what place) plan now c (here n) then λ p. done (sets target p))
       so-spawn place target c n a k =
-          ap (λ (o : Result (List Value) FaultKind). finished (with_left other left) into' (given (what place) plan now o (there n) (λ vs. tested (what place) plan now (nat_lt (length now + 1) plan.limits.depth) Depth (there n) (child_run place c vs (there n))) then λ p. done (sets target p))) (values-kept fix c.args m.top.env a)
+          ap (λ (o : Result (List Value) FaultKind). finished (with_left other left) into' (unless_fault (what place) plan now o (there n) (λ vs. tested (what place) plan now (nat_lt (length now + 1) plan.limits.depth) Depth (there n) (child_run place c vs (there n))) then λ p. done (sets target p))) (values-kept fix c.args m.top.env a)
           ∙ by_args (values_of c.args m.top.env)
         where
           by_test : (vs : List Value) (b : Bool) → Same (tested (what place) plan now b Depth (there n) (child_run place c vs (there n)) then λ p. done (sets target p)) (tested (what place) plan now b Depth (here n) (child_run place c vs (here n)) then λ p. done (sets target p))
@@ -156,8 +157,8 @@ module _ (plan : PlanView) (path : List ℕ) (fix : Env → Env) (mark : Option 
           by_test vs false = refl
 
           by_args : (o : Result (List Value) FaultKind) →
-              Same (given (what place) plan now o (there n) (λ vs. tested (what place) plan now (nat_lt (length now + 1) plan.limits.depth) Depth (there n) (child_run place c vs (there n))) then λ p. done (sets target p))
-              (given (what place) plan now o (here n) (λ vs. tested (what place) plan now (nat_lt (length now + 1) plan.limits.depth) Depth (here n) (child_run place c vs (here n))) then λ p. done (sets target p))
+              Same (unless_fault (what place) plan now o (there n) (λ vs. tested (what place) plan now (nat_lt (length now + 1) plan.limits.depth) Depth (there n) (child_run place c vs (there n))) then λ p. done (sets target p))
+              (unless_fault (what place) plan now o (here n) (λ vs. tested (what place) plan now (nat_lt (length now + 1) plan.limits.depth) Depth (here n) (child_run place c vs (here n))) then λ p. done (sets target p))
           by_args (Ok vs) = by_test vs (nat_lt (length now + 1) plan.limits.depth)
           by_args (Err e) = refl
 
@@ -166,7 +167,7 @@ module _ (plan : PlanView) (path : List ℕ) (fix : Env → Env) (mark : Option 
           Keeps fix (names_in_all c.args) → Keeps fix (target_names target) →
           Same (called (what place) plan now inside height c (there n) then λ p. done (sets target p)) (called (what place) plan now inside height c (here n) then λ p. done (sets target p))
       so-call place target c n enters a k =
-          ap (λ (o : Result (List Value) FaultKind). finished (with_left other left) into' (given (what place) plan now o (there n) (λ vs. tested (what place) plan now (nat_lt height 256) Calls (there n) (call_run there vs)) then λ p. done (sets target p))) (values-kept fix c.args m.top.env a)
+          ap (λ (o : Result (List Value) FaultKind). finished (with_left other left) into' (unless_fault (what place) plan now o (there n) (λ vs. tested (what place) plan now (nat_lt height 256) Calls (there n) (call_run there vs)) then λ p. done (sets target p))) (values-kept fix c.args m.top.env a)
           ∙ by_args (values_of c.args m.top.env)
         where
           callee : Option Function
@@ -186,8 +187,8 @@ module _ (plan : PlanView) (path : List ℕ) (fix : Env → Env) (mark : Option 
           by_test vs false = refl
 
           by_args : (o : Result (List Value) FaultKind) →
-              Same (given (what place) plan now o (there n) (λ vs. tested (what place) plan now (nat_lt height 256) Calls (there n) (call_run there vs)) then λ p. done (sets target p))
-              (given (what place) plan now o (here n) (λ vs. tested (what place) plan now (nat_lt height 256) Calls (here n) (call_run here vs)) then λ p. done (sets target p))
+              Same (unless_fault (what place) plan now o (there n) (λ vs. tested (what place) plan now (nat_lt height 256) Calls (there n) (call_run there vs)) then λ p. done (sets target p))
+              (unless_fault (what place) plan now o (here n) (λ vs. tested (what place) plan now (nat_lt height 256) Calls (here n) (call_run here vs)) then λ p. done (sets target p))
           by_args (Ok vs) = by_test vs (nat_lt height 256)
           by_args (Err e) = refl
 
@@ -201,10 +202,10 @@ module _ (plan : PlanView) (path : List ℕ) (fix : Env → Env) (mark : Option 
       so-right : (place : Destination) (x : Name) (r : Right) (n : ℕ) → EntersBy r → Keeps fix (x.bytes ∷ names_in_right r) →
           Same (right_side (what place) plan now inside height r (there n) then λ p. done (sets (Some x) p)) (right_side (what place) plan now inside height r (here n) then λ p. done (sets (Some x) p))
       so-right place x (right.Value e) n enters k =
-          ap (λ (o : Result Value FaultKind). finished (with_left other left) into' (given (what place) plan now o (there n) (λ v. done (v, there n)) then λ p. done (sets (Some x) p))) (value-kept fix e m.top.env k.1)
+          ap (λ (o : Result Value FaultKind). finished (with_left other left) into' (unless_fault (what place) plan now o (there n) (λ v. done (v, there n)) then λ p. done (sets (Some x) p))) (value-kept fix e m.top.env k.1)
           ∙ by_value (value_of e m.top.env)
         where
-          by_value : (o : Result Value FaultKind) → Same (given (what place) plan now o (there n) (λ v. done (v, there n)) then λ p. done (sets (Some x) p)) (given (what place) plan now o (here n) (λ v. done (v, here n)) then λ p. done (sets (Some x) p))
+          by_value : (o : Result Value FaultKind) → Same (unless_fault (what place) plan now o (there n) (λ v. done (v, there n)) then λ p. done (sets (Some x) p)) (unless_fault (what place) plan now o (here n) (λ v. done (v, here n)) then λ p. done (sets (Some x) p))
           by_value (Ok v) = so-set [] (Some x) v (here n) (k.0, tt)
           by_value (Err f) = refl
       so-right place x (right.Draw at) n enters k = so-set (Emitted (event.Draw (now ++ m.rank ∷ []) (drawn plan (now ++ m.rank ∷ []))) ∷ []) (Some x) _ (record (here n) { rank = m.rank + 1 }) (k.0, tt)
@@ -226,11 +227,11 @@ module _ (plan : PlanView) (path : List ℕ) (fix : Env → Env) (mark : Option 
           by_item (Some old) r' r h = h
 
           by_array : (v : Value) (xs ys : List ℤ) → xs ≡ ys →
-              Same (found (what place) plan now (at_index xs (number v)) (there n) (given (what place) plan now (value_of e (fix m.top.env)) (there n) (λ w. done (set_array (there n) x (set_item xs (number v) w)))))
-              (found (what place) plan now (at_index ys (number v)) (here n) (given (what place) plan now (value_of e m.top.env) (here n) (λ w. done (set_array (here n) x (set_item ys (number v) w)))))
+              Same (found (what place) plan now (at_index xs (as_integer v)) (there n) (unless_fault (what place) plan now (value_of e (fix m.top.env)) (there n) (λ w. done (set_array (there n) x (set_item xs (as_integer v) w)))))
+              (found (what place) plan now (at_index ys (as_integer v)) (here n) (unless_fault (what place) plan now (value_of e m.top.env) (here n) (λ w. done (set_array (here n) x (set_item ys (as_integer v) w)))))
           by_array v xs ys h =
-              ap (λ (l : List ℤ). finished (with_left other left) into' (found (what place) plan now (at_index l (number v)) (there n) (given (what place) plan now (value_of e (fix m.top.env)) (there n) (λ w. done (set_array (there n) x (set_item l (number v) w)))))) h
-              ∙ by_item (at_index ys (number v)) _ _ (so-given place (value_of e (fix m.top.env)) (value_of e m.top.env) n _ _ (value-kept fix e m.top.env (each-right (Keep fix) (names_in i) (names_in e) k.1)) (λ w. so-array x _ _ n refl k.0))
+              ap (λ (l : List ℤ). finished (with_left other left) into' (found (what place) plan now (at_index l (as_integer v)) (there n) (unless_fault (what place) plan now (value_of e (fix m.top.env)) (there n) (λ w. done (set_array (there n) x (set_item l (as_integer v) w)))))) h
+              ∙ by_item (at_index ys (as_integer v)) _ _ (so-given place (value_of e (fix m.top.env)) (value_of e m.top.env) n _ _ (value-kept fix e m.top.env (each-right (Keep fix) (names_in i) (names_in e) k.1)) (λ w. so-array x _ _ n refl k.0))
 
       so-inside : (place : Destination) (b : Bool) (r' r : Run Effect Exit (State Bool)) (n : ℕ) → Same r' r → Same (if b then r' else done (there n)) (if b then r else done (here n))
       so-inside place true r' r n h = h
@@ -267,14 +268,14 @@ module _ (plan : PlanView) (path : List ℕ) (fix : Env → Env) (mark : Option 
     enters-call : (target : Option Name) (c : CallText) (inner : List Stmt) (s : State Bool) → calling plan target c left other inner s ≡ changed height change (calling plan target c left m inner s)
     enters-call target c inner s = rw (other-number height (suc height) (omega arith), same-number height) refl
 
-    enters-let : (into' into : List Stmt → State Bool → Machine) (x : Name) (r : Right) → into' ≡ entered plan st (act.Let x r) left other → into ≡ entered plan st (act.Let x r) left m → EntersBy into' into r
+    enters-let : (into' into : List Stmt → State Bool → Machine) (x : Name) (r : Right) → into' ≡ machine_inside plan st (act.Let x r) left other → into ≡ machine_inside plan st (act.Let x r) left m → EntersBy into' into r
     enters-let into' into x (right.Value e) h g = tt
     enters-let into' into x (right.Draw at) h g = tt
     enters-let into' into x (right.New at) h g = tt
     enters-let into' into x (right.Call at c) h g = λ inner s. rw (h, g) (enters-call (Some x) c inner s)
     enters-let into' into x (right.Spawn at c) h g = tt
 
-    enters-set : (into' into : List Stmt → State Bool → Machine) (x : Name) (r : Right) → into' ≡ entered plan st (act.Set x r) left other → into ≡ entered plan st (act.Set x r) left m → EntersBy into' into r
+    enters-set : (into' into : List Stmt → State Bool → Machine) (x : Name) (r : Right) → into' ≡ machine_inside plan st (act.Set x r) left other → into ≡ machine_inside plan st (act.Set x r) left m → EntersBy into' into r
     enters-set into' into x (right.Value e) h g = tt
     enters-set into' into x (right.Draw at) h g = tt
     enters-set into' into x (right.New at) h g = tt
@@ -282,35 +283,35 @@ module _ (plan : PlanView) (path : List ℕ) (fix : Env → Env) (mark : Option 
     enters-set into' into x (right.Spawn at c) h g = tt
 
     so-does : (a : Act-F Act Stmt) (n : ℕ) → Keeps fix (touched a) →
-        Alike (with_left other left) (with_left m left) (entered plan st a left other) (entered plan st a left m) (does (what (destination_of height a)) plan now inside height st a (there n)) (does (what (destination_of height a)) plan now inside height st a (here n))
-    so-does (act.Let x r) n k = so-right (entered plan st (act.Let x r) left other) (entered plan st (act.Let x r) left m) (Spawned height (Some x)) x r n (enters-let _ _ x r refl refl) k
-    so-does (act.Array x number) n k = so-array (entered plan st (act.Array x number) left other) (entered plan st (act.Array x number) left m) x _ _ n refl k.0
-    so-does (act.Set x r) n k = so-right (entered plan st (act.Set x r) left other) (entered plan st (act.Set x r) left m) (Spawned height (Some x)) x r n (enters-set _ _ x r refl refl) k
-    so-does (act.Store x i e) n k = so-store (entered plan st (act.Store x i e) left other) (entered plan st (act.Store x i e) left m) (Spawned height None) x i e n k
-    so-does (act.Spawn c) n k = so-spawn (entered plan st (act.Spawn c) left other) (entered plan st (act.Spawn c) left m) (Spawned height None) None c n k tt
-    so-does (act.Call c) n k = so-call (entered plan st (act.Call c) left other) (entered plan st (act.Call c) left m) (Spawned height None) None c n (λ inner s. enters-call None c inner s) k tt
-    so-does act.Sync n k = so-sync (entered plan st act.Sync left other) (entered plan st act.Sync left m) (Spawned height None) n
+        Alike (with_left other left) (with_left m left) (machine_inside plan st a left other) (machine_inside plan st a left m) (does (what (destination_of height a)) plan now inside height st a (there n)) (does (what (destination_of height a)) plan now inside height st a (here n))
+    so-does (act.Let x r) n k = so-right (machine_inside plan st (act.Let x r) left other) (machine_inside plan st (act.Let x r) left m) (Spawned height (Some x)) x r n (enters-let _ _ x r refl refl) k
+    so-does (act.Array x as_integer) n k = so-array (machine_inside plan st (act.Array x as_integer) left other) (machine_inside plan st (act.Array x as_integer) left m) x _ _ n refl k.0
+    so-does (act.Set x r) n k = so-right (machine_inside plan st (act.Set x r) left other) (machine_inside plan st (act.Set x r) left m) (Spawned height (Some x)) x r n (enters-set _ _ x r refl refl) k
+    so-does (act.Store x i e) n k = so-store (machine_inside plan st (act.Store x i e) left other) (machine_inside plan st (act.Store x i e) left m) (Spawned height None) x i e n k
+    so-does (act.Spawn c) n k = so-spawn (machine_inside plan st (act.Spawn c) left other) (machine_inside plan st (act.Spawn c) left m) (Spawned height None) None c n k tt
+    so-does (act.Call c) n k = so-call (machine_inside plan st (act.Call c) left other) (machine_inside plan st (act.Call c) left m) (Spawned height None) None c n (λ inner s. enters-call None c inner s) k tt
+    so-does act.Sync n k = so-sync (machine_inside plan st act.Sync left other) (machine_inside plan st act.Sync left m) (Spawned height None) n
     so-does (act.Print e) n k =
-        so-given (entered plan st (act.Print e) left other) (entered plan st (act.Print e) left m) (Spawned height None) (value_of e (fix m.top.env)) (value_of e m.top.env) n _ _ (value-kept fix e m.top.env k)
-        (λ v. ends-so (entered plan st (act.Print e) left other) (entered plan st (act.Print e) left m) (Emitted (event.Print (now ++ m.rank ∷ []) v) ∷ []) (there n) (here n) refl)
+        so-given (machine_inside plan st (act.Print e) left other) (machine_inside plan st (act.Print e) left m) (Spawned height None) (value_of e (fix m.top.env)) (value_of e m.top.env) n _ _ (value-kept fix e m.top.env k)
+        (λ v. ends-so (machine_inside plan st (act.Print e) left other) (machine_inside plan st (act.Print e) left m) (Emitted (event.Print (now ++ m.rank ∷ []) v) ∷ []) (there n) (here n) refl)
     so-does (act.If e a b) n k =
-        so-given (entered plan st (act.If e a b) left other) (entered plan st (act.If e a b) left m) (Spawned height None) (value_of e (fix m.top.env)) (value_of e m.top.env) n _ _ (value-kept fix e m.top.env k)
+        so-given (machine_inside plan st (act.If e a b) left other) (machine_inside plan st (act.If e a b) left m) (Spawned height None) (value_of e (fix m.top.env)) (value_of e m.top.env) n _ _ (value-kept fix e m.top.env k)
         (λ v. ap (λ (k : Machine). record { items = []; ending = Ok (Stands k) }) (enters-left ((if is_true v then a else b) ++ left) (here n)))
     so-does (act.While e a) n k =
-        so-given (entered plan st (act.While e a) left other) (entered plan st (act.While e a) left m) (Spawned height None) (value_of e (fix m.top.env)) (value_of e m.top.env) n _ _ (value-kept fix e m.top.env k)
-        (λ v. so-inside (entered plan st (act.While e a) left other) (entered plan st (act.While e a) left m) (Spawned height None) (is_true v) (inside now height a (there n) then inside now height (st ∷ [])) (inside now height a (here n) then inside now height (st ∷ [])) n
+        so-given (machine_inside plan st (act.While e a) left other) (machine_inside plan st (act.While e a) left m) (Spawned height None) (value_of e (fix m.top.env)) (value_of e m.top.env) n _ _ (value-kept fix e m.top.env k)
+        (λ v. so-inside (machine_inside plan st (act.While e a) left other) (machine_inside plan st (act.While e a) left m) (Spawned height None) (is_true v) (inside now height a (there n) then inside now height (st ∷ [])) (inside now height a (here n) then inside now height (st ∷ [])) n
         (ap (λ (k : Machine). record { items = []; ending = Ok (Stands k) }) (enters-left (a ++ st ∷ left) (here n))))
     so-does (act.Pfor x lo hi target c) n k =
-        let into' = entered plan st (act.Pfor x lo hi target c) left other in
-        let into = entered plan st (act.Pfor x lo hi target c) left m in
+        let into' = machine_inside plan st (act.Pfor x lo hi target c) left other in
+        let into = machine_inside plan st (act.Pfor x lo hi target c) left m in
         let k1 = each-right (Keep fix) (names_in lo) (names_in hi ++ (names_in_all c.args ++ target_names target)) k in
         let k2 = each-right (Keep fix) (names_in hi) (names_in_all c.args ++ target_names target) k1 in
         so-given into' into (Looped target) (value_of lo (fix m.top.env)) (value_of lo m.top.env) n _ _ (value-kept fix lo m.top.env (each-left (Keep fix) (names_in lo) (names_in hi ++ (names_in_all c.args ++ target_names target)) k)) (λ l.
         so-given into' into (Looped target) (value_of hi (fix m.top.env)) (value_of hi m.top.env) n _ _ (value-kept fix hi m.top.env (each-left (Keep fix) (names_in hi) (names_in_all c.args ++ target_names target) k1)) (λ h.
         so-given into' into (Looped target) (values_of c.args (fix m.top.env)) (values_of c.args m.top.env) n _ _ (values-kept fix c.args m.top.env (each-left (Keep fix) (names_in_all c.args) (target_names target) k2)) (λ vs.
-        so-loop into' into target c (number l) (count_of (number h -ℤ number l)) vs n (each-right (Keep fix) (names_in_all c.args) (target_names target) k2))))
+        so-loop into' into target c (as_integer l) (count_of (as_integer h -ℤ as_integer l)) vs n (each-right (Keep fix) (names_in_all c.args) (target_names target) k2))))
     so-does (act.Scope a) n k =
-        so-tested (entered plan st (act.Scope a) left other) (entered plan st (act.Scope a) left m) (Spawned height None) deep_enough deep_enough Depth n _ _ refl
+        so-tested (machine_inside plan st (act.Scope a) left other) (machine_inside plan st (act.Scope a) left m) (Spawned height None) deep_enough deep_enough Depth n _ _ refl
         (ap (λ (k : Machine). record { items = Opens (now ++ m.rank ∷ []) ∷ []; ending = Ok (Stands k) }) (enters-level a (record (here n) { rank = 0 })))
       where
         deep_enough : Bool
@@ -327,7 +328,7 @@ module _ (plan : PlanView) (path : List ℕ) (fix : Env → Env) (mark : Option 
   top-statement m st left levels leaving returning k =
       let b : Machine = rebuilt m (st ∷ left) levels leaving returning in
       let a = out-Act (out-Stmt st).act in
-      so-paid b left st (entered plan st a left (record b { top = change b.top })) (entered plan st a left b) (destination_of (length m.below) a) m.steps (state_of b) _ _ (λ n. so-does b left st a n k)
+      so-paid b left st (machine_inside plan st a left (record b { top = change b.top })) (machine_inside plan st a left b) (destination_of (length m.below) a) m.steps (state_of b) _ _ (λ n. so-does b left st a n k)
 
   top-return : (m : Machine) (leaving : Bool) → TopMoves (rebuilt m [] [] leaving false)
   top-return m leaving = by_steps m.steps
@@ -391,7 +392,7 @@ module _ (plan : PlanView) (path : List ℕ) (fix : Env → Env) (mark : Option 
     deep-call : (target : Option Name) (c : CallText) (left inner : List Stmt) (s : State Bool) → calling plan target c left deep inner s ≡ changed k change (calling plan target c left m inner s)
     deep-call target c left inner s = rw (other-number k (suc (length m.below)) (omega arith), other-number k (length m.below) lower) refl
 
-    deep-entered : (st : Stmt) (a : Act-F Act Stmt) (left inner : List Stmt) (s : State Bool) → entered plan st a left deep inner s ≡ changed k change (entered plan st a left m inner s)
+    deep-entered : (st : Stmt) (a : Act-F Act Stmt) (left inner : List Stmt) (s : State Bool) → machine_inside plan st a left deep inner s ≡ changed k change (machine_inside plan st a left m inner s)
     deep-entered st (act.Let x (right.Value e)) left inner s = deep-left (inner ++ left) s
     deep-entered st (act.Let x (right.Draw at)) left inner s = deep-left (inner ++ left) s
     deep-entered st (act.Let x (right.New at)) left inner s = deep-left (inner ++ left) s
@@ -432,7 +433,7 @@ module _ (plan : PlanView) (path : List ℕ) (fix : Env → Env) (mark : Option 
         run p n = paid_from (what (destination_of n a)) plan p m.steps (state_of m) (λ s. does (what (destination_of n a)) plan p inside n st a s)
 
         finished : Machine → Run Effect Exit (State Bool) → Run Effect Fault Reached
-        finished b r = record { items = r.items; ending = reached plan (with_left b left) (entered plan st a left b) r.ending }
+        finished b r = record { items = r.items; ending = reached plan (with_left b left) (machine_inside plan st a left b) r.ending }
 
         by_end : (items : List Effect) (e : Result (State Bool) Exit) → finished deep (record { items = items; ending = e }) ≡ changed_run (changed k change) (finished m (record { items = items; ending = e }))
         by_end items (Ok s) = ap (λ (b : Machine). record { items = items; ending = Ok (Stands b) }) (deep-left left s)
@@ -481,7 +482,7 @@ module _ (plan : PlanView) (path : List ℕ) (fix : Env → Env) (mark : Option 
     deep-return true keeps = by_function (function_at (functions_of plan) m.top.function)
       where
         run : List ℕ → ℕ → Function → Result Value FaultKind → Run Effect Exit (Value × State Bool)
-        run p n f o = given (what (Spawned n None)) plan p o (state_of m) (λ v. done (v, state_of m))
+        run p n f o = unless_fault (what (Spawned n None)) plan p o (state_of m) (λ v. done (v, state_of m))
 
         finished : Machine → Run Effect Exit (Value × State Bool) → Run Effect Fault Reached
         finished b r = record { items = r.items; ending = gives plan b r.ending }

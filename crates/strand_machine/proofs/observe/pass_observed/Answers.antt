@@ -2,12 +2,12 @@ use Rattle.std.proofs.Common.{◌≡◌, IfOk, sym, subst}
 use Rattle.std.specs.Prelude.{OnOk}
 use Rattle.strand_meaning.specs.Observation.{step_observation}
 use Rattle.strand_machine.specs.Made.{made}
-use Rattle.strand_machine.specs.Noted.{with_step}
+use Rattle.strand_machine.specs.Observed.{with_step}
 use Rattle.strand_machine.specs.Stops.{IsStep}
 use Rattle.strand_machine.specs.Tasks.{task_of, view_of}
 use Rattle.strand_machine.specs.declared.work.Work.{Work}
 use Rattle.strand_machine.proofs.Moves.Making.{sound-at}
-use Rattle.strand_machine.proofs.note.pass_observed.Goals as goal
+use Rattle.strand_machine.proofs.observe.pass_observed.Goals as goal
 
 pub work_observed-requires : goal.work_observed-requires
 work_observed-requires c = let p = c.args.parts.now in sound-at p.body p.work _ (sym c.replace-work.ensures.value) c.requires

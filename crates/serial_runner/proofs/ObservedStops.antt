@@ -1,9 +1,9 @@
 -- What was made while something was kept beside it.
 use Rattle.std.proofs.Common.{◌≡◌, ◌∙◌, List, ℕ, Result, Ok, Err, ap, subst}
 use Rattle.std.specs.Result.{IfOk}
-use Rattle.strand_machine.specs.Noted.{IsNoted}
+use Rattle.strand_machine.specs.Observed.{IsObserved}
 use Rattle.strand_machine.specs.declared.memory.Memory.{Memory}
-use Rattle.strand_machine.specs.declared.note.Noted.{Noted}
+use Rattle.strand_machine.specs.declared.observe.ObservedStop.{ObservedStop}
 use Rattle.strand_machine.specs.declared.stop.Stop.{Stop}
 use Rattle.serial_runner.specs.Beside.{Beside}
 use Rattle.serial_runner.specs.Observed.{IsStopped, with_observation}
@@ -14,7 +14,7 @@ pub made : {B E : Type 0} (P : B → Type 0) (r : Result B E) (b : B) → r ≡ 
 made P r b e h = subst (λ z. IfOk z P) e h
 
 -- what was noted, and is seen by then
-pub observation : (j : List ℕ) (w : NodeWalk) (observed : ObservedInstance) (n : Noted) → observed ≡ w.observed → IsNoted w.task j w.observed.eye n → (r : Result ObservedInstance Memory) → IfOk r (λ s. s ≡ with_observation n.eye n.events n.fault n.joined observed)
+pub observation : (j : List ℕ) (w : NodeWalk) (observed : ObservedInstance) (n : ObservedStop) → observed ≡ w.observed → IsObserved w.task j w.observed.eye n → (r : Result ObservedInstance Memory) → IfOk r (λ s. s ≡ with_observation n.eye n.events n.fault n.joined observed)
     → (result : Result (Stop × ObservedInstance) Memory) → Beside n.stop r result → IfOk result (λ p. IsStopped j w p.0 p.1)
 observation j w observed n e is r h (Ok p) b = record {
   noted = n;

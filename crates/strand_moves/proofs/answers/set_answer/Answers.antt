@@ -3,7 +3,7 @@ use Rattle.serial_meaning.specs.declared.environment.Slot.TheVariants.{Scalar}
 use Rattle.strand_values.specs.Environments.{EnvironmentView}
 use Rattle.strand_moves.specs.declared.frame.Frame.{Frame}
 use Rattle.strand_moves.proofs.Frames.ReplacedLemmas.{replaces}
-use Rattle.strand_moves.proofs.answers.replace.Goals as goal
+use Rattle.strand_moves.proofs.answers.set_answer.Goals as goal
 
 pub replace_scalar-requires : goal.replace_scalar-requires
 replace_scalar-requires c = rw c.in-Some.is at c.requires

@@ -1,4 +1,4 @@
--- What a call of `advance_noted` gives.
+-- What a call of `advance_observed` gives.
 use Rattle.std.specs.Prelude.{◌≡◌, ℕ, List, [], ◌++◌, Some, None}
 use Rattle.strand_meaning.specs.Observation as meaning
 use Rattle.strand_meaning.specs.Observation.{Shows, effect_items, newest, no_observation}
@@ -10,11 +10,11 @@ use Rattle.strand_machine.specs.Eyes.{eye_after}
 use Rattle.strand_machine.specs.Stops.{IsStop, stop_of}
 use Rattle.strand_machine.specs.Tasks.{TaskView}
 use Rattle.strand_machine.specs.declared.eye.Eye.{Eye}
-use Rattle.strand_machine.specs.declared.note.Noted.{Noted}
-use Rattle.strand_machine.specs.declared.note.Observed.{Observed}
+use Rattle.strand_machine.specs.declared.observe.ObservedStop.{ObservedStop}
+use Rattle.strand_machine.specs.declared.observe.Observed.{Observed}
 
 -- The next stop of a task, and of what is noted on the way to it that which is of this pedigree, with what the eye had seen before.
-pub record IsNoted (t : TaskView) (j : List ℕ) (before : Eye) (n : Noted) : Type 0 where
+pub record IsObserved (t : TaskView) (j : List ℕ) (before : Eye) (n : ObservedStop) : Type 0 where
   pub stop : IsStop t n.stop
   pub observation : meaning.Observation
   pub shows : Shows t.task observation (stop_of n.stop)
