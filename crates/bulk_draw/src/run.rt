@@ -8,7 +8,7 @@ use ped_path::Pedigree;
 
 /// The sum of two numbers below the modulus, modulo it. What is added back where the difference went below 0 is a number and no way
 /// to go on, so that no jump depends on it.
-fn sum_of(dot: u64, step: u64) -> u64
+fn residue_sum(dot: u64, step: u64) -> u64
     requires dot { IsResidue dot }
     requires step { IsResidue step }
     ensures value { result ≡ (dot + step) % modulus }
@@ -30,7 +30,7 @@ fn write_dots(out: &mut [u64], first: u64, step: u64) -> u64
     let mut dot = first;
     for place in out.iter_mut() {
         *place = dot;
-        dot = sum_of(dot, step);
+        dot = residue_sum(dot, step);
     }
     dot
 }

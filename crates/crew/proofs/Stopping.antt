@@ -13,11 +13,12 @@ use Rattle.serial_meaning.specs.declared.answer.Outcome.{Outcome}
 use Rattle.serial_meaning.specs.declared.answer.Outcome.TheVariants as outcome
 use Rattle.strand_meaning.specs.Machine.{Effect, Reached, Stands, Gives, move}
 use Rattle.strand_meaning.specs.Trace.{AwaitedChild}
-use Rattle.strand_meaning.specs.Task.{InstanceState, Running, AtSync, AtLoop, Ended, Work, Splits, Runs, Over, Task, own_instance, MoveOrStop, Passes, Stops, Stop, Spawn, Wait, End, IsNext, Now, Later, stage_after, child_in, stops_at, passing, moved, ends_unless, faults_after, gave, stage_step, split_step, over_step, work_step}
+use Rattle.strand_meaning.specs.Task.{InstanceState, Running, AtSync, AtLoop, Ended, Work, Splits, Runs, Finished, Task, own_instance, MoveOrStop, Passes, Stops, Stop, Spawn, Wait, End, IsNext, Now, Later, stage_after, child_in, stops_at, passing, moved, ends_unless, faults_after, gave, stage_step, split_step, over_step, work_step}
 use Rattle.strand_machine.specs.Family.{tag}
 use Rattle.strand_meaning.specs.Cuts.{IsByFaultOf}
 use Rattle.strand_meaning.specs.Laws.{IsFaultOf}
-use Rattle.strand_machine.specs.Stops.{IsCutEnd, IsResumed, Pauses, advances, Advances}
+use Rattle.strand_machine.specs.Stops.{IsCutEnd, IsResumed, Pauses, Advances}
+use Rattle.strand_machine.proofs.NextStops.ByCut.{advances, advances-at}
 use Rattle.strand_machine.specs.Tasks.{TaskView}
 use Rattle.strand_machine.specs.declared.stop.Paused.TheVariants as paused
 use Rattle.strand_machine.specs.declared.stop.Stop.TheVariants as stop
@@ -83,8 +84,8 @@ module _ (t : Task) where
   at-work : (work : Work) → StandsInStep (work_step t work)
   at-work (Splits left) = at-split left (left.hi - left.lo)
   at-work (Runs stage) = at-stage stage
-  at-work (Over v true) = at-end t.trace.fault _
-  at-work (Over v false) = at-over v t.origin
+  at-work (Finished v true) = at-end t.trace.fault _
+  at-work (Finished v false) = at-over v t.origin
 
 stands-in : (t : Task) (stop : Stop) → IsNext t stop → StandsIn stop
 stands-in t stop (Now h) = subst StandsInStep h (at-work t t.work)
@@ -99,7 +100,7 @@ waits-as None t rest at = let w : StandsIn (Wait rest.task) = stands-in t.task (
 waits-as (Some ended) t rest at = by_cut t ended rest at
 
 pub waits_there : (t rest : TaskView) → Advances t (stop.Wait rest) → rest.task.waiting ≡ true
-waits_there t rest at = waits-as t.cut t rest at
+waits_there t rest at = waits-as t.cut t rest (advances-at t (stop.Wait rest) at t.cut refl)
 
 pub waits_still : (t same : TaskView) → t.task.waiting ≡ true → IsResumed t (resumed.NotYet same) → same.task.waiting ≡ true
 waits_still t same h at = rw at.0 h
@@ -130,7 +131,7 @@ gives-as (Some ended) t answer give at =
     }
 
 gives : (t : TaskView) (answer : AnswerView) (give : AnswerTag) → Advances t (stop.Done answer give) → GivesOwn t answer give
-gives t answer give at = gives-as t.cut t answer give at
+gives t answer give at = gives-as t.cut t answer give (advances-at t (stop.Done answer give) at t.cut refl)
 
 pub gives_its_own : (t : TaskView) (answer : AnswerView) (give : AnswerTag) → Advances t (stop.Done answer give) → tag answer.plan answer.origin ≡ give
 gives_its_own t answer give at =

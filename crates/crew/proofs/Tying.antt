@@ -8,7 +8,8 @@ use Rattle.strand_meaning.specs.Task.{Task, start, Stop, Spawn, Wait, End}
 use Rattle.sched_meaning.specs.Core.{Worker}
 use Rattle.sched_meaning.specs.Steps.{WorkerRuns, WorkerPops, WorkerPasses}
 use Rattle.steal_deck.specs.Ends.{OwnerEnd, Pops}
-use Rattle.strand_machine.specs.Stops.{IsStop, IsCutEnd, IsResumed, advances, any_cut, resumes, Advances as AdvancesTo}
+use Rattle.strand_machine.specs.Stops.{IsStop, IsCutEnd, IsOn, IsResumed, any_cut, Advances as AdvancesTo}
+use Rattle.strand_machine.proofs.NextStops.ByCut.{advances, advances-at}
 use Rattle.strand_machine.specs.Tasks.{TaskView}
 use Rattle.strand_machine.specs.declared.stop.Stop.{Stop as Stops}
 use Rattle.strand_machine.specs.declared.stop.Stop.TheVariants as stop
@@ -138,11 +139,11 @@ module _ (t : TaskView) (old new : HandView) (now : old.current ≡ Some t) wher
   ended (Some o) e answer give at h = inr (t, now, inr (o, e), h)
 
   put : (turn : Turn) → EndsTask t old turn new → RunsTo IsEnd old new ⊎ EndsByCut old new
-  put turn (inl (answer, give, at), arrived, h) = ended t.cut refl answer give at h
+  put turn (inl (answer, give, at), arrived, h) = ended t.cut refl answer give (advances-at t (stop.Done answer give) at t.cut refl) h
   put turn (inr cut, arrived, h) = inr (t, now, inl cut, h)
 
   advanced : (turn : Turn) → AdvancesCurrent t old turn new → IsTied old turn new
-  advanced Ran (s, at, h) = ran t.cut s at h
+  advanced Ran (s, at, h) = ran t.cut s (advances-at t s at t.cut refl) h
   advanced (Answered a) h = put (Answered a) h
   advanced (Ended a) h = put (Ended a) h
   advanced Popped h = absurd h.1
@@ -215,20 +216,23 @@ module _ (old new : HandView) (free : old.current ≡ None) where
 
   resumes-at : (place : ℕ) (left : List TaskView) (t next : TaskView) → slice_get old.stalled place ≡ Some t → IsResumed t (resumed.On next) →
       new ≡ record old { current = Some next; deck = new.deck; stalled = remove old.stalled place } → ResumesAt place left old new
-  resumes-at place left t next there (answers, are, is, passed) h = by (any_cut answers) is
+  resumes-at place left t next there (answers, are, is, passed) h = by (any_cut answers) refl
     where
-      by : (cut : Bool) → resumes cut answers t next → ResumesAt place left old new
-      by false gone = inl (
+      by-whole : IsOn t next → ResumesAt place left old new
+      by-whole gone = inl (
         t.task,
         record {
           free = was-free;
           there = front place t old.stalled there;
           after =
-              worker-is left new _ _ _ (ap (λ (x : HandView). task-of x.current) h ∙ ap Some gone.0) (ap (λ (x : HandView). tasks left ++ tasks x.overflow) h)
+              worker-is left new _ _ _ (ap (λ (x : HandView). task-of x.current) h ∙ ap Some gone.task) (ap (λ (x : HandView). tasks left ++ tasks x.overflow) h)
               (ap (λ (x : HandView). tasks x.stalled) h ∙ without place old.stalled);
         },
       )
-      by true cut = inr (t, next, answers, cut, free, there, h)
+
+      by : (cut : Bool) → any_cut answers ≡ cut → ResumesAt place left old new
+      by false e = by-whole (is.whole e)
+      by true e = inr (t, next, answers, is.cut e, free, there, h)
 
   -- the hand after a look at the front of its stalled tasks that was in vain
   passed : (mid : HandView) → mid.current ≡ old.current → mid.overflow ≡ old.overflow → (stalled : List TaskView) → old.stalled ≡ stalled → IsTurnedOver stalled mid.stalled → PassesAt 0 [] old mid

@@ -130,8 +130,8 @@ impl Faults {
         self.cells.get(place)?.get()
     }
 
-    /// Where the least fault of a plan was noted, if one is known.
-    fn noted(&self, plan: &Plan) -> Option<usize>
+    /// Which of the least faults is that of a plan, if one is known.
+    fn least_at(&self, plan: &Plan) -> Option<usize>
         ensures { IfSome result (λ i. i < length self.now.least.items) }
     {
         for (i, place) in self.least.iter().enumerate() {
@@ -151,8 +151,8 @@ impl Faults {
                 return Some(own);
             }
         }
-        let noted = self.noted(plan)?;
-        self.at(*self.least.get(noted)?)
+        let i = self.least_at(plan)?;
+        self.at(*self.least.get(i)?)
     }
 
     /// Reads on. Where no memory is found for one plan more, nothing of that plan is cut.
@@ -162,12 +162,12 @@ impl Faults {
             let Some(known) = self.at(i) else {
                 return;
             };
-            let noted = self.noted(&known.plan);
-            match noted {
+            let found = self.least_at(&known.plan);
+            match found {
                 Some(n) => self.least[n] = i,
                 None => {
                     // Without memory for it, nothing of the plan is cut.
-                    let _noted = self.least.push(i);
+                    let _pushed = self.least.push(i);
                 }
             }
             self.read = i + 1;

@@ -31,7 +31,7 @@ fn look_on(alloc: Global, signals: &Signals, hand: &mut Hand) -> Option<Looked> 
     match hand.look_newest(alloc) {
         Ok(looked) => Some(looked),
         Err(_) => {
-            signals.stop();
+            signals.end_all();
             None
         }
     }
@@ -91,7 +91,7 @@ fn work<R: Wait, G: Gate>(
             Ok(Turn::Stole) if !cuts => signals.offer(),
             Ok(Turn::Ended(_)) => signals.end(),
             Ok(_) => {}
-            Err(_) => signals.stop(),
+            Err(_) => signals.end_all(),
         }
     }
 }

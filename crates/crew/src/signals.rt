@@ -43,7 +43,7 @@ impl Signals {
     }
 
     /// No hand takes another turn.
-    pub fn stop(&self) {
+    pub fn end_all(&self) {
         let stop: &AtomicU64 = &self.stop;
         stop.store(1, Ordering::SeqCst);
         stop.wake_all();
@@ -59,7 +59,7 @@ impl Signals {
         let ended: &AtomicU64 = &self.ended;
         let before = ended.fetch_add(1, Ordering::SeqCst);
         if before.saturating_add(1) >= self.roots {
-            self.stop();
+            self.end_all();
         }
     }
 

@@ -9,7 +9,7 @@ use Rattle.dotmix.specs.Draws.{dotmix}
 use Rattle.bulk_draw.specs.Streams.{last_rank, later, path, stream}
 use Rattle.bulk_draw.proofs.StreamLemmas.{last_rank-after, later-after, path-after, range-split}
 use Rattle.ped_io.specs.Streams.{Appends, AppendsFront}
-use Rattle.draw_lines.specs.Lines.{CanDraw, later_stream, lines_of, number_line, reduced}
+use Rattle.draw_lines.specs.Lines.{CanDraw, later_stream, lines_of, number_line, each_modulo}
 use Rattle.draw_lines.specs.declared.stream.Stream.{Stream}
 
 later-later : (j : List ℕ) (m i : ℕ) → later (later j m) i ≡ later j (m + i)
@@ -19,14 +19,14 @@ stream-append : (gamma j : List ℕ) (m n rounds : ℕ) → stream gamma j (m + 
 stream-append gamma j m n rounds =
     range-split (λ i. dotmix gamma (later j i) rounds) (λ i. dotmix gamma (later (later j m) i) rounds) m n (λ i. ap (λ q. dotmix gamma q rounds) (sym (later-later j m i)))
 
-reduced-append : (below : Option ℕ) (xs ys : List ℕ) → reduced below (xs ++ ys) ≡ reduced below xs ++ reduced below ys
+reduced-append : (below : Option ℕ) (xs ys : List ℕ) → each_modulo below (xs ++ ys) ≡ each_modulo below xs ++ each_modulo below ys
 reduced-append None xs ys = refl
 reduced-append (Some m) xs ys = map-append _ xs ys
 
 -- some numbers, and then the others
 lines-append : (s : Stream) (m n : ℕ) → lines_of s (m + n) ≡ lines_of s m ++ lines_of (later_stream s m) n
 lines-append s m n =
-    ap (λ xs. flat_map number_line (reduced s.below xs)) (stream-append s.gamma s.at m n s.rounds) ∙ ap (flat_map number_line) (reduced-append s.below (stream s.gamma s.at m s.rounds) (stream s.gamma (later s.at m) n s.rounds)) ∙ flat_map-append number_line (reduced s.below (stream s.gamma s.at m s.rounds)) (reduced s.below (stream s.gamma (later s.at m) n s.rounds))
+    ap (λ xs. flat_map number_line (each_modulo s.below xs)) (stream-append s.gamma s.at m n s.rounds) ∙ ap (flat_map number_line) (reduced-append s.below (stream s.gamma s.at m s.rounds) (stream s.gamma (later s.at m) n s.rounds)) ∙ flat_map-append number_line (each_modulo s.below (stream s.gamma s.at m s.rounds)) (each_modulo s.below (stream s.gamma (later s.at m) n s.rounds))
 
 can_go_on : (s : Stream) (m n : ℕ) → CanDraw s (m + n) → CanDraw (later_stream s m) n
 can_go_on s m n can =

@@ -5,16 +5,16 @@ use Rattle.bulk_draw.specs.Streams.{last_rank, later, stream}
 use Rattle.draw_lines.specs.declared.stream.Stream.{Stream}
 
 -- the numbers, each modulo this one where there is one
-abbrev pub reduced : Option ℕ → List ℕ → List ℕ
-reduced None numbers = numbers
-reduced (Some below) numbers = map (λ n. n % below) numbers
+abbrev pub each_modulo : Option ℕ → List ℕ → List ℕ
+each_modulo None numbers = numbers
+each_modulo (Some below) numbers = map (λ n. n % below) numbers
 
 abbrev pub number_line : ℕ → List ℕ
 number_line n = decimal n ++ codes "\n"
 
 -- the lines of so many draws, from this pedigree's own on
 abbrev pub stream_text : List ℕ → List ℕ → ℕ → ℕ → Option ℕ → List ℕ
-stream_text gamma at count rounds below = flat_map number_line (reduced below (stream gamma at count rounds))
+stream_text gamma at count rounds below = flat_map number_line (each_modulo below (stream gamma at count rounds))
 
 abbrev pub lines_of : Stream → ℕ → List ℕ
 lines_of s count = stream_text s.gamma s.at count s.rounds s.below

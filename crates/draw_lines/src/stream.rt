@@ -1,6 +1,6 @@
 ghost use Rattle.std.specs.Prelude.{◌≡◌, ◌+◌, ◌<◌, ◌^◌, length};
 ghost use Rattle.bulk_draw.specs.Streams.{last_rank, stream};
-ghost use Rattle.draw_lines.specs.Lines.{CanDraw, later_stream, reduced};
+ghost use Rattle.draw_lines.specs.Lines.{CanDraw, later_stream, each_modulo};
 
 use bulk_draw::{draw_run, reduce};
 use dotmix::Gamma;
@@ -23,7 +23,7 @@ impl Stream {
     /// Draws as many numbers as there is room for.
     pub(crate) fn draw(&self, numbers: &mut [u64])
         requires { CanDraw self.now (length numbers.old) }
-        ensures { numbers.new ≡ reduced self.now.below (stream self.now.gamma self.now.at (length numbers.old) self.now.rounds) }
+        ensures { numbers.new ≡ each_modulo self.now.below (stream self.now.gamma self.now.at (length numbers.old) self.now.rounds) }
     {
         draw_run(&self.gamma, &self.at, self.rounds, numbers);
         if let Some(below) = self.below {

@@ -16,10 +16,10 @@ use Rattle.serial_meaning.specs.declared.event.Fault.{Fault}
 use Rattle.serial_meaning.specs.declared.origin.Origin.{Origin}
 use Rattle.serial_meaning.specs.declared.origin.Origin.TheVariants.{Instance, Loop}
 use Rattle.serial_meaning.specs.declared.value.Value.{Value}
-use Rattle.seed_batch.specs.Batch.{batch, batch_text, main_answer, part}
+use Rattle.seed_batch.specs.Batch.{batch, batch_text, main_answer, seed_lines}
 use Rattle.engine.specs.declared.batch.Batch.{Batch}
 use Rattle.engine.specs.Batches.{ArePlans, IsBatchOf, batch_ending, batch_report, is_fault, is_faulted, plan_under, settings_under, written}
-use Rattle.engine.specs.Report.{IsPlanIn, Report, ending_of, plan_of, run_report}
+use Rattle.engine.specs.Report.{IsPlanIn, Report, report_end_of, plan_of, run_report}
 
 -- A text has one script, and its plan is that script's.
 pub only_plan : (settings : Settings) (bytes : List ℕ) (plan : PlanView) (script : Script) → ((first second : Script) → Text bytes first → Text bytes second → first ≡ second) → Text bytes script → plan ≡ plan_of settings script → IsPlanIn settings bytes plan
@@ -37,7 +37,7 @@ all_whole plans = λ k d within. (let plan = slice_index_or plans k d in whole_e
 pub answers_whole : (plans : List PlanView) (answers : List AnswerView) → answers ≡ map main_answer plans → All (λ (answer : AnswerView). IsWhole answer.outcome) answers
 answers_whole plans answers are = subst (All (λ (answer : AnswerView). IsWhole answer.outcome)) (sym are) (All-map (λ (answer : AnswerView). IsWhole answer.outcome) main_answer plans (all_whole plans))
 
-same_end : (origin : Origin) (ended : Result (List Value) Fault) → is_fault (outcome_of origin ended) ≡ is_faulted (ending_of ended)
+same_end : (origin : Origin) (ended : Result (List Value) Fault) → is_fault (outcome_of origin ended) ≡ is_faulted (report_end_of ended)
 same_end (Instance function args path) (Ok vs) = refl
 same_end (Loop function rest first path range) (Ok vs) = refl
 same_end (Instance function args path) (Err fault) = refl
@@ -60,7 +60,7 @@ answers_written seeds plans answers report are output ending =
 module _ (b : Batch) (script : Script) where
   parts : (seeds : List ℕ) → batch_text seeds (map main_answer (map (plan_under b script) seeds)) ≡ batch (λ seed. (run_report (plan_under b script seed)).output) seeds
   parts [] = refl
-  parts (seed ∷ seeds) = ap (λ text. part seed (answer_text (main_answer (plan_under b script seed))) ++ text) (parts seeds)
+  parts (seed ∷ seeds) = ap (λ text. seed_lines seed (answer_text (main_answer (plan_under b script seed))) ++ text) (parts seeds)
 
   ends : (seeds : List ℕ) → list_any (λ (plan : PlanView). is_faulted (run_report plan).ending) (map (plan_under b script) seeds) ≡ list_any (λ seed. is_faulted (run_report (plan_under b script seed)).ending) seeds
   ends [] = refl

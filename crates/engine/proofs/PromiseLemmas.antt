@@ -12,7 +12,7 @@ use Rattle.engine.specs.declared.status.Status.{Status}
 use Rattle.engine.specs.declared.status.Status.TheVariants.{Done, Faulted, Words, Script, Read, Write, Memory, NoStrand}
 use Rattle.engine.specs.Batches.{batch_ending, is_faulted, plan_under}
 use Rattle.engine.specs.Commands.{AcceptsScript, Reports, takes_script}
-use Rattle.engine.specs.Report.{Report, ending_of, plan_of, run_report, status_of}
+use Rattle.engine.specs.Report.{Report, report_end_of, plan_of, run_report, status_of}
 use Rattle.engine.specs.Promise.{Watched, Failed, ReadWhole, HasNoScript, HasReport, Answers, HasOutput, Refuses, TellsNone, KeepsPromise, most_bytes}
 use Rattle.engine.specs.Clauses.{RefusesWords, IsBad, RefusesScript, WroteReport, WritesReport, IsReplay, FindsNoStrand, TellsNoStrand, IsComplete, Completes}
 use Rattle.engine.specs.declared.report.ReportEnd.{ReportEnd}
@@ -175,7 +175,7 @@ module _ (source out err : Watched) where
 
 -- which report tells of no strand
 module _ (source out err : Watched) where
-  no_run_tells : (e : Result (List Value) Fault) → TellsNone err (ending_of e) → ⊥
+  no_run_tells : (e : Result (List Value) Fault) → TellsNone err (report_end_of e) → ⊥
   no_run_tells (Ok values) tells = tells
   no_run_tells (Err fault) tells = tells
 

@@ -15,10 +15,10 @@ use Rattle.sched_meaning.specs.Simulation.{IsSimWorker}
 use Rattle.strand_meaning.specs.Strands.{strand_at}
 use Rattle.engine.specs.declared.refusal.Refusal.{Refusal}
 use Rattle.engine.specs.declared.report.Report as report
-use Rattle.engine.specs.Report.{IsPlanOf, IsReplayOf, IsRunOf, IsSimOf, IsSpanReport, Report, ending_of, found_report, outcome_ending, plan_of, run_report, shown, span_lines, worker_line}
+use Rattle.engine.specs.Report.{IsPlanOf, IsReplayOf, IsRunOf, IsSimOf, IsSpanReport, Report, report_end_of, found_report, outcome_ending, plan_of, run_report, shown, span_lines, worker_line}
 use Rattle.serial_meaning.specs.declared.origin.Origin.{Origin}
 
-ends_so : (plan : PlanView) (e : Result (List Value) Fault) → outcome_ending (outcome_of (main_origin plan) e) ≡ ending_of e
+ends_so : (plan : PlanView) (e : Result (List Value) Fault) → outcome_ending (outcome_of (main_origin plan) e) ≡ report_end_of e
 ends_so plan (Ok values) = refl
 ends_so plan (Err fault) = refl
 

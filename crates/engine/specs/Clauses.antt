@@ -12,7 +12,7 @@ use Rattle.script_grammar.specs.Text.{Text}
 use Rattle.serial_meaning.specs.Plan.{PlanView, drawn}
 use Rattle.serial_meaning.specs.Eval.{elision}
 use Rattle.serial_meaning.specs.Open.{faults}
-use Rattle.serial_meaning.specs.Laws.{places, EndsByLeast}
+use Rattle.serial_meaning.specs.Laws.{raising_pedigrees, EndsByLeast}
 use Rattle.serial_meaning.specs.declared.event.Event.TheVariants.{Draw}
 use Rattle.engine.specs.declared.status.Status.{Status}
 use Rattle.engine.specs.declared.status.Status.TheVariants.{Done, Faulted, Words, Script, Read, Write, Memory, NoStrand}
@@ -91,7 +91,7 @@ Completes given source told out status = ⊤
 -- What holds of a plan's run: the pedigrees of its events but printing rise strictly, so that no two are the same; each draw is DotMix of
 -- its pedigree; and its fault is the least of the open tree's.
 pub record FollowsPedigrees (plan : PlanView) : Type 0 where
-  pub rise : AllPairs IsBefore (places (elision plan).items)
+  pub rise : AllPairs IsBefore (raising_pedigrees (elision plan).items)
   pub draws : (j : List ℕ) (n : ℕ) → Contains (elision plan).items (Draw j n) → n ≡ drawn plan j
   pub least : EndsByLeast (faults plan) (elision plan).ending
 

@@ -12,7 +12,7 @@ use Rattle.serial_meaning.specs.Render.{end_line, rendered, strand_text}
 use Rattle.serial_meaning.specs.declared.answer.Strand.{Strand}
 use Rattle.span_report.specs.Series.{IsSpan}
 use Rattle.sched_meaning.specs.Simulation.{IsSimWorker}
-use Rattle.strand_meaning.specs.Strands.{Found, Reached, Missing, Blocked as Blocks, strand_at}
+use Rattle.strand_meaning.specs.Strands.{Found, FoundStrand, Missing, Blocked as Blocks, strand_at}
 use Rattle.serial_meaning.specs.declared.value.Value.{Value}
 use Rattle.serial_meaning.specs.declared.answer.Outcome.{Outcome}
 use Rattle.serial_meaning.specs.declared.answer.Outcome.TheVariants as outcome
@@ -36,15 +36,15 @@ said output = record { output = output; ending = Done }
 abbrev pub plan_of : Settings → Script → PlanView
 plan_of settings script = record { script = script; gamma = settings.gamma; limits = settings.limits; show = settings.show; rounds = settings.rounds }
 
-abbrev pub ending_of : Result (List Value) Fault → ReportEnd
-ending_of (Ok values) = Done
-ending_of (Err fault) = Faulted
+abbrev pub report_end_of : Result (List Value) Fault → ReportEnd
+report_end_of (Ok values) = Done
+report_end_of (Err fault) = Faulted
 
 -- a run writes the lines of the serial elision's events, and of its fault
 abbrev pub run_report : PlanView → Report
 run_report plan = record {
   output = rendered plan.show (elision plan).items (outcome_of (main_origin plan) (elision plan).ending);
-  ending = ending_of (elision plan).ending;
+  ending = report_end_of (elision plan).ending;
 }
 
 abbrev pub worker_line : ℕ → List ℕ
@@ -52,21 +52,21 @@ worker_line w = codes "worker " ++ decimal w ++ codes "\n"
 
 -- The report is of a simulation on so many workers, whose events the words of this number pick: the line of the worker whose run answers main,
 -- and then what a run writes.
-pub record IsSimReport (plan : PlanView) (workers number : ℕ) (told : Report) : Type 0 where
+pub record IsSimReport (plan : PlanView) (workers number : ℕ) (written : Report) : Type 0 where
   pub worker : ℕ
   pub answers : IsSimWorker plan workers number worker
-  pub output : told.output ≡ worker_line worker ++ (run_report plan).output
-  pub ending : told.ending ≡ (run_report plan).ending
+  pub output : written.output ≡ worker_line worker ++ (run_report plan).output
+  pub ending : written.ending ≡ (run_report plan).ending
 
 abbrev pub span_lines : ℕ → ℕ → List ℕ
 span_lines work span = codes "work " ++ decimal work ++ codes "\nspan " ++ decimal span ++ codes "\n"
 
 -- The report is of the serial elision: how many events it has, how many the longest chain of them, and then a line of its fault.
-pub record IsSpanReport (plan : PlanView) (told : Report) : Type 0 where
+pub record IsSpanReport (plan : PlanView) (written : Report) : Type 0 where
   pub span : ℕ
   pub longest : IsSpan (elision plan).items span
-  pub output : told.output ≡ span_lines (length (elision plan).items) span ++ end_line (outcome_of (main_origin plan) (elision plan).ending)
-  pub ending : told.ending ≡ ending_of (elision plan).ending
+  pub output : written.output ≡ span_lines (length (elision plan).items) span ++ end_line (outcome_of (main_origin plan) (elision plan).ending)
+  pub ending : written.ending ≡ report_end_of (elision plan).ending
 
 -- These bytes are the text of a valid script, and this is its plan.
 abbrev pub IsPlanOf : Settings → List ℕ → PlanView → Type 0
@@ -86,7 +86,7 @@ strand_report strand = record { output = strand_text strand; ending = strand_end
 
 -- what is written where this stands at a pedigree
 abbrev pub found_report : List ℕ → Found → Report
-found_report j (Reached strand) = strand_report strand
+found_report j (FoundStrand strand) = strand_report strand
 found_report j Missing = record { output = []; ending = NoStrand j }
 found_report j (Blocks fault) = record { output = []; ending = Blocked fault }
 

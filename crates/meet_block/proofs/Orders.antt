@@ -1,4 +1,4 @@
--- Facts about the blocks of a join.
+-- Facts about the counters of a join.
 use Rattle.std.proofs.Common.{◌≡◌, ◌≢◌, ℕ, zero, suc, ◌+◌, ◌-◌, ◌<◌, ◌≤◌, Bool, true, false, ◌&&◌, ◌⊎◌, inl, ⊎_elim, List, [], ◌∷◌, ◌++◌, length, get_or, replicate, set, sym, refl, ap, ◌∙◌, subst, arith, append_assoc, append-nil, length-set, length-append, Some, slice_get}
 use mathlib.Core.Option.{some, some-injective, some-ne-none}
 use mathlib.Core.Logic.{dite}
@@ -85,7 +85,7 @@ module _ {A : Type 0} where
   set_right (x ∷ xs) ys (suc j) k a e = ap (λ l. x ∷ l) (set_right xs ys j k a (omega arith))
 
 module _ {T : Type 0} where
-  -- what changes, and what doesn't, where one block changes
+  -- what changes, and what doesn't, where one counter changes
   pub tags_set : (ps : List (CounterView T)) (k : ℕ) (p q : CounterView T) → get_elem? ps k ≡ some p → q.tags ≡ p.tags → tags_of (set ps k q) ≡ tags_of ps
   tags_set [] k p q at e = refl
   tags_set (x ∷ xs) zero p q at e = ap (λ l. l ++ tags_of xs) (e ∙ ap (λ (y : CounterView T). y.tags) (sym (some-injective x p at)))
@@ -101,10 +101,10 @@ module _ {T : Type 0} where
   loads_set (x ∷ xs) zero p q at e = ap (λ l. l ++ loads_of xs) (e ∙ ap (λ (y : CounterView T). y.loads) (sym (some-injective x p at)))
   loads_set (x ∷ xs) (suc k) p q at e = ap (λ l. x.loads ++ l) (loads_set xs k p q at e)
 
-  pub ready_set : (ps : List (CounterView T)) (k : ℕ) (p q : CounterView T) → get_elem? ps k ≡ some p → q.stage ≡ p.stage → all_ready (set ps k q) ≡ all_ready ps
+  pub ready_set : (ps : List (CounterView T)) (k : ℕ) (p q : CounterView T) → get_elem? ps k ≡ some p → q.state ≡ p.state → all_ready (set ps k q) ≡ all_ready ps
   ready_set [] k p q at e = refl
-  ready_set (x ∷ xs) zero p q at e = ap (λ s. is_ready s && all_ready xs) (e ∙ ap (λ (y : CounterView T). y.stage) (sym (some-injective x p at)))
-  ready_set (x ∷ xs) (suc k) p q at e = ap (λ b. is_ready x.stage && b) (ready_set xs k p q at e)
+  ready_set (x ∷ xs) zero p q at e = ap (λ s. is_ready s && all_ready xs) (e ∙ ap (λ (y : CounterView T). y.state) (sym (some-injective x p at)))
+  ready_set (x ∷ xs) (suc k) p q at e = ap (λ b. is_ready x.state && b) (ready_set xs k p q at e)
 
   pub numbered_set : (n : ℕ) (ps : List (CounterView T)) (k : ℕ) (p q : CounterView T) → Numbered n ps → get_elem? ps k ≡ some p → q.first ≡ p.first → length q.tags ≡ length p.tags → Numbered n (set ps k q)
   numbered_set n [] k p q h at e f = tt
@@ -114,7 +114,7 @@ module _ {T : Type 0} where
       (e ∙ ap (λ (y : CounterView T). y.first) (sym same) ∙ h.0, subst (λ (m : ℕ). Numbered m xs) (sym long) h.1)
   numbered_set n (x ∷ xs) (suc k) p q h at e f = (h.0, numbered_set (n + length x.tags) xs k p q h.1 at e f)
 
-  -- the last block gets a child more
+  -- the last counter gets a child more
   pub tags_last : (ps : List (CounterView T)) (k : ℕ) (p q : CounterView T) (t : T) → k + 1 ≡ length ps → get_elem? ps k ≡ some p → q.tags ≡ p.tags ++ t ∷ [] → tags_of (set ps k q) ≡ tags_of ps ++ t ∷ []
   tags_last [] k p q t l at e = absurd (omega arith)
   tags_last (x ∷ []) zero p q t l at e = rw (e, some-injective x p at, append-nil, append-nil)
@@ -133,7 +133,7 @@ module _ {T : Type 0} where
   numbered_last n (x ∷ y ∷ ys) zero p q h l at e = absurd (omega arith)
   numbered_last n (x ∷ xs) (suc k) p q h l at e = (h.0, numbered_last (n + length x.tags) xs k p q h.1 (omega arith) at e)
 
-  -- a block more
+  -- a counter more
   pub tags_more : (ps : List (CounterView T)) (q : CounterView T) → tags_of (ps ++ q ∷ []) ≡ tags_of ps ++ q.tags
   tags_more [] q = append-nil q.tags
   tags_more (x ∷ xs) q = ap (λ l. x.tags ++ l) (tags_more xs q) ∙ sym (append_assoc x.tags (tags_of xs) q.tags)
@@ -150,7 +150,7 @@ module _ {T : Type 0} where
   numbered_more n [] q h e = (e ∙ omega arith, tt)
   numbered_more n (x ∷ xs) q h e = (h.0, numbered_more (n + length x.tags) xs q h.1 (omega (arith, e, length-append x.tags (tags_of xs))))
 
-  -- a number more that was read, where none was after the block
+  -- a number more that was read, where none was after the counter
   loads_none : (ps : List (CounterView T)) → ((k : ℕ) (p : CounterView T) → get_elem? ps k ≡ some p → p.loads ≡ []) → loads_of ps ≡ []
   loads_none [] h = refl
   loads_none (x ∷ xs) h = λ k. h 0 x refl k ++ loads_none xs (λ j p. h (suc j) p) k
@@ -164,26 +164,26 @@ module _ {T : Type 0} where
       rw (rest, here, append-nil, append-nil)
   loads_read (x ∷ xs) (suc i) p q n at e h = ap (λ l. x.loads ++ l) (loads_read xs i p q n at e (λ k u r lt. h (suc k) u r (omega arith))) ∙ sym (append_assoc x.loads (loads_of xs) (n ∷ []))
 
-  pub owing_of : (ps : List (CounterView T)) (k : ℕ) (p : CounterView T) → get_elem? ps k ≡ some p → is_ready p.stage ≡ false → all_ready ps ≡ false
+  pub owing_of : (ps : List (CounterView T)) (k : ℕ) (p : CounterView T) → get_elem? ps k ≡ some p → is_ready p.state ≡ false → all_ready ps ≡ false
   owing_of [] k p at e = absurd (some-ne-none p (sym at))
-  owing_of (x ∷ xs) zero p at e = let f : is_ready x.stage ≡ false = ap (λ (y : CounterView T). is_ready y.stage) (some-injective x p at) ∙ e in ap (λ b. b && all_ready xs) f
-  owing_of (x ∷ xs) (suc k) p at e = ap (λ b. is_ready x.stage && b) (owing_of xs k p at e) ∙ and_false (is_ready x.stage)
+  owing_of (x ∷ xs) zero p at e = let f : is_ready x.state ≡ false = ap (λ (y : CounterView T). is_ready y.state) (some-injective x p at) ∙ e in ap (λ b. b && all_ready xs) f
+  owing_of (x ∷ xs) (suc k) p at e = ap (λ b. is_ready x.state && b) (owing_of xs k p at e) ∙ and_false (is_ready x.state)
 
-  ready_of : (ps : List (CounterView T)) → ((k : ℕ) (p : CounterView T) → get_elem? ps k ≡ some p → p.stage ≡ Ready) → all_ready ps ≡ true
+  ready_of : (ps : List (CounterView T)) → ((k : ℕ) (p : CounterView T) → get_elem? ps k ≡ some p → p.state ≡ Ready) → all_ready ps ≡ true
   ready_of [] h = refl
   ready_of (x ∷ xs) h = ap (λ s. is_ready s && all_ready xs) (h 0 x refl) ∙ ready_of xs (λ k p at. h (suc k) p at)
 
-  pub each_ready : (ps : List (CounterView T)) (k : ℕ) (p : CounterView T) → all_ready ps ≡ true → get_elem? ps k ≡ some p → p.stage ≡ Ready
+  pub each_ready : (ps : List (CounterView T)) (k : ℕ) (p : CounterView T) → all_ready ps ≡ true → get_elem? ps k ≡ some p → p.state ≡ Ready
   each_ready [] k p e at = absurd (some-ne-none p (sym at))
-  each_ready (x ∷ xs) zero p e at = ap (λ (y : CounterView T). y.stage) (sym (some-injective x p at)) ∙ stage_ready x.stage (and_left (is_ready x.stage) (all_ready xs) e)
-  each_ready (x ∷ xs) (suc k) p e at = each_ready xs k p (and_right (is_ready x.stage) (all_ready xs) e) at
+  each_ready (x ∷ xs) zero p e at = ap (λ (y : CounterView T). y.state) (sym (some-injective x p at)) ∙ stage_ready x.state (and_left (is_ready x.state) (all_ready xs) e)
+  each_ready (x ∷ xs) (suc k) p e at = each_ready xs k p (and_right (is_ready x.state) (all_ready xs) e) at
 
   long_tags : (ps : List (CounterView T)) (k : ℕ) (p : CounterView T) → get_elem? ps k ≡ some p → length p.tags ≤ length (tags_of ps)
   long_tags [] k p at = absurd (some-ne-none p (sym at))
   long_tags (x ∷ xs) zero p at = omega (arith, ap (λ (y : CounterView T). length y.tags) (some-injective x p at), length-append x.tags (tags_of xs))
   long_tags (x ∷ xs) (suc k) p at = omega (arith, long_tags xs k p at, length-append x.tags (tags_of xs))
 
-  -- one block of a list in order changes
+  -- one counter of a list in order changes
   pub order_set : (found found' many many' : ℕ) (ps : List (CounterView T)) (k : ℕ) (q : CounterView T) → InOrder found many ps → found' ≤ length ps → Numbered 0 (set ps k q) → StandsInOrder found' many' k q
       → ((j : ℕ) (u : CounterView T) → get_elem? ps j ≡ some u → j ≢ k → StandsInOrder found' many' j u) → InOrder found' many' (set ps k q)
   order_set found found' many many' ps k q o le n here there = record {
@@ -195,20 +195,20 @@ module _ {T : Type 0} where
     numbered = n;
   }
 
-  -- no block is open
-  pub none_open : (found many k : ℕ) (p : CounterView T) → StandsInOrder found many k p → (k + 1 ≡ many → p.stage ≢ Open) → StandsInOrder found 0 k p
+  -- no counter is open
+  pub none_open : (found many k : ℕ) (p : CounterView T) → StandsInOrder found many k p → (k + 1 ≡ many → p.state ≢ Open) → StandsInOrder found 0 k p
   none_open found many k p s ne = record {
     before = s.before;
-    after = λ le. ⊎_elim {C = (p.stage ≡ Waiting) ⊎ ((p.stage ≡ Open) × (k + 1 ≡ 0))} (λ w. inl w) (λ t. absurd (ne t.1 t.0)) (s.after le);
+    after = λ le. ⊎_elim {C = (p.state ≡ Waiting) ⊎ ((p.state ≡ Open) × (k + 1 ≡ 0))} (λ w. inl w) (λ t. absurd (ne t.1 t.0)) (s.after le);
     unseen = s.unseen;
     even = s.even;
   }
 
-  -- some block may be open
+  -- some counter may be open
   pub some_open : (found many k : ℕ) (p : CounterView T) → StandsInOrder found 0 k p → StandsInOrder found many k p
   some_open found many k p s = record {
     before = s.before;
-    after = λ le. ⊎_elim {C = (p.stage ≡ Waiting) ⊎ ((p.stage ≡ Open) × (k + 1 ≡ many))} (λ w. inl w) (λ t. absurd (omega (arith, t.1))) (s.after le);
+    after = λ le. ⊎_elim {C = (p.state ≡ Waiting) ⊎ ((p.state ≡ Open) × (k + 1 ≡ many))} (λ w. inl w) (λ t. absurd (omega (arith, t.1))) (s.after le);
     unseen = s.unseen;
     even = s.even;
   }
@@ -216,26 +216,26 @@ module _ {T : Type 0} where
   pub order_any : (found many : ℕ) (ps : List (CounterView T)) → InOrder found 0 ps → InOrder found many ps
   order_any found many ps o = record { within = o.within; each = λ k p at. some_open found many k p (o.each k p at); numbered = o.numbered }
 
-  pub order_closed : (found : ℕ) (ps : List (CounterView T)) → InOrder found (length ps) ps → ((k : ℕ) (p : CounterView T) → k + 1 ≡ length ps → get_elem? ps k ≡ some p → p.stage ≢ Open) → InOrder found 0 ps
+  pub order_closed : (found : ℕ) (ps : List (CounterView T)) → InOrder found (length ps) ps → ((k : ℕ) (p : CounterView T) → k + 1 ≡ length ps → get_elem? ps k ≡ some p → p.state ≢ Open) → InOrder found 0 ps
   order_closed found ps o ne = record { within = o.within; each = λ k p at. none_open found (length ps) k p (o.each k p at) (λ l. ne k p l at); numbered = o.numbered }
 
-  -- after the blocks that were found ready
-  pub is_after : (found many k : ℕ) (p : CounterView T) → StandsInOrder found many k p → p.stage ≡ Open → found ≤ k
+  -- after the counters that were found ready
+  pub is_after : (found many k : ℕ) (p : CounterView T) → StandsInOrder found many k p → p.state ≡ Open → found ≤ k
   is_after found many k p s e = dite (ℕ_discrete (found - k) 0) (λ z. omega arith) (λ ne. let r = s.before (omega arith) in let f : Open ≡ Ready = sym e ∙ r in absurd (cc))
 
-  -- the parent gives up its party in the last block
-  pub order_close : (found : ℕ) (ps : List (CounterView T)) (k : ℕ) (p q : CounterView T) → InOrder found (length ps) ps → k + 1 ≡ length ps → get_elem? ps k ≡ some p → p.stage ≡ Open → q ≡ record p { stage = Waiting } → InOrder found 0 (set ps k q)
+  -- the parent gives up its party in the last counter
+  pub order_close : (found : ℕ) (ps : List (CounterView T)) (k : ℕ) (p q : CounterView T) → InOrder found (length ps) ps → k + 1 ≡ length ps → get_elem? ps k ≡ some p → p.state ≡ Open → q ≡ record p { state = Waiting } → InOrder found 0 (set ps k q)
   order_close found ps k p q o l at opens is = let s = o.each k p at in
       order_set found found (length ps) 0 ps k q o o.within (numbered_set 0 ps k p q o.numbered at (ap (λ (y : CounterView T). y.first) is) (ap (λ (y : CounterView T). length y.tags) is))
       record {
         before = λ lt. let le = is_after found (length ps) k p s opens in absurd (omega arith);
-        after = λ _. inl (ap (λ (y : CounterView T). y.stage) is);
+        after = λ _. inl (ap (λ (y : CounterView T). y.state) is);
         unseen = λ lt. ap (λ (y : CounterView T). y.loads) is ∙ s.unseen lt;
         even = ap (λ (y : CounterView T). length y.taken) is ∙ s.even ∙ ap (λ (y : CounterView T). length y.tags) (sym is);
       }
       (λ j u here ne. none_open found (length ps) j u (o.each j u here) (λ m. absurd (ne (omega arith))))
 
-  pub same_close : (ps : List (CounterView T)) (k : ℕ) (p q : CounterView T) → get_elem? ps k ≡ some p → q ≡ record p { stage = Waiting } → Searched ps (set ps k q) []
+  pub same_close : (ps : List (CounterView T)) (k : ℕ) (p q : CounterView T) → get_elem? ps k ≡ some p → q ≡ record p { state = Waiting } → Searched ps (set ps k q) []
   same_close ps k p q at is = record {
     tags = tags_set ps k p q at (ap (λ (y : CounterView T). y.tags) is);
     taken = taken_set ps k p q at (ap (λ (y : CounterView T). y.taken) is);
@@ -245,13 +245,13 @@ module _ {T : Type 0} where
   pub same_all : (ps : List (CounterView T)) → Searched ps ps []
   same_all ps = record { tags = refl; taken = refl; loads = sym (append-nil (loads_of ps)) }
 
-  -- a look at the block `found` reads 0
-  pub reads_ready : (us ps : List (CounterView T)) (found passed : ℕ) (p q : CounterView T) → InOrder found 0 ps → Searched us ps (replicate passed 0) → get_elem? ps found ≡ some p → q ≡ record p { stage = Ready; loads = p.loads ++ 0 ∷ [] }
+  -- a look at the counter `found` reads 0
+  pub reads_ready : (us ps : List (CounterView T)) (found passed : ℕ) (p q : CounterView T) → InOrder found 0 ps → Searched us ps (replicate passed 0) → get_elem? ps found ≡ some p → q ≡ record p { state = Ready; loads = p.loads ++ 0 ∷ [] }
       → InOrder (found + 1) 0 (set ps found q) × Searched us (set ps found q) (replicate (passed + 1) 0)
   reads_ready us ps found passed p q o r at is = let s = o.each found p at in let lt = below ps found p at in (
     order_set found (found + 1) 0 0 ps found q o (omega arith) (numbered_set 0 ps found p q o.numbered at (ap (λ (y : CounterView T). y.first) is) (ap (λ (y : CounterView T). length y.tags) is))
         record {
-          before = λ _. ap (λ (y : CounterView T). y.stage) is;
+          before = λ _. ap (λ (y : CounterView T). y.state) is;
           after = λ le. absurd (omega arith);
           unseen = λ l. absurd (omega arith);
           even = ap (λ (y : CounterView T). length y.taken) is ∙ s.even ∙ ap (λ (y : CounterView T). length y.tags) (sym is);
@@ -271,7 +271,7 @@ module _ {T : Type 0} where
     order_set found found 0 0 ps found q o o.within (numbered_set 0 ps found p q o.numbered at (ap (λ (y : CounterView T). y.first) is) (ap (λ (y : CounterView T). length y.tags) is))
         record {
           before = λ l. absurd (omega arith);
-          after = λ le. ⊎_elim {C = (q.stage ≡ Waiting) ⊎ ((q.stage ≡ Open) × (found + 1 ≡ 0))} (λ w. inl (ap (λ (y : CounterView T). y.stage) is ∙ w)) (λ t. absurd (omega (arith, t.1))) (s.after le);
+          after = λ le. ⊎_elim {C = (q.state ≡ Waiting) ⊎ ((q.state ≡ Open) × (found + 1 ≡ 0))} (λ w. inl (ap (λ (y : CounterView T). y.state) is ∙ w)) (λ t. absurd (omega (arith, t.1))) (s.after le);
           unseen = λ l. absurd (omega arith);
           even = ap (λ (y : CounterView T). length y.taken) is ∙ s.even ∙ ap (λ (y : CounterView T). length y.tags) (sym is);
         }
@@ -293,9 +293,9 @@ module _ {T : Type 0} where
   pub few_owe : (us ps : List (CounterView T)) (found n : ℕ) (read : List ℕ) (p : CounterView T) → Searched us ps read → get_elem? ps found ≡ some p → n ≤ length p.tags → n ≤ length (tags_of us)
   few_owe us ps found n read p r at le = omega (arith, long_tags ps found p at, ap length r.tags)
 
-  -- the block that is looked at waits
-  pub is_waiting : (ps : List (CounterView T)) (found : ℕ) (p : CounterView T) → InOrder found 0 ps → get_elem? ps found ≡ some p → p.stage ≡ Waiting
-  is_waiting ps found p o at = ⊎_elim {C = p.stage ≡ Waiting} (λ w. w) (λ t. absurd (omega (arith, t.1))) ((o.each found p at).after (omega arith))
+  -- the counter that is looked at waits
+  pub is_waiting : (ps : List (CounterView T)) (found : ℕ) (p : CounterView T) → InOrder found 0 ps → get_elem? ps found ≡ some p → p.state ≡ Waiting
+  is_waiting ps found p o at = ⊎_elim {C = p.state ≡ Waiting} (λ w. w) (λ t. absurd (omega (arith, t.1))) ((o.each found p at).after (omega arith))
 
   pub all_found : (ps : List (CounterView T)) (found : ℕ) → InOrder found 0 ps → length ps ≤ found → all_ready ps ≡ true
   all_found ps found o le = ready_of ps (λ k p at. let lt = below ps k p at in (o.each k p at).before (omega arith))
@@ -304,11 +304,11 @@ module _ {T : Type 0} where
   short_of [] found o lt = absurd (omega arith)
   short_of (x ∷ xs) found o lt = let at = at_or (x ∷ xs) found x lt in owing_of (x ∷ xs) found _ at (ap is_ready (is_waiting (x ∷ xs) found _ o at))
 
-  -- the last block isn't open
-  pub order_stays : (found : ℕ) (ps : List (CounterView T)) (k : ℕ) (p : CounterView T) → InOrder found (length ps) ps → k + 1 ≡ length ps → get_elem? ps k ≡ some p → holds_party p.stage ≡ false → InOrder found 0 ps
+  -- the last counter isn't open
+  pub order_stays : (found : ℕ) (ps : List (CounterView T)) (k : ℕ) (p : CounterView T) → InOrder found (length ps) ps → k + 1 ≡ length ps → get_elem? ps k ≡ some p → holds_party p.state ≡ false → InOrder found 0 ps
   order_stays found ps k p o l at e = order_closed found ps o (λ j u m here.
       let same : j ≡ k = omega arith in
-      not_open u.stage (ap (λ (y : CounterView T). holds_party y.stage) (some-injective u p (sym here ∙ ap (get_elem? ps) same ∙ at)) ∙ e))
+      not_open u.state (ap (λ (y : CounterView T). holds_party y.state) (some-injective u p (sym here ∙ ap (get_elem? ps) same ∙ at)) ∙ e))
 
   -- what a look makes of the join
   pub finds_all : (us vs : List (CounterView T)) (f : FindsAll us vs) → known vs ≡ joined (tags_of us) (taken_of us) true (loads_of us ++ replicate f.passed 0)

@@ -8,8 +8,8 @@ use Rattle.atomic_table.specs.Table.{Me, Act, keeps, takes, gives, Valid, Allows
 use Rattle.meet_block.specs.declared.view.SeatState.{SeatState}
 use Rattle.meet_block.specs.declared.view.SeatState.TheVariants.{Open, Waiting, Ready, Owes, Claimed, Arrived}
 use Rattle.meet_block.specs.declared.view.View.{View}
-use Rattle.meet_block.specs.Counter.{SlotContent, parent, child, has_arrived, arrivals, Counts, IsFull, SlotHolds, Places, Fits, Obeys, opened, given, claimed, arrived, closed, Looked, Took}
-use Rattle.meet_block.proofs.Seats.{stage_arrived, arrived_one, arrivals_set, arrivals_more, arrivals_most, arrivals_less, spot, places_set, places_take, places_more, as_many, seat_at}
+use Rattle.meet_block.specs.Counter.{SlotContent, parent, child, has_arrived, arrivals, Counts, IsFull, SlotHolds, Slots, Fits, Obeys, opened, given, claimed, arrived, closed, Looked, Took}
+use Rattle.meet_block.proofs.Seats.{stage_arrived, arrived_one, arrivals_set, arrivals_more, arrivals_most, arrivals_less, spot, slots_set, slots_take, slots_more, as_many, seat_at}
 
 abbrev IsChild : SeatState → Type 0
 IsChild Owes = Unit {0}
@@ -51,8 +51,8 @@ less_one w pos lt = omega arith
 falls : (w a n g : ℕ) → w + a ≡ 17 → a ≤ n → g ≡ n → g ≤ 16 → ((w + (2 ^ 64 - (17 - g))) % 2 ^ 64) + a ≡ n
 falls w a n g e le same most = omega arith
 
-arrived_at : {T : Type 0} (cs : List (View T)) (k : ℕ) (v : View T) → arrivals cs ≡ length cs → get_elem? cs k ≡ some v → has_arrived v.stage ≤ 1 → has_arrived v.stage ≡ 1
-arrived_at cs k v e at le = dite (ℕ_discrete (has_arrived v.stage) 0) (λ z. let less = arrivals_less cs k v at z in absurd (omega arith)) (λ ne. omega arith)
+arrived_at : {T : Type 0} (cs : List (View T)) (k : ℕ) (v : View T) → arrivals cs ≡ length cs → get_elem? cs k ≡ some v → has_arrived v.state ≤ 1 → has_arrived v.state ≡ 1
+arrived_at cs k v e at le = dite (ℕ_discrete (has_arrived v.state) 0) (λ z. let less = arrivals_less cs k v at z in absurd (omega arith)) (λ ne. omega arith)
 
 module _ {A T : Type 0} (tag : A → T) where
   place_child : (t : T) (b : Bool) (s : SeatState) (h : Maybe (SlotContent A)) → SlotHolds tag t b s h → IsChild s
@@ -68,44 +68,44 @@ module _ {A T : Type 0} (tag : A → T) where
   not_taken t true Arrived h ne p = absurd (ne refl)
   not_taken t true _ h ne p = absurd p
 
-  child_case : (v : View T) → IsChild v.stage → (G : List ℕ → List (View T) → ℕ → Type 0) → (homes : List (Maybe (SlotContent A)))
-      → ((w j : ℕ) (p : View T) (cs : List (View T)) → length homes ≡ 16 → Counts p.stage w (arrivals cs) (length cs) → Places tag [] p.tags p.taken cs homes → get_elem? cs j ≡ some v → G (w ∷ []) (p ∷ cs) (suc j))
+  child_case : (v : View T) → IsChild v.state → (G : List ℕ → List (View T) → ℕ → Type 0) → (homes : List (Maybe (SlotContent A)))
+      → ((w j : ℕ) (p : View T) (cs : List (View T)) → length homes ≡ 16 → Counts p.state w (arrivals cs) (length cs) → Slots tag [] p.tags p.taken cs homes → get_elem? cs j ≡ some v → G (w ∷ []) (p ∷ cs) (suc j))
       → (words : List ℕ) (views : List (View T)) (id : ℕ) → Fits tag words homes views → get_elem? views id ≡ some v → G words views id
   child_case v i G homes k (w ∷ []) (p ∷ cs) zero f at =
-      absurd (not_both v.stage (subst (λ (x : View T). IsParent x.stage) (some-injective p v at) (counts_parent p.stage w (arrivals cs) (length cs) f.1)) i)
+      absurd (not_both v.state (subst (λ (x : View T). IsParent x.state) (some-injective p v at) (counts_parent p.state w (arrivals cs) (length cs) f.1)) i)
   child_case v i G homes k (w ∷ []) (p ∷ cs) (suc j) f at = k w j p cs f.0 f.1 f.2 at
   child_case v i G homes k _ _ id f at = absurd f
 
-  parent_case : (v : View T) → IsParent v.stage → (G : List ℕ → List (View T) → ℕ → Type 0) → (homes : List (Maybe (SlotContent A)))
-      → ((w : ℕ) (cs : List (View T)) → length homes ≡ 16 → Counts v.stage w (arrivals cs) (length cs) → Places tag [] v.tags v.taken cs homes → G (w ∷ []) (v ∷ cs) 0)
+  parent_case : (v : View T) → IsParent v.state → (G : List ℕ → List (View T) → ℕ → Type 0) → (homes : List (Maybe (SlotContent A)))
+      → ((w : ℕ) (cs : List (View T)) → length homes ≡ 16 → Counts v.state w (arrivals cs) (length cs) → Slots tag [] v.tags v.taken cs homes → G (w ∷ []) (v ∷ cs) 0)
       → (words : List ℕ) (views : List (View T)) (id : ℕ) → Fits tag words homes views → get_elem? views id ≡ some v → G words views id
   parent_case v i G homes k (w ∷ []) (p ∷ cs) zero f at =
       let e = some-injective p v at in
       subst (λ (x : View T). G (w ∷ []) (x ∷ cs) 0) (sym e)
-      (k w cs f.0 (subst (λ (x : View T). Counts x.stage w (arrivals cs) (length cs)) e f.1) (subst (λ (x : View T). Places tag [] x.tags x.taken cs homes) e f.2))
-  parent_case v i G homes k (w ∷ []) (p ∷ cs) (suc j) f at = let s = spot tag [] p.tags p.taken cs homes j v f.2 at in absurd (not_both v.stage i (place_child s.t s.b v.stage s.h s.place))
+      (k w cs f.0 (subst (λ (x : View T). Counts x.state w (arrivals cs) (length cs)) e f.1) (subst (λ (x : View T). Slots tag [] x.tags x.taken cs homes) e f.2))
+  parent_case v i G homes k (w ∷ []) (p ∷ cs) (suc j) f at = let s = spot tag [] p.tags p.taken cs homes j v f.2 at in absurd (not_both v.state i (place_child s.t s.b v.state s.h s.slot))
   parent_case v i G homes k _ _ id f at = absurd f
 
-  few : (before ts : List T) (bs : List Bool) (cs : List (View T)) (homes : List (Maybe (SlotContent A))) → Places tag before ts bs cs homes → length cs ≤ length homes
+  few : (before ts : List T) (bs : List Bool) (cs : List (View T)) (homes : List (Maybe (SlotContent A))) → Slots tag before ts bs cs homes → length cs ≤ length homes
   few before [] [] [] homes p = omega arith
   few before (t ∷ ts) (b ∷ bs) (c ∷ cs) (h ∷ hs) p = omega (arith, few (before ++ t ∷ []) ts bs cs hs p.3)
   few before _ _ _ _ p = absurd p
 
   -- the split
-  splits_on : (id : ℕ) (v : View T) (t : T) → v.stage ≡ Open → length v.tags < 16 → (homes : List (Maybe (SlotContent A))) (words : List ℕ) (views : List (View T)) → Fits tag words homes views → get_elem? views id ≡ some v
+  splits_on : (id : ℕ) (v : View T) (t : T) → v.state ≡ Open → length v.tags < 16 → (homes : List (Maybe (SlotContent A))) (words : List ℕ) (views : List (View T)) → Fits tag words homes views → get_elem? views id ≡ some v
       → Fits tag words homes (slice_set views id (opened (Some t) v) ++ given (Some t) v ∷ [])
   splits_on id v t o lt homes words views f at =
       parent_case v (subst IsParent (sym o) tt) (λ words views k. Fits tag words homes (slice_set views k (opened (Some t) v) ++ given (Some t) v ∷ [])) homes
       (λ w cs wide c p.
       let n = as_many tag [] v.tags v.taken cs homes p in
       let q : Counts Open w (arrivals cs) (length cs) = subst (λ (s : SeatState). Counts s w (arrivals cs) (length cs)) o c in
-      (wide, omega (arith, arrivals_more cs (given (Some t) v)), places_more tag [] v.tags v.taken cs homes t p (omega arith)))
+      (wide, omega (arith, arrivals_more cs (given (Some t) v)), slots_more tag [] v.tags v.taken cs homes t p (omega arith)))
       words views id f at
 
-  pub splits : (id : ℕ) (v : View T) (t : T) → v.stage ≡ Open → length v.tags < 16 → Splits (Obeys tag) id v (opened (Some t) v) (given (Some t) v)
+  pub splits : (id : ℕ) (v : View T) (t : T) → v.state ≡ Open → length v.tags < 16 → Splits (Obeys tag) id v (opened (Some t) v) (given (Some t) v)
   splits id v t o lt s holds at = splits_on id v t o lt s.homes s.words s.views holds at
 
-  -- the child's place is j
+  -- the child's slot is j
   at_place : (v : View T) (j : ℕ) (pre : List T) (t : T) → v.tags ≡ pre ++ t ∷ [] → length pre ≡ 0 + j → length v.tags - 1 ≡ j
   at_place v j pre t e m = omega (arith, ap length e, length-append pre (t ∷ []))
 
@@ -116,7 +116,7 @@ module _ {A T : Type 0} (tag : A → T) where
   claim_place t true Arrived h e p = absurd (cc)
   claim_place t _ _ h e p = absurd p
 
-  claims_on : (n id : ℕ) (v : View T) → v.stage ≡ Owes → Allows (Obeys tag) n id (v, []) 0 (λ w. w) (λ _ k. k ≡ claimed (v, []))
+  claims_on : (n id : ℕ) (v : View T) → v.state ≡ Owes → Allows (Obeys tag) n id (v, []) 0 (λ w. w) (λ _ k. k ≡ claimed (v, []))
   claims_on n id v o s holds wide at small =
       let homes = s.homes in
       child_case v (subst IsChild (sym o) tt)
@@ -126,24 +126,24 @@ module _ {A T : Type 0} (tag : A → T) where
       let x = spot tag [] p.tags p.taken cs homes j v pl here in
       let w' : View T = child v.own Claimed v.tags in
       let at_j = at_place v j x.pre x.t x.tags x.many in
-      let none_there = claim_place x.t x.b v.stage x.h o x.place in
-      let zero_v : has_arrived v.stage ≡ 0 = ap has_arrived o in (
+      let none_there = claim_place x.t x.b v.state x.h o x.slot in
+      let zero_v : has_arrived v.state ≡ 0 = ap has_arrived o in (
         w',
         takes (length v.tags - 1) None,
         subst (λ (i : ℕ). get_elem? homes i ≡ some (some None)) (sym at_j) (x.home_at ∙ ap some none_there),
         subst (λ (i : ℕ). Fits tag (w ∷ []) (set homes i none) (p ∷ set cs j w')) (sym at_j) (
           omega (arith, length-set homes j none),
-          counts_same p.stage w (arrivals cs) (arrivals (set cs j w')) (length cs) (length (set cs j w')) (omega (arith, arrivals_set cs j v w' here)) (length-set cs j w') c,
-          places_set tag [] p.tags p.taken cs homes j v w' none pl here refl refl (λ t b h e q. subst (λ (a : Bool). SlotHolds tag t a Claimed none) (sym (not_taken t b v.stage h (λ r. let k = sym o ∙ r in (cc)) q)) refl),
+          counts_same p.state w (arrivals cs) (arrivals (set cs j w')) (length cs) (length (set cs j w')) (omega (arith, arrivals_set cs j v w' here)) (length-set cs j w') c,
+          slots_set tag [] p.tags p.taken cs homes j v w' none pl here refl refl (λ t b h e q. subst (λ (a : Bool). SlotHolds tag t a Claimed none) (sym (not_taken t b v.state h (λ r. let k = sym o ∙ r in (cc)) q)) refl),
         ),
         refl,
       ))
       s.words s.views id holds at
 
-  pub claims : (n id : ℕ) (m : Me (SlotContent A) (View T)) → m.0.stage ≡ Owes → m.1 ≡ [] → Allows (Obeys tag) n id m 0 (λ w. w) (λ _ k. k ≡ claimed m)
+  pub claims : (n id : ℕ) (m : Me (SlotContent A) (View T)) → m.0.state ≡ Owes → m.1 ≡ [] → Allows (Obeys tag) n id m 0 (λ w. w) (λ _ k. k ≡ claimed m)
   claims n id m o e = subst (λ (c : List (ℕ × SlotContent A)). Allows (Obeys tag) n id (m.0, c) 0 (λ w. w) (λ _ k. k ≡ claimed (m.0, c))) (sym e) (claims_on n id m.0 o)
 
-  arrives_on : (n id : ℕ) (v : View T) (value : A) → v.stage ≡ Claimed → tag value ≡ v.own
+  arrives_on : (n id : ℕ) (v : View T) (value : A) → v.state ≡ Claimed → tag value ≡ v.own
       → Allows (Obeys tag) n id (v, (length v.tags - 1, Some (Some value)) ∷ []) 0 (λ w. (w + (2 ^ 64 - 1)) % 2 ^ 64) (λ _ k. k ≡ arrived (v, (length v.tags - 1, Some (Some value)) ∷ []))
   arrives_on n id v value o mine s holds wide at small =
       let homes = s.homes in let held : List (ℕ × SlotContent A) = (length v.tags - 1, Some (Some value)) ∷ [] in
@@ -155,23 +155,23 @@ module _ {A T : Type 0} (tag : A → T) where
       let x = spot tag [] p.tags p.taken cs homes j v pl here in
       let w' : View T = child v.own Arrived v.tags in
       let at_j = at_place v j x.pre x.t x.tags x.many in
-      let zero_v : has_arrived v.stage ≡ 0 = ap has_arrived o in
+      let zero_v : has_arrived v.state ≡ 0 = ap has_arrived o in
       let less = arrivals_less cs j v here zero_v in
       let most = few [] p.tags p.taken cs homes pl in
-      let fall = counts_fall p.stage w (arrivals cs) (arrivals (set cs j w')) (length cs) c less (omega arith) (omega (arith, arrivals_set cs j v w' here)) in (
+      let fall = counts_fall p.state w (arrivals cs) (arrivals (set cs j w')) (length cs) c less (omega arith) (omega (arith, arrivals_set cs j v w' here)) in (
         w',
         gives,
         tt,
         subst (λ (i : ℕ). Fits tag (((w + (2 ^ 64 - 1)) % 2 ^ 64) ∷ []) (set homes i (some (Some (Some value)))) (p ∷ set cs j w')) (sym at_j) (
           omega (arith, length-set homes j (some (Some (Some value)))),
-          subst (λ (y : ℕ). Counts p.stage y (arrivals (set cs j w')) (length (set cs j w'))) (sym (less_one w fall.0 lt)) (counts_same p.stage (w - 1) (arrivals (set cs j w')) (arrivals (set cs j w')) (length cs) (length (set cs j w')) refl (length-set cs j w') fall.1),
-          places_set tag [] p.tags p.taken cs homes j v w' (some (Some (Some value))) pl here refl refl (λ t b h e q. subst (λ (a : Bool). SlotHolds tag t a Arrived (some (Some (Some value)))) (sym (not_taken t b v.stage h (λ r. let k = sym o ∙ r in (cc)) q)) (value, refl, mine ∙ e)),
+          subst (λ (y : ℕ). Counts p.state y (arrivals (set cs j w')) (length (set cs j w'))) (sym (less_one w fall.0 lt)) (counts_same p.state (w - 1) (arrivals (set cs j w')) (arrivals (set cs j w')) (length cs) (length (set cs j w')) refl (length-set cs j w') fall.1),
+          slots_set tag [] p.tags p.taken cs homes j v w' (some (Some (Some value))) pl here refl refl (λ t b h e q. subst (λ (a : Bool). SlotHolds tag t a Arrived (some (Some (Some value)))) (sym (not_taken t b v.state h (λ r. let k = sym o ∙ r in (cc)) q)) (value, refl, mine ∙ e)),
         ),
         refl,
       ))
       s.words s.views id holds at small
 
-  gives_up_on : (n id : ℕ) (v : View T) → v.stage ≡ Open → length v.tags ≤ 16
+  gives_up_on : (n id : ℕ) (v : View T) → v.state ≡ Open → length v.tags ≤ 16
       → Allows (Obeys tag) n id (v, []) 0 (λ w. (w + (2 ^ 64 - (17 - length v.tags))) % 2 ^ 64) (λ _ k. k ≡ closed (v, []))
   gives_up_on n id v o most s holds wide at small =
       let homes = s.homes in
@@ -186,7 +186,7 @@ module _ {A T : Type 0} (tag : A → T) where
       (parent v.own Waiting v.tags v.taken v.loads, keeps, tt, (len, falls w (arrivals cs) (length cs) (length v.tags) q came many most, pl), refl))
       s.words s.views id holds at small
 
-  looks_on : (n id : ℕ) (v : View T) → v.stage ≡ Waiting → Allows (Obeys tag) n id (v, []) 0 (λ w. w) (λ r k. Looked (v, []) r k)
+  looks_on : (n id : ℕ) (v : View T) → v.state ≡ Waiting → Allows (Obeys tag) n id (v, []) 0 (λ w. w) (λ r k. Looked (v, []) r k)
   looks_on n id v o s holds wide at small =
       let homes = s.homes in
       parent_case v (subst IsParent (sym o) tt)
@@ -206,43 +206,43 @@ module _ {A T : Type 0} (tag : A → T) where
   take_place t Arrived h e p = p
   take_place t _ h e p = absurd p
 
-  all_arrived : (cs : List (View T)) (k : ℕ) (v : View T) → arrivals cs ≡ length cs → get_elem? cs k ≡ some v → v.stage ≡ Arrived
-  all_arrived cs k v e at = stage_arrived v.stage (arrived_at cs k v e at (arrived_one v.stage))
+  all_arrived : (cs : List (View T)) (k : ℕ) (v : View T) → arrivals cs ≡ length cs → get_elem? cs k ≡ some v → v.state ≡ Arrived
+  all_arrived cs k v e at = stage_arrived v.state (arrived_at cs k v e at (arrived_one v.state))
 
-  took_on : (n id place : ℕ) (v : View T) (l : List (ℕ × SlotContent A)) → v.stage ≡ Ready → get_elem? v.taken place ≡ some false → Allows (Obeys tag) n id (v, l) 0 (λ w. w) (λ _ k. Took tag place (v, l) k)
-  took_on n id place v l o left s holds wide at small =
+  took_on : (n id slot : ℕ) (v : View T) (l : List (ℕ × SlotContent A)) → v.state ≡ Ready → get_elem? v.taken slot ≡ some false → Allows (Obeys tag) n id (v, l) 0 (λ w. w) (λ _ k. Took tag slot (v, l) k)
+  took_on n id slot v l o left s holds wide at small =
       let homes = s.homes in
       parent_case v (subst IsParent (sym o) tt)
-      (λ words views k. (w : View T) × (a : Act (SlotContent A)) × Valid homes l a × Fits tag (slice_set words 0 (slice_index words 0)) (homes_after homes l a) (slice_set views k w) × Took tag place (v, l) (w, carried_after l a))
+      (λ words views k. (w : View T) × (a : Act (SlotContent A)) × Valid homes l a × Fits tag (slice_set words 0 (slice_index words 0)) (homes_after homes l a) (slice_set views k w) × Took tag slot (v, l) (w, carried_after l a))
       homes
       (λ w cs len c pl.
       let q : Counts Ready w (arrivals cs) (length cs) = subst (λ (s : SeatState). Counts s w (arrivals cs) (length cs)) o c in
-      let seat = seat_at tag [] v.tags v.taken cs homes place false pl left in
-      let x = spot tag [] v.tags v.taken cs homes place seat.0 pl seat.1 in
-      let full = take_place x.t seat.0.stage x.h (all_arrived cs place seat.0 q.1 seat.1) (subst (λ (b : Bool). SlotHolds tag x.t b seat.0.stage x.h) (some-injective x.b false (sym x.taken_at ∙ left)) x.place) in (
-        parent v.own Ready v.tags (slice_set v.taken place true) v.loads,
-        takes place (Some (Some full.0)),
+      let seat = seat_at tag [] v.tags v.taken cs homes slot false pl left in
+      let x = spot tag [] v.tags v.taken cs homes slot seat.0 pl seat.1 in
+      let full = take_place x.t seat.0.state x.h (all_arrived cs slot seat.0 q.1 seat.1) (subst (λ (b : Bool). SlotHolds tag x.t b seat.0.state x.h) (some-injective x.b false (sym x.taken_at ∙ left)) x.slot) in (
+        parent v.own Ready v.tags (slice_set v.taken slot true) v.loads,
+        takes slot (Some (Some full.0)),
         x.home_at ∙ ap some full.1,
-        (omega (arith, length-set homes place none), q, places_take tag [] v.tags v.taken cs homes place false pl left (λ k u here. all_arrived cs k u q.1 here)),
+        (omega (arith, length-set homes slot none), q, slots_take tag [] v.tags v.taken cs homes slot false pl left (λ k u here. all_arrived cs k u q.1 here)),
         (full.0, x.tag_at ∙ ap some (sym full.2), refl),
       ))
       s.words s.views id holds at
 
-  pub arrives : (n id place : ℕ) (m : Me (SlotContent A) (View T)) (v : View T) (value : A) → m ≡ (v, (place, Some (Some value)) ∷ []) → place + 1 ≡ length v.tags → v.stage ≡ Claimed → tag value ≡ v.own
+  pub arrives : (n id slot : ℕ) (m : Me (SlotContent A) (View T)) (v : View T) (value : A) → m ≡ (v, (slot, Some (Some value)) ∷ []) → slot + 1 ≡ length v.tags → v.state ≡ Claimed → tag value ≡ v.own
       → Allows (Obeys tag) n id m 0 (λ w. (w + (2 ^ 64 - 1)) % 2 ^ 64) (λ _ k. k ≡ arrived m)
-  arrives n id place m v value e here o mine =
-      let at : length v.tags - 1 ≡ place = omega arith in
+  arrives n id slot m v value e here o mine =
+      let at : length v.tags - 1 ≡ slot = omega arith in
       subst (λ (c : Me (SlotContent A) (View T)). Allows (Obeys tag) n id c 0 (λ w. (w + (2 ^ 64 - 1)) % 2 ^ 64) (λ _ k. k ≡ arrived c)) (sym e)
       (subst (λ (i : ℕ). Allows (Obeys tag) n id (v, (i, Some (Some value)) ∷ []) 0 (λ w. (w + (2 ^ 64 - 1)) % 2 ^ 64) (λ _ k. k ≡ arrived (v, (i, Some (Some value)) ∷ []))) at (arrives_on n id v value o mine))
 
-  pub gives_up : (n id k : ℕ) (m : Me (SlotContent A) (View T)) → m.0.stage ≡ Open → m.1 ≡ [] → k ≡ 17 - length m.0.tags → length m.0.tags ≤ 16
+  pub gives_up : (n id k : ℕ) (m : Me (SlotContent A) (View T)) → m.0.state ≡ Open → m.1 ≡ [] → k ≡ 17 - length m.0.tags → length m.0.tags ≤ 16
       → Allows (Obeys tag) n id m 0 (λ w. (w + (2 ^ 64 - k)) % 2 ^ 64) (λ _ x. x ≡ closed m)
   gives_up n id k m o e is most =
       subst (λ (c : List (ℕ × SlotContent A)). Allows (Obeys tag) n id (m.0, c) 0 (λ w. (w + (2 ^ 64 - k)) % 2 ^ 64) (λ _ x. x ≡ closed (m.0, c))) (sym e)
       (subst (λ (i : ℕ). Allows (Obeys tag) n id (m.0, []) 0 (λ w. (w + (2 ^ 64 - i)) % 2 ^ 64) (λ _ x. x ≡ closed (m.0, []))) (sym is) (gives_up_on n id m.0 o most))
 
-  pub looks : (n id : ℕ) (m : Me (SlotContent A) (View T)) → m.0.stage ≡ Waiting → m.1 ≡ [] → Allows (Obeys tag) n id m 0 (λ w. w) (λ r k. Looked m r k)
+  pub looks : (n id : ℕ) (m : Me (SlotContent A) (View T)) → m.0.state ≡ Waiting → m.1 ≡ [] → Allows (Obeys tag) n id m 0 (λ w. w) (λ r k. Looked m r k)
   looks n id m o e = subst (λ (c : List (ℕ × SlotContent A)). Allows (Obeys tag) n id (m.0, c) 0 (λ w. w) (λ r k. Looked (m.0, c) r k)) (sym e) (looks_on n id m.0 o)
 
-  pub took : (n id place : ℕ) (m : Me (SlotContent A) (View T)) → m.0.stage ≡ Ready → get_elem? m.0.taken place ≡ some false → Allows (Obeys tag) n id m 0 (λ w. w) (λ _ k. Took tag place m k)
-  took n id place m o left = took_on n id place m.0 m.1 o left
+  pub took : (n id slot : ℕ) (m : Me (SlotContent A) (View T)) → m.0.state ≡ Ready → get_elem? m.0.taken slot ≡ some false → Allows (Obeys tag) n id m 0 (λ w. w) (λ _ k. Took tag slot m k)
+  took n id slot m o left = took_on n id slot m.0 m.1 o left

@@ -1,4 +1,4 @@
--- The rule of a join counter: a table of one word and 16 slots. The parent's seat comes first, and then a seat for each place given, in order.
+-- The rule of a join counter: a table of one word and 16 slots. The parent's seat comes first, and then a seat for each slot given, in order.
 use Rattle.std.specs.Prelude.{◌≡◌, ◌≢◌, ℕ, ◌+◌, ◌-◌, ◌≤◌, Bool, true, false, List, [], ◌∷◌, ◌++◌, length, slice_set, Option, Some, None}
 use mathlib.Core.Option.{some, none, Option as Maybe}
 use lib.ListN.{get_elem?}
@@ -12,12 +12,12 @@ abbrev pub SlotContent : Type 0 → Type 0
 SlotContent A = Option (Option A)
 
 abbrev pub parent : {T : Type 0} → T → SeatState → List T → List Bool → List ℕ → View T
-parent t at ts bs ls = record { stage = at; own = t; tags = ts; taken = bs; loads = ls }
+parent t at ts bs ls = record { state = at; own = t; tags = ts; taken = bs; loads = ls }
 
 abbrev pub child : {T : Type 0} → T → SeatState → List T → View T
-child t at ts = record { stage = at; own = t; tags = ts; taken = []; loads = [] }
+child t at ts = record { state = at; own = t; tags = ts; taken = []; loads = [] }
 
--- whether the parent holds its own party, and so may give more places
+-- whether the parent holds its own party, and so may give more slots
 abbrev pub holds_party : SeatState → Bool
 holds_party Open = true
 holds_party _ = false
@@ -29,7 +29,7 @@ has_arrived _ = 0
 -- how many children have arrived
 abbrev pub arrivals : {T : Type 0} → List (View T) → ℕ
 arrivals [] = 0
-arrivals (c ∷ cs) = has_arrived c.stage + arrivals cs
+arrivals (c ∷ cs) = has_arrived c.state + arrivals cs
 
 -- how many values the parent hasn't taken
 abbrev pub untaken : List Bool → ℕ
@@ -37,7 +37,7 @@ untaken [] = 0
 untaken (true ∷ bs) = untaken bs
 untaken (false ∷ bs) = untaken bs + 1
 
--- What the word says. While the parent holds its own party it is 17 less the children that have arrived, and then the number of given places that owe
+-- What the word says. While the parent holds its own party it is 17 less the children that have arrived, and then the number of given slots that owe
 abbrev pub Counts : SeatState → ℕ → ℕ → ℕ → Type 0
 Counts Open word arrived given = word + arrived ≡ 17
 Counts Waiting word arrived given = word + arrived ≡ given
@@ -49,7 +49,7 @@ module _ {A T : Type 0} (tag : A → T) where
   abbrev pub IsFull : T → Maybe (SlotContent A) → Type 0
   IsFull t home = (value : A) × (home ≡ some (Some (Some value))) × (tag value ≡ t)
 
-  -- A given place: its tag, whether its value was taken, the stage of its child, and its slot. The slot is home and empty until the child claims it, out
+  -- A given slot: its tag, whether its value was taken, the state of its child, and what it holds. It is home and empty until the child claims it, out
   -- with the child until that arrives, then home with a value of the tag, and out with the parent from the take on
   abbrev pub SlotHolds : T → Bool → SeatState → Maybe (SlotContent A) → Type 0
   SlotHolds t false Owes home = home ≡ some None
@@ -58,19 +58,19 @@ module _ {A T : Type 0} (tag : A → T) where
   SlotHolds t true Arrived home = home ≡ none
   SlotHolds t _ _ home = ⊥
 
-  -- the places that were not given
+  -- the slots that were not given
   abbrev pub Vacant : List (Maybe (SlotContent A)) → Type 0
   Vacant [] = Unit {0}
   Vacant (h ∷ hs) = (h ≡ some None) × Vacant hs
 
-  -- the places from the one after `before` on, each with one seat
-  abbrev pub Places : List T → List T → List Bool → List (View T) → List (Maybe (SlotContent A)) → Type 0
-  Places before [] [] [] homes = Vacant homes
-  Places before (t ∷ ts) (b ∷ bs) (c ∷ cs) (h ∷ hs) = (c.own ≡ t) × (c.tags ≡ before ++ t ∷ []) × SlotHolds t b c.stage h × Places (before ++ t ∷ []) ts bs cs hs
-  Places before _ _ _ _ = ⊥
+  -- the slots from the one after `before` on, each with one seat
+  abbrev pub Slots : List T → List T → List Bool → List (View T) → List (Maybe (SlotContent A)) → Type 0
+  Slots before [] [] [] homes = Vacant homes
+  Slots before (t ∷ ts) (b ∷ bs) (c ∷ cs) (h ∷ hs) = (c.own ≡ t) × (c.tags ≡ before ++ t ∷ []) × SlotHolds t b c.state h × Slots (before ++ t ∷ []) ts bs cs hs
+  Slots before _ _ _ _ = ⊥
 
   abbrev pub Fits : List ℕ → List (Maybe (SlotContent A)) → List (View T) → Type 0
-  Fits (w ∷ []) homes (p ∷ cs) = (length homes ≡ 16) × Counts p.stage w (arrivals cs) (length cs) × Places [] p.tags p.taken cs homes
+  Fits (w ∷ []) homes (p ∷ cs) = (length homes ≡ 16) × Counts p.state w (arrivals cs) (length cs) × Slots [] p.tags p.taken cs homes
   Fits _ homes views = ⊥
 
   abbrev pub Obeys : State (SlotContent A) (View T) → Type 0
@@ -99,13 +99,13 @@ module _ {A T : Type 0} where
   abbrev pub closed : Me (SlotContent A) (View T) → Me (SlotContent A) (View T)
   closed m = (parent m.0.own Waiting m.0.tags m.0.taken m.0.loads, [])
 
-  -- a look read n, which joins the list: n of the given places owe
+  -- a look read n, which joins the list: n of the given slots owe
   abbrev pub Looked : Me (SlotContent A) (View T) → ℕ → Me (SlotContent A) (View T) → Type 0
   Looked m n after = (n ≤ length m.0.tags)
       × (n ≡ 0 → after ≡ (parent m.0.own Ready m.0.tags m.0.taken (m.0.loads ++ n ∷ []), []))
       × (n ≢ 0 → after ≡ (parent m.0.own Waiting m.0.tags m.0.taken (m.0.loads ++ n ∷ []), []))
 
-  -- the slot of the place is out with the parent, and has a value of the place's tag
+  -- the slot is out with the parent, and has a value of its tag
   abbrev pub Took : (A → T) → ℕ → Me (SlotContent A) (View T) → Me (SlotContent A) (View T) → Type 0
   Took tag k m after = (value : A) × (get_elem? m.0.tags k ≡ some (tag value))
       × (after ≡ (parent m.0.own Ready m.0.tags (slice_set m.0.taken k true) m.0.loads, (k, Some (Some value)) ∷ m.1))

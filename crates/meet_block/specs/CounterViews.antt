@@ -1,4 +1,4 @@
--- What a parent knows of the blocks of its join, in order.
+-- What a parent knows of the counters of its join, in order.
 use Rattle.std.specs.Prelude.{◌≡◌, ◌≢◌, ℕ, zero, suc, ◌+◌, ◌<◌, ◌≤◌, ◌==◌, ◌&&◌, ◌⊎◌, Bool, true, false, List, [], ◌∷◌, ◌++◌, length, replicate, if◌then◌else◌}
 use mathlib.Core.Option.{some}
 use lib.ListN.{get_elem?}
@@ -9,32 +9,32 @@ use Rattle.meet_block.specs.declared.view.View.{View}
 use Rattle.meet_block.specs.Counter.{SlotContent, untaken, holds_party}
 use Rattle.meet_block.specs.Joined.{Joined, joined}
 
--- the number of a block's first child, and what the parent's seat has seen
+-- the number of a counter's first child, and what the parent's seat has seen
 pub record CounterView (T : Type 0) : Type 0 where
   pub first : ℕ
-  pub stage : SeatState
+  pub state : SeatState
   pub tags : List T
   pub taken : List Bool
   pub loads : List ℕ
 
-abbrev pub part : {T : Type 0} → ℕ → View T → CounterView T
-part n v = record { first = n; stage = v.stage; tags = v.tags; taken = v.taken; loads = v.loads }
+abbrev pub counter_view : {T : Type 0} → ℕ → View T → CounterView T
+counter_view n v = record { first = n; state = v.state; tags = v.tags; taken = v.taken; loads = v.loads }
 
--- What a block keeps of its counter, where `gone` says that it let the counter go: the places given, the values that are left, whether the parent holds
+-- What the parent's end keeps of its counter, where `gone` says that it let the counter go: the slots given, the values that are left, whether the parent holds
 -- its own party, and the parent's seat
 pub record Keeps {A T : Type 0} (gone : Bool) (given left : ℕ) (own_party : Bool) (me : Me (SlotContent A) (View T)) : Type 0 where
-  pub let_go : gone ≡ true → (me.0.stage ≡ Ready) × (left ≡ 0)
+  pub let_go : gone ≡ true → (me.0.state ≡ Ready) × (left ≡ 0)
   pub placed : given ≡ length me.0.tags
   pub most : given ≤ 16
   pub remaining : left ≡ untaken me.0.taken
   pub few : left ≤ given
-  pub party : own_party ≡ holds_party me.0.stage
-  pub room : me.0.stage ≡ Open → given < 16
-  pub bare : me.0.stage ≢ Ready → me.1 ≡ []
+  pub party : own_party ≡ holds_party me.0.state
+  pub room : me.0.state ≡ Open → given < 16
+  pub bare : me.0.state ≢ Ready → me.1 ≡ []
 
--- the parent gives up its party with the 16th place
-abbrev pub stage_given : ℕ → SeatState
-stage_given n = if n == 16 then Waiting else Open
+-- the parent gives up its party with the 16th slot
+abbrev pub state_given : ℕ → SeatState
+state_given n = if n == 16 then Waiting else Open
 
 abbrev pub is_ready : SeatState → Bool
 is_ready Ready = true
@@ -42,7 +42,7 @@ is_ready _ = false
 
 module _ {T : Type 0} where
   abbrev pub handed : CounterView T → T → CounterView T
-  handed p t = record p { stage = stage_given (length (p.tags ++ t ∷ [])); tags = p.tags ++ t ∷ []; taken = p.taken ++ false ∷ [] }
+  handed p t = record p { state = state_given (length (p.tags ++ t ∷ [])); tags = p.tags ++ t ∷ []; taken = p.taken ++ false ∷ [] }
 
   abbrev pub tags_of : List (CounterView T) → List T
   tags_of [] = []
@@ -54,7 +54,7 @@ module _ {T : Type 0} where
 
   abbrev pub all_ready : List (CounterView T) → Bool
   all_ready [] = true
-  all_ready (p ∷ ps) = is_ready p.stage && all_ready ps
+  all_ready (p ∷ ps) = is_ready p.state && all_ready ps
 
   abbrev pub loads_of : List (CounterView T) → List ℕ
   loads_of [] = []
@@ -63,22 +63,22 @@ module _ {T : Type 0} where
   abbrev pub known : List (CounterView T) → Joined T
   known ps = joined (tags_of ps) (taken_of ps) (all_ready ps) (loads_of ps)
 
-  -- how many children stand before the block b
+  -- how many children stand before the counter b
   abbrev pub offset : List (CounterView T) → ℕ → ℕ
   offset ps zero = 0
   offset [] (suc b) = 0
   offset (p ∷ ps) (suc b) = length p.tags + offset ps b
 
-  -- each block knows the number of its first child, from n on
+  -- each counter knows the number of its first child, from n on
   abbrev pub Numbered : ℕ → List (CounterView T) → Type 0
   Numbered n [] = Unit {0}
   Numbered n (p ∷ ps) = (p.first ≡ n) × Numbered (n + length p.tags) ps
 
-  -- The block k. The first `found` were found ready, no look went past the one after them, and only the last block may be open: `many` is the number of
-  -- blocks, or 0 where none is open
+  -- The counter k. The first `found` were found ready, no look went past the one after them, and only the last counter may be open: `many` is the number of
+  -- counters, or 0 where none is open
   pub record StandsInOrder (found many k : ℕ) (p : CounterView T) : Type 0 where
-    pub before : k < found → p.stage ≡ Ready
-    pub after : found ≤ k → (p.stage ≡ Waiting) ⊎ ((p.stage ≡ Open) × (k + 1 ≡ many))
+    pub before : k < found → p.state ≡ Ready
+    pub after : found ≤ k → (p.state ≡ Waiting) ⊎ ((p.state ≡ Open) × (k + 1 ≡ many))
     pub unseen : found < k → p.loads ≡ []
     pub even : length p.taken ≡ length p.tags
 
@@ -89,7 +89,7 @@ module _ {T : Type 0} where
 
   abbrev pub ends_open : List (CounterView T) → Bool
   ends_open [] = false
-  ends_open (p ∷ []) = holds_party p.stage
+  ends_open (p ∷ []) = holds_party p.state
   ends_open (p ∷ q ∷ ps) = ends_open (q ∷ ps)
 
   -- a child more
@@ -109,7 +109,7 @@ module _ {T : Type 0} where
     pub passed : ℕ
     pub searched : Searched before after (replicate passed 0)
 
-  -- a look that stopped at the block b, of whose children n owe
+  -- a look that stopped at the counter b, of whose children n owe
   pub record FindsOwing (before after : List (CounterView T)) (b n : ℕ) : Type 0 where
     pub order : InOrder b 0 after
     pub within : b < length after
@@ -118,7 +118,7 @@ module _ {T : Type 0} where
     pub passed : ℕ
     pub searched : Searched before after (replicate passed 0 ++ n ∷ [])
 
-  -- the child i has its place in the block b, which is p
+  -- the child i has its slot in the counter b, which is p
   pub record Holds (ps : List (CounterView T)) (i b : ℕ) (p : CounterView T) : Type 0 where
     pub here : get_elem? ps b ≡ some p
     pub from : p.first ≡ offset ps b

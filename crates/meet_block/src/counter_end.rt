@@ -4,7 +4,7 @@ ghost use mathlib.Core.Option.{some};
 ghost use lib.ListN.{get_elem?};
 ghost use Rattle.meet_block.specs.declared.view.SeatState.TheVariants.{Open, Waiting, Ready};
 ghost use Rattle.meet_block.specs.Counter.{parent, opened, given, closed, holds_party};
-ghost use Rattle.meet_block.specs.CounterViews.{part, handed};
+ghost use Rattle.meet_block.specs.CounterViews.{counter_view, handed};
 
 use crate::give::Give;
 use crate::memory::Memory;
@@ -18,8 +18,8 @@ use std::alloc::Global;
 use std::marker::{Brand, Model};
 use std::sync::Arc;
 
-// A counter's places. The parent's own party is one more.
-const PLACES: u8 = 16;
+// A counter's slots. The parent's own party is one more.
+const SLOTS: u8 = 16;
 
 /// The parent's end of one join counter. Contracts see it as a `CounterView`.
 #[derive(Drop)]
@@ -27,11 +27,11 @@ pub struct CounterEnd<A: Tagged> {
     // None once all of its values were taken.
     counter: Option<Arc<Counter<A>, Global>>,
     seat: Seat<Option<Room<A>>, View<A::Key>>,
-    // The number of its first child, the places given, and the values that weren't taken.
+    // The number of its first child, the slots given, and the values that weren't taken.
     first: u64,
     given: u8,
     left: u8,
-    // Whether the parent still holds its own party, and so may give more places.
+    // Whether the parent still holds its own party, and so may give more slots.
     own_party: bool,
 }
 
@@ -39,11 +39,11 @@ impl<A: Tagged> Model for CounterEnd<A> {
     ghost use Rattle.std.specs.Prelude.{◌≡◌, is_none};
     ghost use Rattle.std.specs.Option.{ForSome};
     ghost use Rattle.std.specs.Arc.{arc_value};
-    ghost use Rattle.meet_block.specs.CounterViews.{CounterView, part, Keeps};
+    ghost use Rattle.meet_block.specs.CounterViews.{CounterView, counter_view, Keeps};
 
     ghost Value = { CounterView A.Key };
 
-    ghost view = { λ b. part b.first b.seat.me.0 };
+    ghost view = { λ b. counter_view b.first b.seat.me.0 };
 
     ghost invariant = { λ b.
         ForSome b.counter (λ c. (b.seat.table_id ≡ (arc_value c).shared.table_id)
@@ -51,7 +51,7 @@ impl<A: Tagged> Model for CounterEnd<A> {
         × Keeps (is_none b.counter) b.given b.left b.own_party b.seat.me };
 }
 
-// Gives a place to a child.
+// Gives a slot to a child.
 fn split<A: Tagged, W: TagOf<A::Key>>(
     counter: &Counter<A>,
     seat: &mut Seat<Option<Room<A>>, View<A::Key>>,
@@ -60,7 +60,7 @@ fn split<A: Tagged, W: TagOf<A::Key>>(
     requires told { W.told ≡ Some tag.now }
     requires here { seat.old.table_id ≡ counter.now.shared.table_id }
     requires sized { counter.now.shared.table_id.words ≡ 1 }
-    requires open { seat.old.me.0.stage ≡ Open }
+    requires open { seat.old.me.0.state ≡ Open }
     requires room { length seat.old.me.0.tags < 16 }
     ensures parent { seat.new.me ≡ (opened (Some tag.now) seat.old.me.0, seat.old.me.1) }
     ensures child { result.me ≡ (given (Some tag.now) seat.old.me.0, []) }
@@ -71,7 +71,7 @@ fn split<A: Tagged, W: TagOf<A::Key>>(
     counter.shared.split_seat::<Allots<W>>(seat)
 }
 
-// Gives up the parent's party, and with it the places that were not given.
+// Gives up the parent's party, and with it the slots that were not given.
 fn give_up<A: Tagged>(
     counter: &Counter<A>,
     seat: &mut Seat<Option<Room<A>>, View<A::Key>>,
@@ -79,12 +79,12 @@ fn give_up<A: Tagged>(
 )
     requires here { seat.old.table_id ≡ counter.now.shared.table_id }
     requires sized { counter.now.shared.table_id.words ≡ 1 }
-    requires open { (seat.old.me.0.stage ≡ Open) × (seat.old.me.1 ≡ []) }
+    requires open { (seat.old.me.0.state ≡ Open) × (seat.old.me.1 ≡ []) }
     requires given { (given ≡ length seat.old.me.0.tags) × (given ≤ 16) }
     ensures closed { seat.new.me ≡ closed seat.old.me }
     ensures same { seat.new.table_id ≡ seat.old.table_id }
 {
-    let parties = (PLACES + 1 - given) as u64;
+    let parties = (SLOTS + 1 - given) as u64;
     counter.shared.fetch_sub::<Closes>(seat, 0, parties);
 }
 
@@ -93,29 +93,29 @@ fn give_up<A: Tagged>(
 fn move_out<A: Tagged + Drop, W: PlaceOf>(
     counter: &Counter<A>,
     seat: &mut Seat<Option<Room<A>>, View<A::Key>>,
-    place: usize,
+    slot: usize,
 ) -> A
-    requires place { W.place ≡ place }
+    requires slot { W.slot ≡ slot }
     requires here { seat.old.table_id ≡ counter.now.shared.table_id }
     requires sized { counter.now.shared.table_id.words ≡ 1 }
-    requires ready { seat.old.me.0.stage ≡ Ready }
-    requires left { get_elem? seat.old.me.0.taken place ≡ some false }
-    ensures value { get_elem? seat.old.me.0.tags place ≡ some (A.tag result) }
+    requires ready { seat.old.me.0.state ≡ Ready }
+    requires left { get_elem? seat.old.me.0.taken slot ≡ some false }
+    ensures value { get_elem? seat.old.me.0.tags slot ≡ some (A.tag result) }
     ensures taken { seat.new.me.0
-        ≡ record seat.old.me.0 { stage = Ready; taken = slice_set seat.old.me.0.taken place true } }
+        ≡ record seat.old.me.0 { state = Ready; taken = slice_set seat.old.me.0.taken slot true } }
     ensures same { seat.new.table_id ≡ seat.old.table_id }
 {
     counter.shared.load::<Takes<A, W>>(seat, 0);
-    let room = counter.shared.exchange(seat, place, None).unwrap();
+    let room = counter.shared.exchange(seat, slot, None).unwrap();
     room.into_value().unwrap()
 }
 
 impl<A: Tagged + Drop> CounterEnd<A> {
-    /// A block with no place given, whose first child will have the number `first`.
+    /// A counter with no slot given, whose first child will have the number `first`.
     pub fn new(alloc: Global, first: u64, tag: &A::Key) -> Result<CounterEnd<A>, Memory>
-        ensures { IfOk result (λ block. block ≡ part first (parent tag.now Open [] [] [])) }
+        ensures { IfOk result (λ counter. counter ≡ counter_view first (parent tag.now Open [] [] [])) }
     {
-        let (counter, seat) = Table::vacant(alloc, &[17], PLACES as usize, tag)?;
+        let (counter, seat) = Table::vacant(alloc, &[17], SLOTS as usize, tag)?;
         let counter = Arc::new(alloc, counter)?;
         Ok(CounterEnd {
             counter: Some(counter),
@@ -128,7 +128,7 @@ impl<A: Tagged + Drop> CounterEnd<A> {
     }
 
     pub fn is_open(&self) -> bool
-        ensures { result ≡ holds_party self.now.stage }
+        ensures { result ≡ holds_party self.now.state }
     {
         self.own_party
     }
@@ -139,9 +139,9 @@ impl<A: Tagged + Drop> CounterEnd<A> {
         self.first
     }
 
-    /// Gives the next place to a child, and with the 16th gives up the parent's party.
+    /// Gives the next slot to a child, and with the 16th gives up the parent's party.
     pub fn hand(&mut self, alloc: Global, tag: &A::Key) -> Result<Give<A>, Memory>
-        requires { self.old.stage ≡ Open }
+        requires { self.old.state ≡ Open }
         ensures give { IfOk result (λ give. give ≡ tag.now) }
         ensures handed { OnOk result (self.new ≡ handed self.old tag.now) }
         ensures err { OnErr result (self.new ≡ self.old) }
@@ -155,7 +155,7 @@ impl<A: Tagged + Drop> CounterEnd<A> {
         let give = Give::tied(Tied::of(theirs, child, self.given as usize, room));
         self.given += 1;
         self.left += 1;
-        if self.given == PLACES {
+        if self.given == SLOTS {
             give_up(counter, &mut self.seat, self.given);
             self.own_party = false;
         }
@@ -164,8 +164,8 @@ impl<A: Tagged + Drop> CounterEnd<A> {
 
     /// Gives up the parent's party.
     pub fn give_up_party(&mut self)
-        requires { self.old.stage ≡ Open }
-        ensures { self.new ≡ record self.old { stage = Waiting } }
+        requires { self.old.state ≡ Open }
+        ensures { self.new ≡ record self.old { state = Waiting } }
     {
         let Some(counter) = &self.counter else {
             unreachable!()
@@ -176,10 +176,10 @@ impl<A: Tagged + Drop> CounterEnd<A> {
 
     /// Loads the word: how many of the children owe.
     pub fn look(&mut self) -> u64
-        requires { self.old.stage ≡ Waiting }
+        requires { self.old.state ≡ Waiting }
         ensures few { result ≤ length self.old.tags }
         ensures ready { result ≡ 0
-            → self.new ≡ record self.old { stage = Ready; loads = self.old.loads ++ 0 ∷ [] } }
+            → self.new ≡ record self.old { state = Ready; loads = self.old.loads ++ 0 ∷ [] } }
         ensures owing { result ≢ 0
             → self.new ≡ record self.old { loads = self.old.loads ++ result ∷ [] } }
     {
@@ -190,16 +190,16 @@ impl<A: Tagged + Drop> CounterEnd<A> {
     }
 
     /// Takes a value. With the last one the counter is let go.
-    pub fn take(&mut self, place: usize) -> A
-        requires ready { self.old.stage ≡ Ready }
-        requires left { get_elem? self.old.taken place ≡ some false }
-        ensures value { get_elem? self.old.tags place ≡ some (A.tag result) }
-        ensures taken { self.new ≡ record self.old { taken = slice_set self.old.taken place true } }
+    pub fn take(&mut self, slot: usize) -> A
+        requires ready { self.old.state ≡ Ready }
+        requires left { get_elem? self.old.taken slot ≡ some false }
+        ensures value { get_elem? self.old.tags slot ≡ some (A.tag result) }
+        ensures taken { self.new ≡ record self.old { taken = slice_set self.old.taken slot true } }
     {
         let Some(counter) = &self.counter else {
             unreachable!()
         };
-        let value = move_out::<A, Brand>(counter, &mut self.seat, place);
+        let value = move_out::<A, Brand>(counter, &mut self.seat, slot);
         self.left -= 1;
         if self.left == 0 {
             self.counter = None;

@@ -16,31 +16,31 @@ pub enum CounterEnds<A: Tagged> {
 }
 
 impl<A: Tagged + Drop> CounterEnds<A> {
-    ghost use Rattle.meet_block.specs.Rows.{listed};
-    ghost use Rattle.meet_block.specs.RowLends.{lends_blocks};
+    ghost use Rattle.meet_block.specs.CounterLists.{listed};
+    ghost use Rattle.meet_block.specs.RowLends.{lends_counters};
 
     pub fn as_slice(&self) -> &[CounterEnd<A>]
         ensures { result.now ≡ listed self.now }
     {
         match self {
-            CounterEnds::First(block) => slice::from_ref(block),
-            CounterEnds::Listed(blocks) => blocks.as_slice(),
+            CounterEnds::First(counter) => slice::from_ref(counter),
+            CounterEnds::Listed(counters) => counters.as_slice(),
         }
     }
 
     pub fn as_mut_slice(&mut self) -> &mut [CounterEnd<A>]
-        ensures* writes_back { sem 𝓛 (lends_blocks A.row A.Key.row A.Tagged self.entry result) }
+        ensures* writes_back { sem 𝓛 (lends_counters A.row A.Key.row A.Tagged self.entry result) }
         ensures value { result.now ≡ listed self.old }
     {
         match self {
-            CounterEnds::First(block) => slice::from_mut(block),
-            CounterEnds::Listed(blocks) => blocks.as_mut_slice(),
+            CounterEnds::First(counter) => slice::from_mut(counter),
+            CounterEnds::Listed(counters) => counters.as_mut_slice(),
         }
     }
 
-    /// Appends a block. The second one takes a list for both.
-    pub fn push(&mut self, alloc: Global, block: CounterEnd<A>) -> Result<(), Memory>
-        ensures ok { OnOk result (listed self.new ≡ listed self.old ++ block ∷ []) }
+    /// Appends a counter. The second one takes a list for both.
+    pub fn push(&mut self, alloc: Global, counter: CounterEnd<A>) -> Result<(), Memory>
+        ensures ok { OnOk result (listed self.new ≡ listed self.old ++ counter ∷ []) }
         ensures err { OnErr result (listed self.new ≡ listed self.old) }
     {
         match self {
@@ -53,13 +53,13 @@ impl<A: Tagged + Drop> CounterEnds<A> {
                     unreachable!()
                 };
                 both.push_reserved(first);
-                both.push_reserved(block);
+                both.push_reserved(counter);
             }
-            CounterEnds::Listed(blocks) => {
-                if blocks.is_empty() {
-                    *self = CounterEnds::First(block);
+            CounterEnds::Listed(counters) => {
+                if counters.is_empty() {
+                    *self = CounterEnds::First(counter);
                 } else {
-                    blocks.push(block)?;
+                    counters.push(counter)?;
                 }
             }
         }

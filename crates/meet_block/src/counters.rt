@@ -2,7 +2,7 @@
 ghost use Rattle.std.specs.Prelude.{◌≡◌, ℕ, ◌+◌, ◌<◌, ◌≤◌, [], ◌∷◌, ◌++◌, IfOk, OnOk, OnErr, IfSome, IfNone, Some, length, slice_get, slice_set, true, false};
 ghost use Rattle.meet_block.specs.Joined.{joined, Answers};
 ghost use Rattle.meet_block.specs.CounterViews.{CounterView, InOrder, Numbered, HandsOut, Searched, FindsAll, FindsOwing, Holds, tags_of, ends_open};
-ghost use Rattle.meet_block.specs.Rows.{listed};
+ghost use Rattle.meet_block.specs.CounterLists.{listed};
 
 use crate::counter_end::CounterEnd;
 use crate::counter_ends::CounterEnds;
@@ -16,8 +16,8 @@ use std::marker::Model;
 /// The counters of a join, in order. Contracts see them as the join.
 #[derive(Drop)]
 pub(crate) struct Counters<A: Tagged> {
-    blocks: CounterEnds<A>,
-    // The blocks before this one were found ready.
+    counters: CounterEnds<A>,
+    // The counters before this one were found ready.
     found: usize,
     count: u64,
 }
@@ -26,26 +26,29 @@ impl<A: Tagged> Model for Counters<A> {
     ghost use Rattle.std.specs.Prelude.{◌≡◌, length};
     ghost use Rattle.meet_block.specs.Joined.{Joined};
     ghost use Rattle.meet_block.specs.CounterViews.{InOrder, known, tags_of};
-    ghost use Rattle.meet_block.specs.Rows.{listed};
+    ghost use Rattle.meet_block.specs.CounterLists.{listed};
 
     ghost Value = { Joined A.Key };
 
-    ghost view = { λ j. known (listed j.blocks) };
+    ghost view = { λ j. known (listed j.counters) };
 
-    ghost invariant = { λ j. InOrder j.found (length (listed j.blocks)) (listed j.blocks)
-        × (j.count ≡ length (tags_of (listed j.blocks))) };
+    ghost invariant = { λ j. InOrder j.found (length (listed j.counters)) (listed j.counters)
+        × (j.count ≡ length (tags_of (listed j.counters))) };
 }
 
-// Looks at the blocks from the one numbered `from` on, up to the first whose children owe: its number, and how many owe.
-fn first_owing<A: Tagged + Drop>(blocks: &mut [CounterEnd<A>], from: usize) -> Option<(usize, u64)>
-    requires { InOrder from 0 blocks.old }
-    ensures ready { IfNone result (FindsAll blocks.old blocks.new) }
-    ensures owing { IfSome result (λ r. FindsOwing blocks.old blocks.new r.0 r.1) }
+// Looks at the counters from the one numbered `from` on, up to the first whose children owe: its number, and how many owe.
+fn first_owing<A: Tagged + Drop>(
+    counters: &mut [CounterEnd<A>],
+    from: usize,
+) -> Option<(usize, u64)>
+    requires { InOrder from 0 counters.old }
+    ensures ready { IfNone result (FindsAll counters.old counters.new) }
+    ensures owing { IfSome result (λ r. FindsOwing counters.old counters.new r.0 r.1) }
 {
     let mut at = from;
-    while at < blocks.len() {
-        let block = &mut blocks[at];
-        let owing = block.look();
+    while at < counters.len() {
+        let counter = &mut counters[at];
+        let owing = counter.look();
         if owing > 0 {
             return Some((at, owing));
         }
@@ -54,62 +57,62 @@ fn first_owing<A: Tagged + Drop>(blocks: &mut [CounterEnd<A>], from: usize) -> O
     None
 }
 
-// The block in which the child i has its place.
-fn block_holding<A: Tagged + Drop>(blocks: &[CounterEnd<A>], i: u64) -> usize
-    requires numbered { Numbered 0 blocks.now }
-    requires within { i < length (tags_of blocks.now) }
-    ensures { (block : CounterView A.Key) × Holds blocks.now i result block }
+// The counter in which the child i has its slot.
+fn counter_holding<A: Tagged + Drop>(counters: &[CounterEnd<A>], i: u64) -> usize
+    requires numbered { Numbered 0 counters.now }
+    requires within { i < length (tags_of counters.now) }
+    ensures { (counter : CounterView A.Key) × Holds counters.now i result counter }
 {
-    blocks.partition_point(|block| block.first() <= i) - 1
+    counters.partition_point(|counter| counter.first() <= i) - 1
 }
 
-// Gives the first place of a new block.
+// Gives the first slot of a new counter.
 fn hand_anew<A: Tagged + Drop>(
-    blocks: &mut CounterEnds<A>,
+    counters: &mut CounterEnds<A>,
     alloc: Global,
     count: u64,
     tag: &A::Key,
 ) -> Result<Give<A>, Memory>
-    requires count { count ≡ length (tags_of (listed blocks.old)) }
-    requires closed { ends_open (listed blocks.old) ≡ false }
+    requires count { count ≡ length (tags_of (listed counters.old)) }
+    requires closed { ends_open (listed counters.old) ≡ false }
     ensures give { IfOk result (λ give. give ≡ tag.now) }
-    ensures handed { OnOk result (HandsOut (listed blocks.old) (listed blocks.new) tag.now) }
-    ensures err { OnErr result (listed blocks.new ≡ listed blocks.old) }
+    ensures handed { OnOk result (HandsOut (listed counters.old) (listed counters.new) tag.now) }
+    ensures err { OnErr result (listed counters.new ≡ listed counters.old) }
 {
-    let mut block = CounterEnd::new(alloc, count, tag)?;
-    let give = block.hand(alloc, tag)?;
-    blocks.push(alloc, block)?;
+    let mut counter = CounterEnd::new(alloc, count, tag)?;
+    let give = counter.hand(alloc, tag)?;
+    counters.push(alloc, counter)?;
     Ok(give)
 }
 
-// Gives the next place of the last block, or the first one of a new block where the last isn't open.
+// Gives the next slot of the last counter, or the first one of a new counter where the last isn't open.
 fn hand_next<A: Tagged + Drop>(
-    blocks: &mut CounterEnds<A>,
+    counters: &mut CounterEnds<A>,
     alloc: Global,
     count: u64,
     tag: &A::Key,
 ) -> Result<Give<A>, Memory>
-    requires { count ≡ length (tags_of (listed blocks.old)) }
+    requires { count ≡ length (tags_of (listed counters.old)) }
     ensures give { IfOk result (λ give. give ≡ tag.now) }
-    ensures handed { OnOk result (HandsOut (listed blocks.old) (listed blocks.new) tag.now) }
-    ensures err { OnErr result (listed blocks.new ≡ listed blocks.old) }
+    ensures handed { OnOk result (HandsOut (listed counters.old) (listed counters.new) tag.now) }
+    ensures err { OnErr result (listed counters.new ≡ listed counters.old) }
 {
-    let Some(last) = blocks.as_mut_slice().last_mut() else {
-        return hand_anew(blocks, alloc, count, tag);
+    let Some(last) = counters.as_mut_slice().last_mut() else {
+        return hand_anew(counters, alloc, count, tag);
     };
     if last.is_open() {
         return last.hand(alloc, tag);
     }
-    hand_anew(blocks, alloc, count, tag)
+    hand_anew(counters, alloc, count, tag)
 }
 
-// Gives up the parent's party in the last block, where the parent still holds it.
-fn close_last<A: Tagged + Drop>(blocks: &mut [CounterEnd<A>])
-    ensures order { (found : ℕ) → InOrder found (length blocks.old) blocks.old
-        → InOrder found 0 blocks.new }
-    ensures same { Searched blocks.old blocks.new [] }
+// Gives up the parent's party in the last counter, where the parent still holds it.
+fn close_last<A: Tagged + Drop>(counters: &mut [CounterEnd<A>])
+    ensures order { (found : ℕ) → InOrder found (length counters.old) counters.old
+        → InOrder found 0 counters.new }
+    ensures same { Searched counters.old counters.new [] }
 {
-    let Some(last) = blocks.last_mut() else {
+    let Some(last) = counters.last_mut() else {
         return;
     };
     if last.is_open() {
@@ -117,14 +120,14 @@ fn close_last<A: Tagged + Drop>(blocks: &mut [CounterEnd<A>])
     }
 }
 
-// A look: gives up the parent's party where the last block is open, and goes on from the block `found`.
-fn look_from<A: Tagged + Drop>(blocks: &mut [CounterEnd<A>], found: usize) -> Option<(usize, u64)>
-    requires { InOrder found (length blocks.old) blocks.old }
-    ensures ready { IfNone result (FindsAll blocks.old blocks.new) }
-    ensures owing { IfSome result (λ r. FindsOwing blocks.old blocks.new r.0 r.1) }
+// A look: gives up the parent's party where the last counter is open, and goes on from the counter `found`.
+fn look_from<A: Tagged + Drop>(counters: &mut [CounterEnd<A>], found: usize) -> Option<(usize, u64)>
+    requires { InOrder found (length counters.old) counters.old }
+    ensures ready { IfNone result (FindsAll counters.old counters.new) }
+    ensures owing { IfSome result (λ r. FindsOwing counters.old counters.new r.0 r.1) }
 {
-    close_last(blocks);
-    first_owing(blocks, found)
+    close_last(counters);
+    first_owing(counters, found)
 }
 
 impl<A: Tagged + Drop> Counters<A> {
@@ -133,7 +136,7 @@ impl<A: Tagged + Drop> Counters<A> {
         ensures { result ≡ joined [] [] true [] }
     {
         Counters {
-            blocks: CounterEnds::Listed(Vec::new(alloc)),
+            counters: CounterEnds::Listed(Vec::new(alloc)),
             found: 0,
             count: 0,
         }
@@ -154,7 +157,7 @@ impl<A: Tagged + Drop> Counters<A> {
         let Some(count) = self.count.checked_add(1) else {
             return Err(Memory);
         };
-        let give = hand_next(&mut self.blocks, alloc, self.count, tag)?;
+        let give = hand_next(&mut self.counters, alloc, self.count, tag)?;
         self.count = count;
         Ok(give)
     }
@@ -164,13 +167,13 @@ impl<A: Tagged + Drop> Counters<A> {
         ensures tags { self.new.tags ≡ self.old.tags }
         ensures taken { self.new.taken ≡ self.old.taken }
     {
-        match look_from(self.blocks.as_mut_slice(), self.found) {
+        match look_from(self.counters.as_mut_slice(), self.found) {
             Some((at, owing)) => {
                 self.found = at;
                 Look::NotYet(owing)
             }
             None => {
-                self.found = self.blocks.as_slice().len();
+                self.found = self.counters.as_slice().len();
                 Look::Ready
             }
         }
@@ -183,9 +186,9 @@ impl<A: Tagged + Drop> Counters<A> {
         ensures taken { self.new
             ≡ joined self.old.tags (slice_set self.old.taken i true) true self.old.loads }
     {
-        let at = block_holding(self.blocks.as_slice(), i);
-        let block = &mut self.blocks.as_mut_slice()[at];
-        let place = (i - block.first()) as usize;
-        block.take(place)
+        let at = counter_holding(self.counters.as_slice(), i);
+        let counter = &mut self.counters.as_mut_slice()[at];
+        let slot = (i - counter.first()) as usize;
+        counter.take(slot)
     }
 }

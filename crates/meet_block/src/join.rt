@@ -1,9 +1,9 @@
 ghost use Rattle.std.specs.Prelude.{◌≡◌, ℕ, [], ◌∷◌, ◌++◌, IfOk, OnOk, OnErr, Some, length, slice_get, slice_set, true, false};
 ghost use Rattle.meet_block.specs.Joined.{joined, Answers};
 
+use crate::alone_ends::AloneEnds;
 use crate::counters::Counters;
 use crate::give::Give;
-use crate::idle::Idle;
 use crate::memory::Memory;
 use crate::tagged::Tagged;
 use std::alloc::Global;
@@ -23,7 +23,7 @@ pub struct Join<A: Tagged> {
 #[derive(Drop)]
 enum ParentEnds<A: Tagged> {
     Counted(Counters<A>),
-    Idle(Idle<A::Key>),
+    Alone(AloneEnds<A::Key>),
 }
 
 impl<A: Tagged> Model for Join<A> {
@@ -56,11 +56,11 @@ impl<A: Tagged + Drop> Join<A> {
 
     /// The same for a parent that gets its children's values by itself, and never looks here for them: each give of it is alone. Once a child was handed
     /// out no look finds the join ready.
-    pub fn idle() -> Join<A>
+    pub fn alone() -> Join<A>
         ensures { result ≡ joined [] [] true [] }
     {
         Join {
-            ends: ParentEnds::Idle(Idle::new()),
+            ends: ParentEnds::Alone(AloneEnds::new()),
         }
     }
 
@@ -70,13 +70,13 @@ impl<A: Tagged + Drop> Join<A> {
     {
         match &self.ends {
             ParentEnds::Counted(counters) => counters.count(),
-            ParentEnds::Idle(idle) => idle.count(),
+            ParentEnds::Alone(alone) => alone.count(),
         }
     }
 
     /// Hands out the give of one more child, which has the next number, from 0. The join isn't ready then, until a look finds it so again.
     ///
-    /// A new counter is made where the last one has given its 16 places, or a look has closed it. `Memory` leaves the join as it was.
+    /// A new counter is made where the last one has given its 16 slots, or a look has closed it. `Memory` leaves the join as it was.
     pub fn hand(&mut self, alloc: Global, tag: &A::Key) -> Result<Give<A>, Memory>
         ensures give { IfOk result (λ give. give ≡ tag.now) }
         ensures handed { OnOk result (self.new
@@ -85,8 +85,8 @@ impl<A: Tagged + Drop> Join<A> {
     {
         match &mut self.ends {
             ParentEnds::Counted(counters) => counters.hand(alloc, tag),
-            ParentEnds::Idle(idle) => {
-                idle.hand(tag)?;
+            ParentEnds::Alone(alone) => {
+                alone.hand(tag)?;
                 Ok(Give::alone(tag))
             }
         }
@@ -104,7 +104,7 @@ impl<A: Tagged + Drop> Join<A> {
     {
         match &mut self.ends {
             ParentEnds::Counted(counters) => counters.look(),
-            ParentEnds::Idle(idle) => idle.look(),
+            ParentEnds::Alone(alone) => alone.look(),
         }
     }
 
@@ -119,7 +119,7 @@ impl<A: Tagged + Drop> Join<A> {
     {
         match &mut self.ends {
             ParentEnds::Counted(counters) => counters.take(i),
-            ParentEnds::Idle(idle) => idle.take(i),
+            ParentEnds::Alone(alone) => alone.take(i),
         }
     }
 }

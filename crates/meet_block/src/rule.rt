@@ -29,11 +29,11 @@ impl<T> TagOf<T> for Brand {
 }
 
 pub trait PlaceOf {
-    ghost place: { ℕ };
+    ghost slot: { ℕ };
 }
 
 impl PlaceOf for Brand {
-    ghost place = { 0 };
+    ghost slot = { 0 };
 }
 
 // The parent's split.
@@ -81,5 +81,5 @@ pub struct Takes<A, W> {
 }
 
 impl<A: Tagged, W: PlaceOf> Play<Option<Room<A>>, View<A::Key>> for Takes<A, W> {
-    ghost then = { λ st m r n. Took A.tag W.place m n };
+    ghost then = { λ st m r n. Took A.tag W.slot m n };
 }

@@ -26,20 +26,20 @@ pub type Counter<A> = Table<
 pub struct Tied<A: Tagged> {
     counter: Arc<Counter<A>, Global>,
     seat: Seat<Option<Room<A>>, View<A::Key>>,
-    place: usize,
+    slot: usize,
     // Made with the give, so that putting takes no memory.
     room: Room<A>,
     ghost here: { seat.table_id ≡ (arc_value counter).shared.table_id },
     ghost sized: { (arc_value counter).shared.table_id.words ≡ 1 },
-    ghost owes: { (seat.me.0.stage ≡ Owes) × (seat.me.1 ≡ []) },
-    ghost placed: { place + 1 ≡ length seat.me.0.tags },
+    ghost owes: { (seat.me.0.state ≡ Owes) × (seat.me.1 ≡ []) },
+    ghost placed: { slot + 1 ≡ length seat.me.0.tags },
 }
 
 /// What is left of it once its value was put.
 #[derive(Drop)]
 pub struct Put<A: Tagged> {
     seat: Seat<Option<Room<A>>, View<A::Key>>,
-    ghost has_put: { (seat.me.0.stage ≡ Arrived) × (seat.me.1 ≡ []) },
+    ghost has_put: { (seat.me.0.state ≡ Arrived) × (seat.me.1 ≡ []) },
 }
 
 impl<A: Tagged> Model for Tied<A> {
@@ -58,19 +58,19 @@ impl<A: Tagged + Drop> Tied<A> {
     pub(crate) fn of(
         counter: Arc<Counter<A>, Global>,
         seat: Seat<Option<Room<A>>, View<A::Key>>,
-        place: usize,
+        slot: usize,
         room: Room<A>,
     ) -> Tied<A>
         requires here { seat.table_id ≡ (arc_value counter).shared.table_id }
         requires sized { (arc_value counter).shared.table_id.words ≡ 1 }
-        requires owes { (seat.me.0.stage ≡ Owes) × (seat.me.1 ≡ []) }
-        requires placed { place + 1 ≡ length seat.me.0.tags }
+        requires owes { (seat.me.0.state ≡ Owes) × (seat.me.1 ≡ []) }
+        requires placed { slot + 1 ≡ length seat.me.0.tags }
         ensures { result ≡ seat.me.0.own }
     {
         Tied {
             counter,
             seat,
-            place,
+            slot,
             room,
         }
     }
@@ -84,13 +84,13 @@ impl<A: Tagged + Drop> Tied<A> {
         let Tied {
             counter,
             mut seat,
-            place,
+            slot,
             room,
         } = self;
         let shared = &counter.shared;
         let room = room.filled(value);
         shared.load::<Claims>(&mut seat, 0);
-        match shared.exchange(&mut seat, place, Some(room)) {
+        match shared.exchange(&mut seat, slot, Some(room)) {
             None => {}
             Some(_) => unreachable!(),
         }

@@ -9,7 +9,7 @@ use Rattle.ped_words.specs.Commands.{is_batch}
 use Rattle.ped_words.specs.Making.{command_of, made_of}
 use Rattle.ped_words.specs.Reading.{reading, reading_as}
 use Rattle.ped_words.specs.Rules.{unless_error}
-use Rattle.ped_words.specs.Table.{entry, verb_of}
+use Rattle.ped_words.specs.Table.{lookup, verb_of}
 use Rattle.ped_words.specs.Values.{OptionValues, number_value, pedigree, shape, word_at}
 use Rattle.ped_words.specs.declared.command.Command.{Command}
 use Rattle.ped_words.specs.declared.rule.WordError.{WordError}
@@ -47,14 +47,14 @@ other_verbs verb.Span values other = at_some _ refl
 other_verbs verb.Batch values other = absurd (other refl)
 
 -- A row of a table gives this, and its word is the one that was looked for, or a later row does.
-at_row : {X : Type 0} (P : Type 0) (key word : List ℕ) (value x : X) (rows : List (List ℕ × X)) → (word ≡ key → value ≡ x → P) → (entry rows word ≡ Some x → P) → entry ((key, value) ∷ rows) word ≡ Some x → P
+at_row : {X : Type 0} (P : Type 0) (key word : List ℕ) (value x : X) (rows : List (List ℕ × X)) → (word ≡ key → value ≡ x → P) → (lookup rows word ≡ Some x → P) → lookup ((key, value) ∷ rows) word ≡ Some x → P
 at_row {X} P key word value x rows here later e = by (bytes_eq word key) refl
   where
     by : (b : Bool) → bytes_eq word key ≡ b → P
     by true is =
-        let found : Some value ≡ Some x = sym (ap (λ t. cond t (Some value) (entry rows word)) is) ∙ e in
+        let found : Some value ≡ Some x = sym (ap (λ t. cond t (Some value) (lookup rows word)) is) ∙ e in
         here ((bytes_eq-Decides word key).0 is) (cc)
-    by false is = later (sym (ap (λ t. cond t (Some value) (entry rows word)) is) ∙ e)
+    by false is = later (sym (ap (λ t. cond t (Some value) (lookup rows word)) is) ∙ e)
 
 -- the rows of the table of commands after each command
 abbrev after_span : List (List ℕ × Verb)

@@ -7,12 +7,12 @@ use Rattle.std.proofs.lemmas.Bool.{cases_lt, eq-eqb, eqb-true, ne_eqb}
 use Rattle.std.proofs.lemmas.Bool.Decides.{nat_tests}
 use Rattle.std.proofs.lemmas.List.{get_or-append-add}
 use Rattle.std.proofs.lemmas.Option.{none-some}
-use Rattle.ped_words.specs.Judging.{broken_name, broken_pair, broken_value, first_below, first_broken, first_of, holds_of, pairs_in, value_rule}
+use Rattle.ped_words.specs.Judging.{broken_name, broken_pair, broken_value, first_below, first_broken, first_broken_rule, holds_of, pairs_in, value_rule}
 use Rattle.ped_words.specs.Laws.{as_it_was, exchanged, OrdersGiveOneCommand}
 use Rattle.ped_words.specs.Making.{made_command}
 use Rattle.ped_words.specs.Reading.{reading, reading_as}
 use Rattle.ped_words.specs.Rules.{breaks, broken_at, unless_error}
-use Rattle.ped_words.specs.Table.{name_of, place, takes_option, verb_of}
+use Rattle.ped_words.specs.Table.{name_of, option_number, takes_option, verb_of}
 use Rattle.ped_words.specs.Values.{OptionValues, has, is_option, name_word, value_word, option_values, word_at}
 use Rattle.ped_words.specs.declared.command.Command.{Command}
 use Rattle.ped_words.specs.declared.rule.Rule.{Rule}
@@ -42,21 +42,21 @@ name_at k =
     else if nat_eq k 12 then name.Below
     else name.Seeds
 
-name_at-place : (n : OptionName) → name_at (place n) ≡ n
-name_at-place name.Seed = refl
-name_at-place name.Gamma = refl
-name_at-place name.Depth = refl
-name_at-place name.Budget = refl
-name_at-place name.Workers = refl
-name_at-place name.Show = refl
-name_at-place name.Number = refl
-name_at-place name.At = refl
-name_at-place name.Shape = refl
-name_at-place name.Size = refl
-name_at-place name.Rounds = refl
-name_at-place name.Count = refl
-name_at-place name.Below = refl
-name_at-place name.Seeds = refl
+name-at-number : (n : OptionName) → name_at (option_number n) ≡ n
+name-at-number name.Seed = refl
+name-at-number name.Gamma = refl
+name-at-number name.Depth = refl
+name-at-number name.Budget = refl
+name-at-number name.Workers = refl
+name-at-number name.Show = refl
+name-at-number name.Number = refl
+name-at-number name.At = refl
+name-at-number name.Shape = refl
+name-at-number name.Size = refl
+name-at-number name.Rounds = refl
+name-at-number name.Count = refl
+name-at-number name.Below = refl
+name-at-number name.Seeds = refl
 
 -- the option that also counts as this one
 abbrev twin : OptionName → OptionName
@@ -76,12 +76,12 @@ not_true : (b : Bool) → (b ≡ true → ⊥) → b ≡ false
 not_true true h = absurd (h refl)
 not_true false h = refl
 
-twin-apart : (a c : OptionName) → eqb (place a) (place (twin c)) ≡ false → eqb (place c) (place (twin a)) ≡ false
-twin-apart a c e = not_true (eqb (place c) (place (twin a))) (λ f.
-    let places : place c ≡ place (twin a) = eqb-true (place c) (place (twin a)) f in
-    let same : c ≡ twin a = sym (name_at-place c) ∙ ap name_at places ∙ name_at-place (twin a) in
+twin-apart : (a c : OptionName) → eqb (option_number a) (option_number (twin c)) ≡ false → eqb (option_number c) (option_number (twin a)) ≡ false
+twin-apart a c e = not_true (eqb (option_number c) (option_number (twin a))) (λ f.
+    let numbers : option_number c ≡ option_number (twin a) = eqb-true (option_number c) (option_number (twin a)) f in
+    let same : c ≡ twin a = sym (name-at-number c) ∙ ap name_at numbers ∙ name-at-number (twin a) in
     let back : twin c ≡ a = ap twin same ∙ twin-twin a in
-    no_both (eqb (place a) (place (twin c))) (eq-eqb (place a) (place (twin c)) (ap place (sym back))) e)
+    no_both (eqb (option_number a) (option_number (twin c))) (eq-eqb (option_number a) (option_number (twin c)) (ap option_number (sym back))) e)
 
 eqb-back : (a c : ℕ) → eqb a c ≡ false → eqb c a ≡ false
 eqb-back a c e = not_true (eqb c a) (λ f. no_both (eqb a c) (eq-eqb a c (sym (eqb-true c a f))) e)
@@ -151,28 +151,28 @@ module _ (verb : Verb) (words : List (List ℕ)) (k : ℕ) where
       at_none i (Some r) f = absurd (none-some _ (sym f))
 
       by_tests : (n : OptionName) → starts_with nat_eq word (codes "--") ≡ true → name_of word ≡ Some n → (x y z : Bool) → takes_option verb n ≡ x → has given n ≡ y → is_last ≡ z →
-          first_of ((rule.UnknownOption, not x) ∷ (rule.OptionTwice, y) ∷ (rule.MissingValue, z) ∷ []) ≡ None → value_rule n value ≡ None → R
+          first_broken_rule ((rule.UnknownOption, not x) ∷ (rule.OptionTwice, y) ∷ (rule.MissingValue, z) ∷ []) ≡ None → value_rule n value ≡ None → R
       by_tests n d f false y z g h i j v = absurd (none-some _ (sym j))
       by_tests n d f true true z g h i j v = absurd (none-some _ (sym j))
       by_tests n d f true false true g h i j v = absurd (none-some _ (sym j))
       by_tests n d f true false false g h i j v = record { n = n; dashes = d; named = f; taken = g; fresh = h; more = i; fits = v }
 
-      by_name : starts_with nat_eq word (codes "--") ≡ true → (o : Option OptionName) → name_of word ≡ o → first_of (after o) ≡ None → value_as o ≡ None → R
+      by_name : starts_with nat_eq word (codes "--") ≡ true → (o : Option OptionName) → name_of word ≡ o → first_broken_rule (after o) ≡ None → value_as o ≡ None → R
       by_name d None f g v = absurd (none-some _ (sym g))
       by_name d (Some n) f g v = by_tests n d f (takes_option verb n) (has given n) is_last refl refl refl g v
 
-      by_dashes : (b : Bool) → starts_with nat_eq word (codes "--") ≡ b → first_of ((rule.StrayWord, not b) ∷ after (name_of word)) ≡ None → value_as (name_of word) ≡ None → R
+      by_dashes : (b : Bool) → starts_with nat_eq word (codes "--") ≡ b → first_broken_rule ((rule.StrayWord, not b) ∷ after (name_of word)) ≡ None → value_as (name_of word) ≡ None → R
       by_dashes true d g v = by_name d (name_of word) refl g v
       by_dashes false d g v = absurd (none-some _ (sym g))
 
   right_to : R → broken_pair verb words k ≡ None
   right_to r =
       let named : broken_name verb words k ≡ None =
-      ap (λ b. first_of ((rule.StrayWord, not b) ∷ after (name_of word))) r.dashes
-      ∙ ap (λ o. first_of (after o)) r.named
-      ∙ ap (λ b. first_of ((rule.UnknownOption, not b) ∷ (rule.OptionTwice, has given r.n) ∷ (rule.MissingValue, is_last) ∷ [])) r.taken
-      ∙ ap (λ b. first_of ((rule.OptionTwice, b) ∷ (rule.MissingValue, is_last) ∷ [])) r.fresh
-      ∙ ap (λ b. first_of ((rule.MissingValue, b) ∷ [])) r.more in
+      ap (λ b. first_broken_rule ((rule.StrayWord, not b) ∷ after (name_of word))) r.dashes
+      ∙ ap (λ o. first_broken_rule (after o)) r.named
+      ∙ ap (λ b. first_broken_rule ((rule.UnknownOption, not b) ∷ (rule.OptionTwice, has given r.n) ∷ (rule.MissingValue, is_last) ∷ [])) r.taken
+      ∙ ap (λ b. first_broken_rule ((rule.OptionTwice, b) ∷ (rule.MissingValue, is_last) ∷ [])) r.fresh
+      ∙ ap (λ b. first_broken_rule ((rule.MissingValue, b) ∷ [])) r.more in
       ap (λ o. option_or (broken_at (2 * k + 1) o) (broken_at (2 * k + 2) (broken_value words k))) named
       ∙ ap (λ o. broken_at (2 * k + 2) (value_as o)) r.named
       ∙ ap (broken_at (2 * k + 2)) r.fits
@@ -315,22 +315,22 @@ module _ (words others : List (List ℕ)) (k : ℕ) (s : Swapped words others k)
   module _ (verb : Verb) (a : Right verb (option_values words k) (name_word words k) (value_word words k) (nat_le (length words) (2 * k + 2)))
       (c : Right verb (option_values words (suc k)) (name_word words (suc k)) (value_word words (suc k)) (nat_le (length words) (2 * suc k + 2))) where
     -- the second name is neither the first nor its twin
-    fresh-at : (n : OptionName) → is_some (option_values words (suc k) n) ≡ false → (eqb (place a.n) (place n) ≡ false) × (is_some (option_values words k n) ≡ false)
+    fresh-at : (n : OptionName) → is_some (option_values words (suc k) n) ≡ false → (eqb (option_number a.n) (option_number n) ≡ false) × (is_some (option_values words k n) ≡ false)
     fresh-at n e =
         let f = free (is_option (name_of (name_word words k)) n) (value_word words k, 2 * k + 2) (option_values words k n) e in (ap (λ o. is_option o n) (sym a.named) ∙ f.0, f.1)
 
-    here : (eqb (place a.n) (place c.n) ≡ false) × (is_some (option_values words k c.n) ≡ false)
+    here : (eqb (option_number a.n) (option_number c.n) ≡ false) × (is_some (option_values words k c.n) ≡ false)
     here = fresh-at c.n (has-parts (option_values words (suc k)) c.n c.fresh).0
 
-    there : (eqb (place a.n) (place (twin c.n)) ≡ false) × (is_some (option_values words k (twin c.n)) ≡ false)
+    there : (eqb (option_number a.n) (option_number (twin c.n)) ≡ false) × (is_some (option_values words k (twin c.n)) ≡ false)
     there = fresh-at (twin c.n) (has-parts (option_values words (suc k)) c.n c.fresh).1
 
     apart : (n : OptionName) → is_option (name_of (name_word words k)) n ≡ true → is_option (name_of (name_word words (suc k))) n ≡ true → ⊥
     apart n e f =
-        let e' : eqb (place a.n) (place n) ≡ true = ap (λ o. is_option o n) (sym a.named) ∙ e in
-        let f' : eqb (place c.n) (place n) ≡ true = ap (λ o. is_option o n) (sym c.named) ∙ f in
-        let same : place a.n ≡ place c.n = eqb-true (place a.n) (place n) e' ∙ sym (eqb-true (place c.n) (place n) f') in
-        no_both (eqb (place a.n) (place c.n)) (eq-eqb (place a.n) (place c.n) same) here.0
+        let e' : eqb (option_number a.n) (option_number n) ≡ true = ap (λ o. is_option o n) (sym a.named) ∙ e in
+        let f' : eqb (option_number c.n) (option_number n) ≡ true = ap (λ o. is_option o n) (sym c.named) ∙ f in
+        let same : option_number a.n ≡ option_number c.n = eqb-true (option_number a.n) (option_number n) e' ∙ sym (eqb-true (option_number c.n) (option_number n) f') in
+        no_both (eqb (option_number a.n) (option_number c.n)) (eq-eqb (option_number a.n) (option_number c.n) same) here.0
 
     some-front : (j : ℕ) → j ≤ k → (n : OptionName) → is_some (option_values others j n) ≡ is_some (option_values words j n)
     some-front j h n = sym (some-word (option_values others j) n) ∙ ap is_some (values-front j h n) ∙ some-word (option_values words j) n
@@ -353,7 +353,7 @@ module _ (words others : List (List ℕ)) (k : ℕ) (s : Swapped words others k)
     }
 
     -- what stands for the first name in the exchanged words
-    free-then : (n : OptionName) → eqb (place c.n) (place n) ≡ false → is_some (option_values words k n) ≡ false → is_some (option_values others (suc k) n) ≡ false
+    free-then : (n : OptionName) → eqb (option_number c.n) (option_number n) ≡ false → is_some (option_values words k n) ≡ false → is_some (option_values others (suc k) n) ≡ false
     free-then n e f =
         still_free (is_option (name_of (name_word others k)) n) (value_word others k, 2 * k + 2) (option_values others k n) (ap (λ z. is_option (name_of z) n) s.first_name ∙ ap (λ o. is_option o n) c.named ∙ e) (some-front k (omega arith) n ∙ f)
 
@@ -365,7 +365,7 @@ module _ (words others : List (List ℕ)) (k : ℕ) (s : Swapped words others k)
           dashes = ap (λ z. starts_with nat_eq z (codes "--")) s.second_name ∙ a.dashes;
           named = ap name_of s.second_name ∙ a.named;
           taken = a.taken;
-          fresh = has-none (option_values others (suc k)) a.n (free-then a.n (eqb-back (place a.n) (place c.n) here.0) p.0) (free-then (twin a.n) (twin-apart a.n c.n there.0) p.1);
+          fresh = has-none (option_values others (suc k)) a.n (free-then a.n (eqb-back (option_number a.n) (option_number c.n) here.0) p.0) (free-then (twin a.n) (twin-apart a.n c.n there.0) p.1);
           more = let l = s.enough in not_last (2 * suc k + 2) (omega (arith, l));
           fits = ap (value_rule a.n) s.second_value ∙ a.fits;
         }

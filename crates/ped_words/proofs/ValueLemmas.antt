@@ -3,7 +3,7 @@ use Rattle.std.proofs.Common.{◌≡◌, ℕ, ◌+◌, ◌*◌, ◌<◌, ◌≤�
 use Rattle.std.specs.Prelude.{is_some}
 use Rattle.ped_words.specs.Judging.{broken_name, name_rule}
 use Rattle.ped_words.specs.Table.{name_of}
-use Rattle.ped_words.specs.Given.{IsPlace, all_names, count_among, given_count, one_of}
+use Rattle.ped_words.specs.Given.{IsValueIndex, all_names, count_among, given_count, one_of}
 use Rattle.ped_words.specs.Values.{OptionValues, has, is_option, name_word, value_word, option_values}
 use Rattle.ped_words.specs.declared.table.OptionName.{OptionName}
 use Rattle.ped_words.specs.declared.table.OptionName.TheVariants as name
@@ -61,12 +61,12 @@ module _ (words : List (List ℕ)) (k : ℕ) (n : OptionName) where
   here : (b : Bool) → is_option (name_of (name_word words k)) n ≡ b → option_values words (k + 1) n ≡ cond b (Some (value_word words k, 2 * k + 2)) (option_values words k n)
   here b named = rw add-one (ap (λ t. cond t (Some (value_word words k, 2 * k + 2)) (option_values words k n)) named)
 
-  pub place_here : (word : List ℕ) → word ≡ name_word words k → is_option (name_of word) n ≡ true → 2 * k + 2 < length words → IsPlace words (k + 1) n (Some (2 * k + 2))
-  place_here word is named within = (here true (ap (λ w. is_option (name_of w) n) (sym is) ∙ named), within)
+  pub index_here : (word : List ℕ) → word ≡ name_word words k → is_option (name_of word) n ≡ true → 2 * k + 2 < length words → IsValueIndex words (k + 1) n (Some (2 * k + 2))
+  index_here word is named within = (here true (ap (λ w. is_option (name_of w) n) (sym is) ∙ named), within)
 
-  pub place_before : (word : List ℕ) → word ≡ name_word words k → is_option (name_of word) n ≡ false → (o : Option ℕ) → IsPlace words k n o → IsPlace words (k + 1) n o
-  place_before word is named None p = here false (ap (λ w. is_option (name_of w) n) (sym is) ∙ named) ∙ p
-  place_before word is named (Some at) p = (here false (ap (λ w. is_option (name_of w) n) (sym is) ∙ named) ∙ p.0, p.1)
+  pub index_before : (word : List ℕ) → word ≡ name_word words k → is_option (name_of word) n ≡ false → (o : Option ℕ) → IsValueIndex words k n o → IsValueIndex words (k + 1) n o
+  index_before word is named None p = here false (ap (λ w. is_option (name_of w) n) (sym is) ∙ named) ∙ p
+  index_before word is named (Some at) p = (here false (ap (λ w. is_option (name_of w) n) (sym is) ∙ named) ∙ p.0, p.1)
 
 pub same_name : (verb : Verb) (words : List (List ℕ)) (k len last : ℕ) (given : OptionValues) (word : List ℕ) → given ≡ option_values words k → word ≡ name_word words k → len ≡ length words → last ≡ 2 * k + 2 →
     broken_name verb words k ≡ name_rule verb given word (leb len last)

@@ -17,10 +17,10 @@ pub record GivenWords : Type 0 where
 abbrev pub values_in : GivenWords → OptionValues
 values_in given = option_values given.words given.pairs
 
--- At this place stands the word that gives an option among the first k pairs, if one does.
-abbrev pub IsPlace : List (List ℕ) → ℕ → OptionName → Option ℕ → Type 0
-IsPlace words k n None = option_values words k n ≡ None
-IsPlace words k n (Some at) = (option_values words k n ≡ Some (word_at words at, at)) × (at < length words)
+-- At this index stands the word that gives an option among the first k pairs, if one does.
+abbrev pub IsValueIndex : List (List ℕ) → ℕ → OptionName → Option ℕ → Type 0
+IsValueIndex words k n None = option_values words k n ≡ None
+IsValueIndex words k n (Some at) = (option_values words k n ≡ Some (word_at words at, at)) × (at < length words)
 
 -- The type is of numbers below 2^32.
 abbrev pub IsSmall : ValueType → Type 0

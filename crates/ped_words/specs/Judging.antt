@@ -16,9 +16,9 @@ use Rattle.ped_words.specs.declared.table.OptionName.{OptionName}
 use Rattle.ped_words.specs.declared.table.Verb.{Verb}
 
 -- the first of these rules that is broken: beside each stands whether it is
-abbrev pub first_of : List (Rule × Bool) → Option Rule
-first_of [] = None
-first_of (here ∷ others) = if here.1 then Some here.0 else first_of others
+abbrev pub first_broken_rule : List (Rule × Bool) → Option Rule
+first_broken_rule [] = None
+first_broken_rule (here ∷ others) = if here.1 then Some here.0 else first_broken_rule others
 
 -- Whether there is a name, and this holds of it.
 abbrev pub holds_of : (OptionName → Bool) → Option OptionName → Bool
@@ -37,7 +37,7 @@ name_rules verb given word is_last =
 
 -- the first rule that a word breaks where a name is due
 abbrev pub name_rule : Verb → OptionValues → List ℕ → Bool → Option Rule
-name_rule verb given word is_last = first_of (name_rules verb given word is_last)
+name_rule verb given word is_last = first_broken_rule (name_rules verb given word is_last)
 
 -- the rule that a word breaks as a value of this type
 abbrev pub type_rule : ValueType → List ℕ → Option Rule

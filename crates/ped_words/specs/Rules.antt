@@ -64,9 +64,9 @@ abbrev pub broken_at : ℕ → Option Rule → Option WordError
 broken_at at rule = option_map (λ r. breaks r at) rule
 
 -- what a word is that breaks no rule
-abbrev pub kept : {X : Type 0} → Option Rule → X → Option X
-kept None x = Some x
-kept (Some rule) x = None
+abbrev pub when_unbroken : {X : Type 0} → Option Rule → X → Option X
+when_unbroken None x = Some x
+when_unbroken (Some rule) x = None
 
 -- what is broken, or else this
 abbrev pub unless_error : {X : Type 0} → Option WordError → Result X WordError → Result X WordError

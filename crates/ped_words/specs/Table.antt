@@ -16,13 +16,13 @@ use Rattle.ped_words.specs.declared.table.OptionName.{OptionName}
 use Rattle.ped_words.specs.declared.table.OptionName.TheVariants as name
 
 -- what stands beside a word in a table
-abbrev pub entry : {X : Type 0} → List (List ℕ × X) → List ℕ → Option X
-entry [] word = None
-entry (row ∷ rows) word = if bytes_eq word row.0 then Some row.1 else entry rows word
+abbrev pub lookup : {X : Type 0} → List (List ℕ × X) → List ℕ → Option X
+lookup [] word = None
+lookup (row ∷ rows) word = if bytes_eq word row.0 then Some row.1 else lookup rows word
 
 abbrev pub verb_of : List ℕ → Option Verb
 verb_of word =
-    entry
+    lookup
     ((codes "run", verb.Run) ∷
     (codes "serial", verb.Serial) ∷
     (codes "sim", verb.Sim) ∷
@@ -39,7 +39,7 @@ verb_of word =
 
 abbrev pub name_of : List ℕ → Option OptionName
 name_of word =
-    entry
+    lookup
     ((codes "--seed", name.Seed) ∷
     (codes "--gamma", name.Gamma) ∷
     (codes "--depth", name.Depth) ∷
@@ -71,24 +71,24 @@ options verb.Span = name.Seed ∷ name.Gamma ∷ name.Depth ∷ name.Budget ∷ 
 options verb.Batch = name.Seeds ∷ name.Depth ∷ name.Budget ∷ name.Workers ∷ name.Show ∷ name.Rounds ∷ []
 
 -- a number for each name, so that names can be compared
-abbrev pub place : OptionName → ℕ
-place name.Seed = 0
-place name.Gamma = 1
-place name.Depth = 2
-place name.Budget = 3
-place name.Workers = 4
-place name.Show = 5
-place name.Number = 6
-place name.At = 7
-place name.Shape = 8
-place name.Size = 9
-place name.Rounds = 10
-place name.Count = 11
-place name.Below = 12
-place name.Seeds = 13
+abbrev pub option_number : OptionName → ℕ
+option_number name.Seed = 0
+option_number name.Gamma = 1
+option_number name.Depth = 2
+option_number name.Budget = 3
+option_number name.Workers = 4
+option_number name.Show = 5
+option_number name.Number = 6
+option_number name.At = 7
+option_number name.Shape = 8
+option_number name.Size = 9
+option_number name.Rounds = 10
+option_number name.Count = 11
+option_number name.Below = 12
+option_number name.Seeds = 13
 
 abbrev pub takes_option : Verb → OptionName → Bool
-takes_option v n = list_any (λ m. place m == place n) (options v)
+takes_option v n = list_any (λ m. option_number m == option_number n) (options v)
 
 -- a stream has at most so many numbers
 abbrev pub most_count : ℕ
@@ -116,7 +116,7 @@ value_type_of name.Below = value_type.Number 1 (2 ^ 64 - 1)
 value_type_of name.Seeds = value_type.Numbers (Some most_seeds)
 
 abbrev pub show_of : List ℕ → Option Show
-show_of word = entry ((codes "plain", show.Plain) ∷ (codes "log", show.Log) ∷ []) word
+show_of word = lookup ((codes "plain", show.Plain) ∷ (codes "log", show.Log) ∷ []) word
 
 abbrev pub shape_of : List ℕ → Option Shape
-shape_of word = entry ((codes "fib", shape.Fib) ∷ (codes "tree", shape.Tree) ∷ (codes "loop", shape.Loop) ∷ []) word
+shape_of word = lookup ((codes "fib", shape.Fib) ∷ (codes "tree", shape.Tree) ∷ (codes "loop", shape.Loop) ∷ []) word

@@ -6,8 +6,8 @@ use Rattle.ped_gen.specs.declared.shape.Shape.{Shape}
 use Rattle.serial_meaning.specs.declared.plan.Show.{Show}
 use Rattle.ped_words.specs.Numbers.{list_rule, number_rule, numbers_of, number_in_word}
 use Rattle.ped_words.specs.Pedigrees.{ped_of, ped_rule}
-use Rattle.ped_words.specs.Rules.{kept}
-use Rattle.ped_words.specs.Table.{value_type_of, name_of, place, shape_of, show_of}
+use Rattle.ped_words.specs.Rules.{when_unbroken}
+use Rattle.ped_words.specs.Table.{value_type_of, name_of, option_number, shape_of, show_of}
 use Rattle.ped_words.specs.declared.table.ValueType.{ValueType}
 use Rattle.ped_words.specs.declared.table.ValueType.TheVariants as value_type
 use Rattle.ped_words.specs.declared.table.OptionName.{OptionName}
@@ -28,7 +28,7 @@ value_word words k = word_at words (2 * k + 2)
 
 abbrev pub is_option : Option OptionName → OptionName → Bool
 is_option None n = false
-is_option (Some m) n = place m == place n
+is_option (Some m) n = option_number m == option_number n
 
 -- what the first k pairs give
 abbrev pub option_values : List (List ℕ) → ℕ → OptionValues
@@ -48,15 +48,15 @@ has values n = is_some (values n)
 -- What a word is as a value of some type. There is none where it breaks the type's rule.
 
 abbrev pub number_as : ValueType → List ℕ → Option ℕ
-number_as (value_type.Number least most) word = kept (number_rule least most word) (number_in_word word)
+number_as (value_type.Number least most) word = when_unbroken (number_rule least most word) (number_in_word word)
 number_as _ word = None
 
 abbrev pub list_as : ValueType → List ℕ → Option (List ℕ)
-list_as (value_type.Numbers most) word = kept (list_rule most word) (numbers_of word)
+list_as (value_type.Numbers most) word = when_unbroken (list_rule most word) (numbers_of word)
 list_as _ word = None
 
 abbrev pub pedigree_in : List ℕ → Option (List ℕ)
-pedigree_in word = kept (ped_rule word) (ped_of word)
+pedigree_in word = when_unbroken (ped_rule word) (ped_of word)
 
 -- The value of an option that was given, by what it is.
 

@@ -4,7 +4,7 @@ ghost use Rattle.std.specs.Prelude.{◌≡◌, ◌+◌, ◌*◌, ◌<◌, ◌≤
 ghost use Rattle.std.specs.Option.{option_map};
 ghost use Rattle.ped_words.specs.Pedigrees.{most_ranks};
 ghost use Rattle.ped_words.specs.Table.{value_type_of, name_of};
-ghost use Rattle.ped_words.specs.Given.{HasCount, IsPlace, IsPlaced, IsPlacedList, IsSmall, values_in};
+ghost use Rattle.ped_words.specs.Given.{HasCount, IsValueIndex, IsPlaced, IsPlacedList, IsSmall, values_in};
 ghost use Rattle.ped_words.specs.Values.{IsInRange, has, is_option, list_as, number_value, number_as, pedigree, shape, show, word_at};
 
 use crate::number::{number_in, number_list};
@@ -54,24 +54,24 @@ fn is_name(word: &str, name: OptionName) -> bool
 }
 
 /// The index of the word that gives an option among the first pairs.
-fn place_of(words: &[String], pairs: u32, name: OptionName) -> Option<u32>
+fn value_index_of(words: &[String], pairs: u32, name: OptionName) -> Option<u32>
     requires within { 2 * pairs < length words.now }
     requires small { 2 * pairs < 2 ^ 32 }
-    ensures { IsPlace (map string_bytes words.now) pairs name result }
+    ensures { IsValueIndex (map string_bytes words.now) pairs name result }
 {
-    let mut place = None;
+    let mut index = None;
     for pair in 0..pairs {
-        place = next_place(words, pair, name, place);
+        index = next_index(words, pair, name, index);
     }
-    place
+    index
 }
 
 /// The index of the word that gives an option among the pairs with this one, from that among those before it.
-fn next_place(words: &[String], pair: u32, name: OptionName, before: Option<u32>) -> Option<u32>
+fn next_index(words: &[String], pair: u32, name: OptionName, before: Option<u32>) -> Option<u32>
     requires within { 2 * pair + 2 < length words.now }
     requires small { 2 * pair + 2 < 2 ^ 32 }
-    requires before { IsPlace (map string_bytes words.now) pair name before }
-    ensures { IsPlace (map string_bytes words.now) (pair + 1) name result }
+    requires before { IsValueIndex (map string_bytes words.now) pair name before }
+    ensures { IsValueIndex (map string_bytes words.now) (pair + 1) name result }
 {
     if is_name(text_at(words, 2 * pair as usize + 1), name) {
         Some(2 * pair + 2)
@@ -98,10 +98,10 @@ impl<'a> Given<'a> {
     }
 
     /// The index of the word that gives an option.
-    pub(crate) fn place(&self, name: OptionName) -> Option<u32>
-        ensures { IsPlace self.now.words self.now.pairs name result }
+    pub(crate) fn value_index(&self, name: OptionName) -> Option<u32>
+        ensures { IsValueIndex self.now.words self.now.pairs name result }
     {
-        place_of(self.words, self.pairs, name)
+        value_index_of(self.words, self.pairs, name)
     }
 
     /// The word at this index.
@@ -118,9 +118,10 @@ impl<'a> Given<'a> {
     {
         match name {
             OptionName::Seed | OptionName::Gamma => {
-                self.place(OptionName::Seed).is_some() || self.place(OptionName::Gamma).is_some()
+                self.value_index(OptionName::Seed).is_some()
+                    || self.value_index(OptionName::Gamma).is_some()
             }
-            _ => self.place(name).is_some(),
+            _ => self.value_index(name).is_some(),
         }
     }
 
@@ -128,7 +129,7 @@ impl<'a> Given<'a> {
     pub(crate) fn placed(&self, name: OptionName) -> Option<(u64, u32)>
         ensures { IsPlaced (values_in self.now) name result }
     {
-        let Some(at) = self.place(name) else {
+        let Some(at) = self.value_index(name) else {
             return None;
         };
         match number_as(name.value_type(), self.text(at)) {
@@ -170,7 +171,7 @@ impl<'a> Given<'a> {
         ensures value { IfOk result (λ placed. IsPlacedList (values_in self.now) name (option_map (λ p. (p.0.items, p.1)) placed)) }
         ensures count { IfOk result (λ placed. IfSome placed (λ p. HasCount (value_type_of name) (length p.0.items))) }
     {
-        let Some(at) = self.place(name) else {
+        let Some(at) = self.value_index(name) else {
             return Ok(None);
         };
         match list_as(alloc, name.value_type(), self.text(at))? {
@@ -185,7 +186,7 @@ impl<'a> Given<'a> {
         ensures few { IfOk result (λ j. IfSome j (λ ranks. length ranks ≤ most_ranks)) }
         ensures memory { IfErr result (λ e. e ≡ WordError.Memory) }
     {
-        let Some(at) = self.place(OptionName::At) else {
+        let Some(at) = self.value_index(OptionName::At) else {
             return Ok(None);
         };
         match pedigree_in(alloc, self.text(at))? {
@@ -198,7 +199,7 @@ impl<'a> Given<'a> {
     pub(crate) fn show(&self) -> Option<Show>
         ensures { result ≡ show (values_in self.now) }
     {
-        match self.place(OptionName::Show) {
+        match self.value_index(OptionName::Show) {
             Some(at) => show_of(self.text(at)),
             None => None,
         }
@@ -208,7 +209,7 @@ impl<'a> Given<'a> {
     pub(crate) fn shape(&self) -> Option<Shape>
         ensures { result ≡ shape (values_in self.now) }
     {
-        match self.place(OptionName::Shape) {
+        match self.value_index(OptionName::Shape) {
             Some(at) => shape_of(self.text(at)),
             None => None,
         }

@@ -1,6 +1,6 @@
 ghost use Rattle.std.specs.Prelude.{◌≡◌, ◌==◌};
 ghost use Rattle.ped_words.specs.declared.table.ValueType.TheVariants as value_type;
-ghost use Rattle.ped_words.specs.Table.{verb_of, name_of, place, takes_option, value_type_of};
+ghost use Rattle.ped_words.specs.Table.{verb_of, name_of, option_number, takes_option, value_type_of};
 
 use dotmix::MOST_ROUNDS;
 use serial_meaning::MOST_DEPTH;
@@ -131,17 +131,17 @@ impl OptionName {
         }
     }
 
-    fn place(self) -> u8
-        ensures { result ≡ place self }
+    fn option_number(self) -> u8
+        ensures { result ≡ option_number self }
     {
         self as u8
     }
 
     /// Whether both are the same option.
     pub(crate) fn is(self, other: OptionName) -> bool
-        ensures { result ≡ (place self == place other) }
+        ensures { result ≡ (option_number self == option_number other) }
     {
-        self.place() == other.place()
+        self.option_number() == other.option_number()
     }
 
     /// What the option's value is, and its range.

@@ -6,7 +6,7 @@ use Rattle.serial_meaning.specs.Open.{opened}
 use Rattle.serial_meaning.specs.Plan.{PlanView}
 use Rattle.serial_meaning.specs.declared.event.Fault.{Fault}
 use Rattle.serial_meaning.specs.declared.origin.Origin.{Origin}
-use Rattle.strand_meaning.specs.Strands.{Strand, Found, Reached, Missing, Blocked, child_on_way, strand_of, blocks, last_step, entered_child, next_step, by_child, walk_in, strand_at}
+use Rattle.strand_meaning.specs.Strands.{Strand, Found, FoundStrand, Missing, Blocked, child_on_way, strand_of, blocking_fault, last_step, entered_child, next_step, by_child, walk_in, strand_at}
 use Rattle.serial_runner.specs.Nodes.{shown_by, node_toward}
 use Rattle.serial_runner.specs.declared.node.Node.{Node}
 use Rattle.replay.specs.Descents.{seen_from, IsOnWayTo, Leads}
@@ -16,13 +16,13 @@ use Rattle.replay.proofs.Iterations.{IsFurther, goes-further}
 module _ (plan : PlanView) (j : List ℕ) where
   -- what one node says, with what stands below it
   abbrev by_node : Origin → (Origin → Found) → Found
-  by_node o go = by_child (child_on_way j (opened plan o).items) j (last_step (blocks (opened plan o) j) (strand_of o (opened plan o) j)) go
+  by_node o go = by_child (child_on_way j (opened plan o).items) j (last_step (blocking_fault (opened plan o) j) (strand_of o (opened plan o) j)) go
 
   same-below : (o : Origin) → IsOnWayTo plan j o → (f g : Origin → Found) → ((next : Origin) → IsFurther plan j o next → f next ≡ g next) → by_node o f ≡ by_node o g
   same-below o on f g h = by_way (child_on_way j (opened plan o).items) refl
     where
       here : Found
-      here = last_step (blocks (opened plan o) j) (strand_of o (opened plan o) j)
+      here = last_step (blocking_fault (opened plan o) j) (strand_of o (opened plan o) j)
 
       by_next : (c : Origin) → child_on_way j (opened plan o).items ≡ Some c → (n : Option Origin) → entered_child j c ≡ n → next_step n f ≡ next_step n g
       by_next c e None t = refl
@@ -54,40 +54,40 @@ module _ (plan : PlanView) (o : Origin) (j : List ℕ) (on : IsOnWayTo plan j o)
   shown-child (Some c) s f = refl
 
   child-is : m.child ≡ child_on_way j (opened plan o).items
-  child-is = ap (λ (n : Node). n.child) is ∙ shown-child (child_on_way j (opened plan o).items) (strand_of o (opened plan o) j) (blocks (opened plan o) j)
+  child-is = ap (λ (n : Node). n.child) is ∙ shown-child (child_on_way j (opened plan o).items) (strand_of o (opened plan o) j) (blocking_fault (opened plan o) j)
 
   abbrev below : Origin → Found
   below next = seen_from plan next j
 
   -- by what the code finds in the node
-  shown-found : (c : Option Origin) (s : Option Strand) (f : Option Fault) → by_child c j (last_step f s) below ≡ by_child (shown_by c s f).child j (last_step (shown_by c s f).joined (shown_by c s f).strand) below
+  shown-found : (c : Option Origin) (s : Option Strand) (f : Option Fault) → by_child c j (last_step f s) below ≡ by_child (shown_by c s f).child j (last_step (shown_by c s f).child_fault (shown_by c s f).strand) below
   shown-found None s f = refl
   shown-found (Some c) s f = refl
 
-  found : seen_from plan o j ≡ by_child m.child j (last_step m.joined m.strand) below
+  found : seen_from plan o j ≡ by_child m.child j (last_step m.child_fault m.strand) below
   found =
-      a-node plan j o on ∙ shown-found (child_on_way j (opened plan o).items) (strand_of o (opened plan o) j) (blocks (opened plan o) j)
-      ∙ ap (λ (n : Node). by_child n.child j (last_step n.joined n.strand) below) (sym is)
+      a-node plan j o on ∙ shown-found (child_on_way j (opened plan o).items) (strand_of o (opened plan o) j) (blocking_fault (opened plan o) j)
+      ∙ ap (λ (n : Node). by_child n.child j (last_step n.child_fault n.strand) below) (sym is)
 
-  found-none : m.child ≡ None → seen_from plan o j ≡ last_step m.joined m.strand
-  found-none e = found ∙ ap (λ (c : Option Origin). by_child c j (last_step m.joined m.strand) below) e
+  found-none : m.child ≡ None → seen_from plan o j ≡ last_step m.child_fault m.strand
+  found-none e = found ∙ ap (λ (c : Option Origin). by_child c j (last_step m.child_fault m.strand) below) e
 
-  pub is_blocked : m.child ≡ None → (f : Fault) → m.joined ≡ Some f → seen_from plan o j ≡ Blocked f
+  pub is_blocked : m.child ≡ None → (f : Fault) → m.child_fault ≡ Some f → seen_from plan o j ≡ Blocked f
   is_blocked e f h = found-none e ∙ ap (λ (g : Option Fault). last_step g m.strand) h
 
-  pub is_reached : m.child ≡ None → m.joined ≡ None → (s : Strand) → m.strand ≡ Some s → seen_from plan o j ≡ Reached s
+  pub is_reached : m.child ≡ None → m.child_fault ≡ None → (s : Strand) → m.strand ≡ Some s → seen_from plan o j ≡ FoundStrand s
   is_reached e h s g = found-none e ∙ ap (λ (f : Option Fault). last_step f m.strand) h ∙ ap (last_step None) g
 
-  pub is_missing : m.child ≡ None → m.joined ≡ None → m.strand ≡ None → seen_from plan o j ≡ Missing
+  pub is_missing : m.child ≡ None → m.child_fault ≡ None → m.strand ≡ None → seen_from plan o j ≡ Missing
   is_missing e h g = found-none e ∙ ap (λ (f : Option Fault). last_step f m.strand) h ∙ ap (last_step None) g
 
   pub leads_down : (c next : Origin) → m.child ≡ Some c → entered_child j c ≡ Some next → Leads plan o j (Ok (Down next))
   leads_down c next e h =
       let f = goes-further plan j o on.known c next (sym child-is ∙ e) h in
-      (f.on, f.longer, sym (found ∙ ap (λ (d : Option Origin). by_child d j (last_step m.joined m.strand) below) e ∙ ap (λ (n : Option Origin). next_step n below) h))
+      (f.on, f.longer, sym (found ∙ ap (λ (d : Option Origin). by_child d j (last_step m.child_fault m.strand) below) e ∙ ap (λ (n : Option Origin). next_step n below) h))
 
   pub leads_nowhere : (c : Origin) → m.child ≡ Some c → entered_child j c ≡ None → seen_from plan o j ≡ Missing
-  leads_nowhere c e h = found ∙ ap (λ (d : Option Origin). by_child d j (last_step m.joined m.strand) below) e ∙ ap (λ (n : Option Origin). next_step n below) h
+  leads_nowhere c e h = found ∙ ap (λ (d : Option Origin). by_child d j (last_step m.child_fault m.strand) below) e ∙ ap (λ (n : Option Origin). next_step n below) h
 
 -- The walk begins at main.
 module _ (plan same : PlanView) (o : Origin) (j path : List ℕ) (rank : ℕ) (is : path ++ rank ∷ [] ≡ j) (e : same ≡ plan) (h : o ≡ main_origin same) where

@@ -5,7 +5,7 @@ use Rattle.serial_meaning.specs.Laws.{IsOriginOf}
 use Rattle.serial_meaning.specs.Plan.{PlanView}
 use Rattle.serial_meaning.specs.declared.origin.Origin.{Origin}
 use Rattle.strand_meaning.specs.Observation.{IsInstance}
-use Rattle.strand_meaning.specs.Strands.{Found, Reached, Missing, Blocked, walk_in}
+use Rattle.strand_meaning.specs.Strands.{Found, FoundStrand, Missing, Blocked, walk_in}
 use Rattle.serial_runner.specs.Nodes.{IsBelow}
 use Rattle.replay.specs.declared.descent.Way.{Way}
 use Rattle.replay.specs.declared.descent.Way.TheVariants as way
@@ -25,7 +25,7 @@ pub record IsOnWayTo (plan : PlanView) (j : List ℕ) (o : Origin) : Type 0 wher
 
 -- The way leads further down, to where the same stands; or what stands there is known.
 abbrev pub Leads : PlanView → Origin → List ℕ → Result Way ReplayError → Type 0
-Leads plan o j (Ok (way.Found strand)) = seen_from plan o j ≡ Reached strand
+Leads plan o j (Ok (way.Found strand)) = seen_from plan o j ≡ FoundStrand strand
 Leads plan o j (Ok (way.Down next)) = IsOnWayTo plan j next × (length (path_of o) < length (path_of next)) × (seen_from plan next j ≡ seen_from plan o j)
 Leads plan o j (Err error.NoStrand) = seen_from plan o j ≡ Missing
 Leads plan o j (Err (error.Blocked f)) = seen_from plan o j ≡ Blocked f

@@ -71,17 +71,17 @@ fn descend(
     let Node {
         strand,
         child,
-        joined,
+        child_fault,
     } = walk_node(alloc, plan, origin, at)?;
     if let Some(child) = child {
         drop(strand);
-        drop(joined);
+        drop(child_fault);
         let Some(next) = enter(alloc, child, at)? else {
             return Err(ReplayError::NoStrand);
         };
         return Ok(Way::Down(next));
     }
-    if let Some(fault) = joined {
+    if let Some(fault) = child_fault {
         drop(strand);
         return Err(ReplayError::Blocked(fault));
     }

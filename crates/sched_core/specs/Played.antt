@@ -12,8 +12,8 @@ use Rattle.sched_meaning.specs.declared.event.CoreEvent.TheVariants.{Run}
 use Rattle.sched_core.specs.Cores.{core_of, plan_of}
 use Rattle.sched_core.specs.Consistent.{Goes}
 use Rattle.sched_core.specs.declared.simulation.Simulated.{Simulated}
-use Rattle.sched_core.specs.declared.simulation.Went.{Went}
-use Rattle.sched_core.specs.declared.simulation.Went.TheVariants.{On, Over}
+use Rattle.sched_core.specs.declared.simulation.Played.{Played}
+use Rattle.sched_core.specs.declared.simulation.Played.TheVariants.{On, Finished}
 use Rattle.sched_core.specs.declared.state.CoreState.{CoreState}
 
 -- The word picks an event, which happens, and main isn't answered yet.
@@ -36,6 +36,6 @@ pub record AnswersMain (word : ℕ) (s : CoreState) (simulated : Simulated) : Ty
   pub answered : machine.IsRootAnswered next
   pub mains : IsMains (plan_of s) simulated.answer
 
-abbrev pub Plays : ℕ → CoreState → Went → Type 0
+abbrev pub Plays : ℕ → CoreState → Played → Type 0
 Plays word s (On next) = GoesOn word s next
-Plays word s (Over simulated) = AnswersMain word s simulated
+Plays word s (Finished simulated) = AnswersMain word s simulated

@@ -80,22 +80,17 @@ impl Core {
     }
 
     /// Main's answer, once it is there.
+    ///
+    /// Its clause `sound` says what holds of every core, whatever events led to it: no origin was begun twice, one that was begun and isn't
+    /// answered is that of one task in one place, answers are evaluations, there are no more runs than segments, and until the root is
+    /// answered some event goes on with the work. So who steps a core by `while core.answer().is_none() { core.step(next)?; }` knows each
+    /// of these of the core at every turn, as that steps can't run out before main's answer is there.
     pub fn answer(&self) -> Option<&Answer>
         ensures none { self.now.spent ≡ false → (IsNone result ↔ (IsRootAnswered self.now → ⊥)) }
         ensures root { self.now.spent ≡ false → IfSome (option_copied result) (λ a. (a.plan ≡ self.now.plan) × (a.origin ≡ main_origin self.now.plan)) }
         ensures fault { self.now.spent ≡ false → IfSome (option_copied result) (λ a. IsFaultOf self.now.plan a.outcome) }
+        ensures sound { self.now.spent ≡ false → IsSound self.now }
     {
         self.state.root.as_ref()
-    }
-
-    /// What holds of every core, whatever events led to it: no origin was begun twice, one that was begun and isn't answered is that of
-    /// one task in one place, answers are evaluations, there are no more runs than segments, and until the root is answered some event
-    /// goes on with the work. It is for who steps a core and rests on that, as to tell that steps can't run out before main's answer is there.
-    /// So a loop `while core.answer().is_none() { core.step(next)?; core.is_sound(); }` knows at its end each of these of the core.
-    pub fn is_sound(&self)
-        ensures { self.now.spent ≡ false → IsSound self.now }
-    {
-        // Read for the proof: a core keeps by its type that it is sound.
-        let _spent = self.spent;
     }
 }

@@ -29,13 +29,13 @@ pub struct Simulated {
 
 /// What a step of a simulation came to.
 #[derive(Drop)]
-enum Went {
+enum Played {
     On(CoreState),
-    Over(Simulated),
+    Finished(Simulated),
 }
 
 /// The step that a word picks.
-fn go_on(state: CoreState, alloc: Global, word: u64) -> Result<Went, Memory>
+fn go_on(state: CoreState, alloc: Global, word: u64) -> Result<Played, Memory>
     requires consistent { IsConsistent state }
     requires few { length state.workers.items ≤ 64 }
     requires root { state.root ≡ None }
@@ -47,12 +47,12 @@ fn go_on(state: CoreState, alloc: Global, word: u64) -> Result<Went, Memory>
     };
     go(&mut state, alloc, event)?;
     let Some(answer) = state.root.take() else {
-        return Ok(Went::On(state));
+        return Ok(Played::On(state));
     };
     let CoreEvent::Run(worker) = event else {
         unreachable!()
     };
-    Ok(Went::Over(Simulated { answer, worker }))
+    Ok(Played::Finished(Simulated { answer, worker }))
 }
 
 /// Runs main on so many workers, whose events the words of the number's SplitMix64 pick. At each step it is the event at the word modulo
@@ -75,8 +75,8 @@ pub fn simulate(
     loop {
         let word = words.next_word();
         match go_on(state, alloc, word)? {
-            Went::On(next) => state = next,
-            Went::Over(simulated) => return Ok(simulated),
+            Played::On(next) => state = next,
+            Played::Finished(simulated) => return Ok(simulated),
         }
     }
 }

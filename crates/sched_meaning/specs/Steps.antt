@@ -60,11 +60,11 @@ pub record Changes (n : ℕ) (R : Worker → Worker → Type 0) (c next : Core) 
   pub does : R worker after
   pub next_is : next ≡ record c { workers = slice_set c.workers n after }
 
--- what the core notes of a stop: one run event more, and a child that is begun, or an answer
-abbrev pub noted : Task → Stop → Core → Core
-noted t (Spawn child rest) c = record c { begun = c.begun ++ child ∷ []; runs = c.runs + 1 }
-noted t (Wait rest) c = record c { runs = c.runs + 1 }
-noted t (End out ended) c =
+-- what the core records of a stop: one run event more, and a child that is begun, or an answer
+abbrev pub recorded : Task → Stop → Core → Core
+recorded t (Spawn child rest) c = record c { begun = c.begun ++ child ∷ []; runs = c.runs + 1 }
+recorded t (Wait rest) c = record c { runs = c.runs + 1 }
+recorded t (End out ended) c =
     record c { answers = c.answers ++ record { plan = t.plan; origin = t.origin; out = out; outcome = ended } ∷ []; runs = c.runs + 1 }
 
 pub record Runs (w : ℕ) (c next : Core) : Type 0 where
@@ -72,7 +72,7 @@ pub record Runs (w : ℕ) (c next : Core) : Type 0 where
   pub stop : Stop
   pub moved : Core
   pub runs : Changes w (WorkerRuns task stop) c moved
-  pub next_is : next ≡ noted task stop moved
+  pub next_is : next ≡ recorded task stop moved
 
 pub record Pops (w : ℕ) (c next : Core) : Type 0 where
   pub task : Task

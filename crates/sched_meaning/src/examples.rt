@@ -5,26 +5,26 @@ ghost use Rattle.sched_meaning.specs.Examples.{NoLookWhereNoneIsStalled, NobodyS
 /// Two workers, and a main that hands out one child and waits for it: main's run begins the child, worker 1 steals main's rest and
 /// runs it to its wait, looks at it in vain, worker 0 answers the child, and then worker 1's look makes main current and its run
 /// answers the root.
-pub fn stolen_rest_answers()
+fn stolen_rest_answers()
     ensures { StolenRestAnswers }
 {}
 
 /// A new core has no steal of worker 0 from worker 0.
-pub fn nobody_steals_from_itself()
+fn nobody_steals_from_itself()
     ensures { NobodyStealsFromItself }
 {}
 
 /// Nor a look, since no task waits.
-pub fn no_look_where_none_is_stalled()
+fn no_look_where_none_is_stalled()
     ensures { NoLookWhereNoneIsStalled }
 {}
 
 /// It has one choice: worker 0 runs.
-pub fn one_choice_at_first()
+fn one_choice_at_first()
     ensures { OneChoiceAtFirst }
 {}
 
 /// Runs stand before pops and these before steals, which go by thief and then by victim.
-pub fn steals_go_by_thief()
+fn steals_go_by_thief()
     ensures { StealsGoByThief }
 {}

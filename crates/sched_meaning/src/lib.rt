@@ -4,7 +4,7 @@
 #![tactic(auto)]
 
 pub mod event;
-pub mod examples;
+mod examples;
 pub mod laws;
 
 pub use event::CoreEvent;

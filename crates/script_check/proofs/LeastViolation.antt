@@ -1,3 +1,3 @@
-pub mod Noted
+pub mod Earliest
 pub mod Least
 pub mod First

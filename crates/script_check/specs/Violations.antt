@@ -19,6 +19,6 @@ earlier None v = Some v
 earlier (Some u) v = Some (if is_before v u then v else u)
 
 -- the least of what was found and of more violations
-abbrev pub noted : Option Violation → List Violation → Option Violation
-noted found [] = found
-noted found (v ∷ vs) = noted (earlier found v) vs
+abbrev pub earliest : Option Violation → List Violation → Option Violation
+earliest found [] = found
+earliest found (v ∷ vs) = earliest (earlier found v) vs

@@ -1,7 +1,7 @@
 // The violations in calls.
 
 ghost use Rattle.std.specs.Prelude.{◌≡◌, [], Some};
-ghost use Rattle.script_check.specs.Violations.{noted};
+ghost use Rattle.script_check.specs.Violations.{earliest};
 ghost use Rattle.script_check.specs.Functions.{function_named};
 ghost use Rattle.script_check.specs.Rules.{array_use};
 ghost use Rattle.script_check.specs.Statements.{arguments, call, answer_kind_of, loop_call_of, target_use};
@@ -21,7 +21,7 @@ pub(crate) fn judge_arguments(
     params: &[Param],
     args: &[Expr],
 )
-    ensures { found.new ≡ noted found.old (arguments params.now args.now (known_in symbols.now) (pending_in symbols.now)) }
+    ensures { found.new ≡ earliest found.old (arguments params.now args.now (known_in symbols.now) (pending_in symbols.now)) }
 {
     for (i, e) in args.iter().enumerate() {
         match params.get(i) {
@@ -43,14 +43,14 @@ pub(crate) fn judge_call(
     c: &CallText,
 ) -> Option<Kind>
     ensures kind { result ≡ answer_kind_of (function_named functions.now c.now.name.bytes) }
-    ensures found { found.new ≡ noted found.old (call functions.now c.now (known_in symbols.now) (pending_in symbols.now)) }
+    ensures found { found.new ≡ earliest found.old (call functions.now c.now (known_in symbols.now) (pending_in symbols.now)) }
 {
     let name = &c.name;
     let args = c.args.as_slice();
     match functions.named(name.bytes.as_slice()) {
         Some(f) => {
             let params = f.params.as_slice();
-            found.note_if(
+            found.add_if(
                 params.len() != args.len(),
                 Condition::WrongNumberOfArguments,
                 name.at,
@@ -59,7 +59,7 @@ pub(crate) fn judge_call(
             Some(f.answer)
         }
         None => {
-            found.note_if(true, Condition::UnknownFunction, name.at);
+            found.add_if(true, Condition::UnknownFunction, name.at);
             judge_arguments(symbols, found, &[], args);
             None
         }
@@ -68,7 +68,7 @@ pub(crate) fn judge_call(
 
 /// The target of a parallel loop.
 pub(crate) fn judge_target(symbols: &SymbolTable, found: &mut Findings, target: &Option<Name>)
-    ensures { found.new ≡ noted found.old (target_use target.now (known_in symbols.now) (pending_in symbols.now)) }
+    ensures { found.new ≡ earliest found.old (target_use target.now (known_in symbols.now) (pending_in symbols.now)) }
 {
     if let Some(x) = target {
         use_array(symbols, found, x);
@@ -83,13 +83,13 @@ pub(crate) fn judge_loop_call(
     has_target: bool,
     c: &CallText,
 )
-    ensures { found.new ≡ noted found.old (loop_call_of (function_named functions.now c.now.name.bytes) has_target c.now (known_in symbols.now) (pending_in symbols.now)) }
+    ensures { found.new ≡ earliest found.old (loop_call_of (function_named functions.now c.now.name.bytes) has_target c.now (known_in symbols.now) (pending_in symbols.now)) }
 {
     let name = &c.name;
     match functions.named(name.bytes.as_slice()) {
         Some(f) => judge_iterations(symbols, found, f, has_target, c),
         None => {
-            found.note_if(true, Condition::UnknownFunction, name.at);
+            found.add_if(true, Condition::UnknownFunction, name.at);
             judge_arguments(symbols, found, &[], c.args.as_slice());
         }
     }
@@ -103,24 +103,24 @@ fn judge_iterations(
     has_target: bool,
     c: &CallText,
 )
-    ensures { found.new ≡ noted found.old (loop_call_of (Some f.now) has_target c.now (known_in symbols.now) (pending_in symbols.now)) }
+    ensures { found.new ≡ earliest found.old (loop_call_of (Some f.now) has_target c.now (known_in symbols.now) (pending_in symbols.now)) }
 {
     let at = c.name.at;
     let params = f.params.as_slice();
     let args = c.args.as_slice();
-    found.note_if(has_target && f.answer == Kind::Id, Condition::WrongKind, at);
+    found.add_if(has_target && f.answer == Kind::Id, Condition::WrongKind, at);
     match params.split_first() {
         Some((number, others)) => {
-            found.note_if(
+            found.add_if(
                 others.len() != args.len(),
                 Condition::WrongNumberOfArguments,
                 at,
             );
-            found.note_if(number.kind == Kind::Id, Condition::WrongKind, at);
+            found.add_if(number.kind == Kind::Id, Condition::WrongKind, at);
             judge_arguments(symbols, found, others, args);
         }
         None => {
-            found.note_if(true, Condition::WrongNumberOfArguments, at);
+            found.add_if(true, Condition::WrongNumberOfArguments, at);
             judge_arguments(symbols, found, &[], args);
         }
     }

@@ -6,7 +6,7 @@ ghost use Rattle.script_check.specs.Tables.{table_of};
 ghost use Rattle.script_check.specs.Walk.{IsIndex};
 
 use crate::memory::Memory;
-use crate::named::note;
+use crate::named::add_name;
 use crate::names::NameTable;
 use crate::places::put;
 use script_grammar::{Act, Function, Items, Name, Right, Stmt};
@@ -73,14 +73,14 @@ fn in_statement(called: &mut Vec<Name>, statement: &Stmt) -> Result<(), Memory>
 {
     match &statement.act {
         Act::Let(_, r) | Act::Set(_, r) => in_right(called, r),
-        Act::Spawn(c) | Act::Call(c) => note(called, &c.name),
+        Act::Spawn(c) | Act::Call(c) => add_name(called, &c.name),
         Act::Pfor {
             var: _,
             lo: _,
             hi: _,
             target: _,
             call,
-        } => note(called, &call.name),
+        } => add_name(called, &call.name),
         Act::If(_, yes, no) => {
             in_block(called, yes.as_slice())?;
             in_block(called, no.as_slice())?;
@@ -95,7 +95,7 @@ fn in_right(called: &mut Vec<Name>, right: &Right) -> Result<(), Memory>
     ensures { OnOk result (called.new.items ≡ called.old.items ++ called_in_right right.now) }
 {
     match right {
-        Right::Call(_, c) | Right::Spawn(_, c) => note(called, &c.name),
+        Right::Call(_, c) | Right::Spawn(_, c) => add_name(called, &c.name),
         Right::Value(_) | Right::Draw(_) | Right::New(_) => Ok(()),
     }
 }

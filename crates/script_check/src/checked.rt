@@ -7,7 +7,7 @@ ghost use Rattle.script_check.specs.Places.{finds_all, finds_callee, table_of_pl
 ghost use Rattle.script_check.specs.Spawns.{spawns_in};
 ghost use Rattle.script_check.specs.Tables.{table_of};
 ghost use Rattle.script_check.specs.Valid.{IsValid, CheckFault, all_function_violations, main_violations};
-ghost use Rattle.script_check.specs.Violations.{noted};
+ghost use Rattle.script_check.specs.Violations.{earliest};
 ghost use Rattle.script_check.specs.Walk.{IsChecked, IsIndex};
 
 use crate::callees::callees;
@@ -76,13 +76,13 @@ pub fn check(alloc: Global, script: Script) -> Result<Checked, CheckError>
     let first = index(alloc, &mut found, script.functions.as_slice())?;
     judge_script(alloc, &mut found, &script, &first)?;
     match found.least() {
-        None => Ok(kept(alloc, script, first)?),
+        None => Ok(keep_valid(alloc, script, first)?),
         Some(Violation { at, number }) => Err(CheckError::Bad { number, at }),
     }
 }
 
 /// What is kept of a valid script.
-fn kept(alloc: Global, script: Script, first: NameTable<u32>) -> Result<Checked, Memory>
+fn keep_valid(alloc: Global, script: Script, first: NameTable<u32>) -> Result<Checked, Memory>
     requires valid { IsValid script }
     requires text { IsOfText script }
     requires index { IsIndex script.functions (table_of first.map) }
@@ -124,7 +124,7 @@ fn judge_script(
     first: &NameTable<u32>,
 ) -> Result<(), Memory>
     requires { IsIndex script.now.functions (table_of first.now.map) }
-    ensures { OnOk result (found.new ≡ noted found.old (main_violations (function_named script.now.functions main_name)
+    ensures { OnOk result (found.new ≡ earliest found.old (main_violations (function_named script.now.functions main_name)
         ++ all_function_violations script.now.functions script.now.functions)) }
 {
     let list = script.functions.as_slice();

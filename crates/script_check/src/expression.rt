@@ -1,7 +1,7 @@
 // The violations in expressions.
 
 ghost use Rattle.std.specs.Prelude.{◌≡◌, ◌∷◌, ◌++◌, map, Some, None};
-ghost use Rattle.script_check.specs.Violations.{noted};
+ghost use Rattle.script_check.specs.Violations.{earliest};
 ghost use Rattle.script_check.specs.Rules.{scalar_use, array_use, kind_of_variable, is_other_kind, wrong_kind};
 ghost use Rattle.script_check.specs.Expressions.{read, read_sum_part, read_product_part, wanted, all_wanted};
 ghost use Rattle.script_check.specs.Walk.{known_in, pending_in};
@@ -32,11 +32,11 @@ impl Seen {
         }
     }
 
-    /// Notes where this has another kind than the one that is wanted.
+    /// Adds a finding where this has another kind than the one that is wanted.
     pub(crate) fn want(self, found: &mut Findings, kind: Kind)
-        ensures { found.new ≡ noted found.old (wrong_kind kind self.kind self.at) }
+        ensures { found.new ≡ earliest found.old (wrong_kind kind self.kind self.at) }
     {
-        found.note_if(
+        found.add_if(
             is_other_kind(kind, self.kind),
             Condition::WrongKind,
             self.at,
@@ -57,20 +57,20 @@ fn is_other_kind(wanted: Kind, kind: Option<Kind>) -> bool
 /// A name that is read or written as a scalar, and its kind.
 pub(crate) fn use_scalar(symbols: &SymbolTable, found: &mut Findings, x: &Name) -> Option<Kind>
     ensures kind { result ≡ kind_of_variable ((known_in symbols.now).what x.now.bytes) }
-    ensures found { found.new ≡ noted found.old (scalar_use ((known_in symbols.now).what x.now.bytes) (pending_in symbols.now) x.now) }
+    ensures found { found.new ≡ earliest found.old (scalar_use ((known_in symbols.now).what x.now.bytes) (pending_in symbols.now) x.now) }
 {
     match symbols.variable(x) {
         Some(Variable::Scalar(kind)) => {
-            found.note_if(symbols.is_pending(x), Condition::PendingVariable, x.at);
+            found.add_if(symbols.is_pending(x), Condition::PendingVariable, x.at);
             Some(kind)
         }
         Some(Variable::Array) => {
-            found.note_if(true, Condition::WrongKind, x.at);
-            found.note_if(symbols.is_pending(x), Condition::PendingVariable, x.at);
+            found.add_if(true, Condition::WrongKind, x.at);
+            found.add_if(symbols.is_pending(x), Condition::PendingVariable, x.at);
             None
         }
         None => {
-            found.note_if(true, Condition::UnknownVariable, x.at);
+            found.add_if(true, Condition::UnknownVariable, x.at);
             None
         }
     }
@@ -78,29 +78,29 @@ pub(crate) fn use_scalar(symbols: &SymbolTable, found: &mut Findings, x: &Name) 
 
 /// A name that is read or written as an array.
 pub(crate) fn use_array(symbols: &SymbolTable, found: &mut Findings, x: &Name)
-    ensures { found.new ≡ noted found.old (array_use ((known_in symbols.now).what x.now.bytes) (pending_in symbols.now) x.now) }
+    ensures { found.new ≡ earliest found.old (array_use ((known_in symbols.now).what x.now.bytes) (pending_in symbols.now) x.now) }
 {
     match symbols.variable(x) {
         Some(Variable::Scalar(_)) => {
-            found.note_if(true, Condition::WrongKind, x.at);
-            found.note_if(symbols.is_pending(x), Condition::PendingVariable, x.at);
+            found.add_if(true, Condition::WrongKind, x.at);
+            found.add_if(symbols.is_pending(x), Condition::PendingVariable, x.at);
         }
-        Some(Variable::Array) => found.note_if(
+        Some(Variable::Array) => found.add_if(
             symbols.is_pending(x),
             Condition::PendingVariable,
             x.at,
         ),
-        None => found.note_if(true, Condition::UnknownVariable, x.at),
+        None => found.add_if(true, Condition::UnknownVariable, x.at),
     }
 }
 
 /// An expression of any kind.
 #[cycle(expressions)]
-#[tactic(auto, using(crate::proofs::LeastViolation::Noted::noted_append))]
+#[tactic(auto, using(crate::proofs::LeastViolation::Earliest::earliest_append))]
 pub(crate) fn see(symbols: &SymbolTable, found: &mut Findings, e: &Expr) -> Seen
     ensures at { result.at ≡ (read e.now).at }
     ensures kind { result.kind ≡ (read e.now).kind (known_in symbols.now) }
-    ensures found { found.new ≡ noted found.old ((read e.now).violations (known_in symbols.now) (pending_in symbols.now)) }
+    ensures found { found.new ≡ earliest found.old ((read e.now).violations (known_in symbols.now) (pending_in symbols.now)) }
 {
     match e {
         Expr::Number(n) => Seen::int(n.at),
@@ -138,11 +138,11 @@ pub(crate) fn see(symbols: &SymbolTable, found: &mut Findings, e: &Expr) -> Seen
 
 /// An item of an array.
 #[cycle(expressions)]
-#[tactic(auto, using(crate::proofs::LeastViolation::Noted::noted_append))]
+#[tactic(auto, using(crate::proofs::LeastViolation::Earliest::earliest_append))]
 fn see_item(symbols: &SymbolTable, found: &mut Findings, x: &Name, i: &Expr) -> Seen
     ensures at { result.at ≡ x.now.at }
     ensures kind { result.kind ≡ Some kind.Int }
-    ensures found { found.new ≡ noted found.old (array_use ((known_in symbols.now).what x.now.bytes) (pending_in symbols.now) x.now
+    ensures found { found.new ≡ earliest found.old (array_use ((known_in symbols.now).what x.now.bytes) (pending_in symbols.now) x.now
         ++ wanted kind.Int (read i.now) (known_in symbols.now) (pending_in symbols.now)) }
 {
     use_array(symbols, found, x);
@@ -152,10 +152,10 @@ fn see_item(symbols: &SymbolTable, found: &mut Findings, x: &Name, i: &Expr) -> 
 
 /// An expression that has to be of this kind. The answer is its place.
 #[cycle(expressions)]
-#[tactic(auto, using(crate::proofs::LeastViolation::Noted::noted_append), unfolding(crate::specs::Expressions::wanted))]
+#[tactic(auto, using(crate::proofs::LeastViolation::Earliest::earliest_append), unfolding(crate::specs::Expressions::wanted))]
 pub(crate) fn want(symbols: &SymbolTable, found: &mut Findings, kind: Kind, e: &Expr) -> u32
     ensures at { result ≡ (read e.now).at }
-    ensures found { found.new ≡ noted found.old (wanted kind (read e.now) (known_in symbols.now) (pending_in symbols.now)) }
+    ensures found { found.new ≡ earliest found.old (wanted kind (read e.now) (known_in symbols.now) (pending_in symbols.now)) }
 {
     let seen = see(symbols, found, e);
     seen.want(found, kind);
@@ -164,9 +164,9 @@ pub(crate) fn want(symbols: &SymbolTable, found: &mut Findings, kind: Kind, e: &
 
 /// The operands of a sum after the first.
 #[cycle(expressions)]
-#[tactic(auto, using(crate::proofs::LeastViolation::Noted::noted_append))]
+#[tactic(auto, using(crate::proofs::LeastViolation::Earliest::earliest_append))]
 fn want_summands(symbols: &SymbolTable, found: &mut Findings, parts: &[SumPart])
-    ensures { found.new ≡ noted found.old (all_wanted kind.Int (map read_sum_part parts.now) (known_in symbols.now) (pending_in symbols.now)) }
+    ensures { found.new ≡ earliest found.old (all_wanted kind.Int (map read_sum_part parts.now) (known_in symbols.now) (pending_in symbols.now)) }
 {
     for part in parts {
         want(symbols, found, Kind::Int, &part.operand);
@@ -175,9 +175,9 @@ fn want_summands(symbols: &SymbolTable, found: &mut Findings, parts: &[SumPart])
 
 /// The operands of a product after the first.
 #[cycle(expressions)]
-#[tactic(auto, using(crate::proofs::LeastViolation::Noted::noted_append))]
+#[tactic(auto, using(crate::proofs::LeastViolation::Earliest::earliest_append))]
 fn want_factors(symbols: &SymbolTable, found: &mut Findings, parts: &[ProductPart])
-    ensures { found.new ≡ noted found.old (all_wanted kind.Int (map read_product_part parts.now) (known_in symbols.now) (pending_in symbols.now)) }
+    ensures { found.new ≡ earliest found.old (all_wanted kind.Int (map read_product_part parts.now) (known_in symbols.now) (pending_in symbols.now)) }
 {
     for part in parts {
         want(symbols, found, Kind::Int, &part.operand);

@@ -2,7 +2,7 @@
 
 ghost use Rattle.std.specs.Prelude.{◌≡◌};
 ghost use Rattle.script_check.specs.Conditions.{number_of};
-ghost use Rattle.script_check.specs.Violations.{violation_if, noted};
+ghost use Rattle.script_check.specs.Violations.{violation_if, earliest};
 
 use crate::condition::Condition;
 use std::marker::Model;
@@ -39,9 +39,9 @@ impl Findings {
         Findings { least: None }
     }
 
-    /// Notes a condition's violation at this place, if it is broken there.
-    pub(crate) fn note_if(&mut self, is_broken: bool, condition: Condition, at: u32)
-        ensures { self.new ≡ noted self.old (violation_if is_broken (number_of condition) at) }
+    /// Adds a condition's violation at this place, if it is broken there.
+    pub(crate) fn add_if(&mut self, is_broken: bool, condition: Condition, at: u32)
+        ensures { self.new ≡ earliest self.old (violation_if is_broken (number_of condition) at) }
     {
         let number = condition.number();
         if is_broken {
@@ -55,7 +55,7 @@ impl Findings {
         }
     }
 
-    /// The least violation noted.
+    /// The least violation added.
     pub(crate) fn least(&self) -> Option<Violation>
         ensures { result ≡ self.now }
     {

@@ -1,7 +1,7 @@
 // The violations in functions.
 
 ghost use Rattle.std.specs.Prelude.{◌≡◌, OnOk};
-ghost use Rattle.script_check.specs.Violations.{noted};
+ghost use Rattle.script_check.specs.Violations.{earliest};
 ghost use Rattle.script_check.specs.Functions.{function_named, main_name};
 ghost use Rattle.script_check.specs.Valid.{function_violations, known_params, main_violations, param_violations};
 ghost use Rattle.script_check.specs.Walk.{known_in, state_of};
@@ -19,15 +19,15 @@ use std::alloc::Global;
 
 /// The function named `main`: that there is one, and that it has no parameters.
 pub(crate) fn judge_main(functions: &Functions, found: &mut Findings)
-    ensures { found.new ≡ noted found.old (main_violations (function_named functions.now main_name)) }
+    ensures { found.new ≡ earliest found.old (main_violations (function_named functions.now main_name)) }
 {
     match functions.named(b"main") {
         Some(f) => {
             if let Some(param) = f.params.as_slice().first() {
-                found.note_if(true, Condition::MainHasParameters, param.name.at);
+                found.add_if(true, Condition::MainHasParameters, param.name.at);
             }
         }
-        None => found.note_if(true, Condition::NoMain, 0),
+        None => found.add_if(true, Condition::NoMain, 0),
     }
 }
 
@@ -39,7 +39,7 @@ fn declare_params(
     params: &[Param],
 ) -> Result<(), Memory>
     ensures state { OnOk result (state_of symbols.new ≡ record (state_of symbols.old) { known = known_params params.now (known_in symbols.old) }) }
-    ensures found { OnOk result (found.new ≡ noted found.old (param_violations params.now (known_in symbols.old))) }
+    ensures found { OnOk result (found.new ≡ earliest found.old (param_violations params.now (known_in symbols.old))) }
 {
     for param in params {
         symbols.declare(alloc, found, &param.name, Variable::Scalar(param.kind))?;
@@ -54,7 +54,7 @@ pub(crate) fn judge_function(
     found: &mut Findings,
     f: &Function,
 ) -> Result<(), Memory>
-    ensures { OnOk result (found.new ≡ noted found.old (function_violations functions.now f.now)) }
+    ensures { OnOk result (found.new ≡ earliest found.old (function_violations functions.now f.now)) }
 {
     let mut symbols = SymbolTable::new(alloc);
     declare_params(alloc, &mut symbols, found, f.params.as_slice())?;

@@ -4,7 +4,7 @@ ghost use Rattle.std.specs.Prelude.{◌≡◌, List, [], ◌∷◌, IfOk, OnOk, 
 ghost use Rattle.script_check.specs.Functions.{function_named};
 ghost use Rattle.script_check.specs.Tables.{table_of};
 ghost use Rattle.script_check.specs.Valid.{functions_twice};
-ghost use Rattle.script_check.specs.Violations.{noted};
+ghost use Rattle.script_check.specs.Violations.{earliest};
 ghost use Rattle.script_check.specs.Walk.{IsIndex};
 
 use crate::condition::Condition;
@@ -59,7 +59,7 @@ impl<'s> Functions<'s> {
     }
 }
 
-/// The index of the first function of each name. A function whose name stands before is noted. The answer is `Memory` also where
+/// The index of the first function of each name. A function whose name stands before is a finding. The answer is `Memory` also where
 /// there are more than 2^32 functions, which no text has.
 pub(crate) fn index(
     alloc: Global,
@@ -67,12 +67,12 @@ pub(crate) fn index(
     list: &[Function],
 ) -> Result<NameTable<u32>, Memory>
     ensures index { IfOk result (λ first. IsIndex list.now (table_of first.map)) }
-    ensures twice { OnOk result (found.new ≡ noted found.old (functions_twice [] list.now)) }
+    ensures twice { OnOk result (found.new ≡ earliest found.old (functions_twice [] list.now)) }
 {
     let mut first = NameTable::new(alloc);
     for (i, f) in list.iter().enumerate() {
         let name = f.name.bytes.as_slice();
-        found.note_if(
+        found.add_if(
             first.get(name).is_some(),
             Condition::FunctionTwice,
             f.name.at,

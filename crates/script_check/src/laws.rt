@@ -7,7 +7,7 @@ pub fn fewer_pending_stays_valid()
     ensures { FewerPendingStaysValid }
 {}
 
-/// The set that a `while` is judged with has all that its body leaves pending from that set: another turn adds nothing.
+/// The set that a `while` is judged with has all that its body leaves pending from that set: another iteration adds nothing.
 pub fn loop_set_is_closed()
     ensures { LoopSetIsClosed }
 {}

@@ -35,13 +35,13 @@ fn in_statement(named: &mut Vec<Name>, statement: &Stmt) -> Result<(), Memory>
 {
     match &statement.act {
         Act::Let(x, r) | Act::Set(x, r) => {
-            note(named, x)?;
+            add_name(named, x)?;
             in_right(named, r)?;
             Ok(())
         }
-        Act::Array(x, _) => note(named, x),
+        Act::Array(x, _) => add_name(named, x),
         Act::Store(x, i, e) => {
-            note(named, x)?;
+            add_name(named, x)?;
             in_both(named, i, e)?;
             Ok(())
         }
@@ -90,7 +90,7 @@ fn in_target(named: &mut Vec<Name>, target: &Option<Name>) -> Result<(), Memory>
     ensures { OnOk result (named.new.items ≡ named.old.items ++ named_in_target target.now) }
 {
     match target {
-        Some(x) => note(named, x),
+        Some(x) => add_name(named, x),
         None => Ok(()),
     }
 }
@@ -128,9 +128,9 @@ fn in_expr(named: &mut Vec<Name>, e: &Expr) -> Result<(), Memory>
 {
     match e {
         Expr::Number(_) => Ok(()),
-        Expr::Var(x) => note(named, x),
+        Expr::Var(x) => add_name(named, x),
         Expr::Item(x, i) => {
-            note(named, x)?;
+            add_name(named, x)?;
             in_expr(named, i.get())?;
             Ok(())
         }
@@ -174,7 +174,7 @@ fn in_factors(named: &mut Vec<Name>, parts: &[ProductPart]) -> Result<(), Memory
 }
 
 /// One name more.
-pub(crate) fn note(named: &mut Vec<Name>, x: &Name) -> Result<(), Memory>
+pub(crate) fn add_name(named: &mut Vec<Name>, x: &Name) -> Result<(), Memory>
     ensures { OnOk result (named.new.items ≡ named.old.items ++ x.now ∷ []) }
 {
     named.push(x.copy())?;

@@ -40,11 +40,11 @@ fn collect_one(alloc: Global, symbols: &mut SymbolTable, statement: &Stmt) -> Re
 {
     match &statement.act {
         Act::Let(x, Right::Spawn(_, _)) => {
-            symbols.spawn_to(alloc, x)?;
+            symbols.add_pending(alloc, x)?;
             Ok(true)
         }
         Act::Set(x, Right::Spawn(_, _)) => {
-            symbols.spawn_to(alloc, x)?;
+            symbols.add_pending(alloc, x)?;
             Ok(true)
         }
         Act::Sync | Act::Scope(_) => Ok(false),

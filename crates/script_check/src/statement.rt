@@ -5,7 +5,7 @@ ghost use Rattle.script_grammar.specs.declared.tree.Act.{out-Act};
 ghost use Rattle.script_grammar.specs.declared.tree.Kind.TheVariants as kind;
 ghost use Rattle.script_grammar.specs.declared.tree.Stmt.{out-Stmt};
 ghost use Rattle.script_check.specs.declared.variable.Variable.TheVariants.{Scalar, Array};
-ghost use Rattle.script_check.specs.Violations.{noted};
+ghost use Rattle.script_check.specs.Violations.{earliest};
 ghost use Rattle.script_check.specs.Tables.{with_first};
 ghost use Rattle.script_check.specs.Functions.{function_named};
 ghost use Rattle.script_check.specs.Names.{union, after_right};
@@ -35,7 +35,7 @@ fn see_right(
 ) -> Seen
     ensures at { result.at ≡ (read_right functions.now right.now).at }
     ensures kind { result.kind ≡ (read_right functions.now right.now).kind (known_in symbols.now) }
-    ensures found { found.new ≡ noted found.old ((read_right functions.now right.now).violations (known_in symbols.now) (pending_in symbols.now)) }
+    ensures found { found.new ≡ earliest found.old ((read_right functions.now right.now).violations (known_in symbols.now) (pending_in symbols.now)) }
 {
     match right {
         Right::Value(e) => see(symbols, found, e),
@@ -55,7 +55,7 @@ fn see_right(
 }
 
 /// `let x = R`.
-#[tactic(auto, using(crate::proofs::LeastViolation::Noted::noted_append))]
+#[tactic(auto, using(crate::proofs::LeastViolation::Earliest::earliest_append))]
 fn judge_let(
     alloc: Global,
     functions: &Functions,
@@ -68,7 +68,7 @@ fn judge_let(
       known = with_first (known_in symbols.old) x.now.bytes (Scalar (kind_or_int ((read_right functions.now right.now).kind (known_in symbols.old))));
       names = after_right x.now right.now (state_of symbols.old).names;
     }) }
-    ensures found { OnOk result (found.new ≡ noted found.old ((read_right functions.now right.now).violations (known_in symbols.old) (pending_in symbols.old) ++ declaration (known_in symbols.old) x.now)) }
+    ensures found { OnOk result (found.new ≡ earliest found.old ((read_right functions.now right.now).violations (known_in symbols.old) (pending_in symbols.old) ++ declaration (known_in symbols.old) x.now)) }
 {
     let seen = see_right(functions, symbols, found, right);
     symbols.declare(alloc, found, x, Variable::Scalar(kind_or_int(seen.kind)))?;
@@ -83,7 +83,7 @@ fn kind_or_int(kind: Option<Kind>) -> Kind
 }
 
 /// `let a[n]`.
-#[tactic(auto, using(crate::proofs::LeastViolation::Noted::noted_append))]
+#[tactic(auto, using(crate::proofs::LeastViolation::Earliest::earliest_append))]
 fn judge_array(
     alloc: Global,
     symbols: &mut SymbolTable,
@@ -92,10 +92,10 @@ fn judge_array(
     n: &Number,
 ) -> Result<(), Memory>
     ensures state { OnOk result (state_of symbols.new ≡ record (state_of symbols.old) { known = with_first (known_in symbols.old) x.now.bytes Array }) }
-    ensures found { OnOk result (found.new ≡ noted found.old (declaration (known_in symbols.old) x.now ++ array_length n.now)) }
+    ensures found { OnOk result (found.new ≡ earliest found.old (declaration (known_in symbols.old) x.now ++ array_length n.now)) }
 {
     symbols.declare(alloc, found, x, Variable::Array)?;
-    found.note_if(n.value < 1 || 4096 < n.value, Condition::ArrayLength, n.at);
+    found.add_if(n.value < 1 || 4096 < n.value, Condition::ArrayLength, n.at);
     Ok(())
 }
 
@@ -109,7 +109,7 @@ fn judge_set(
     right: &Right,
 ) -> Result<(), Memory>
     ensures state { OnOk result (state_of symbols.new ≡ record (state_of symbols.old) { names = after_right x.now right.now (state_of symbols.old).names }) }
-    ensures found { OnOk result (found.new ≡ noted found.old (scalar_use ((known_in symbols.old).what x.now.bytes) (pending_in symbols.old) x.now
+    ensures found { OnOk result (found.new ≡ earliest found.old (scalar_use ((known_in symbols.old).what x.now.bytes) (pending_in symbols.old) x.now
         ++ wanted_as (kind_of_variable ((known_in symbols.old).what x.now.bytes)) (read_right functions.now right.now) (known_in symbols.old) (pending_in symbols.old))) }
 {
     let kind = use_scalar(symbols, found, x);
@@ -118,7 +118,7 @@ fn judge_set(
 }
 
 /// A right side that is set: where the variable has a kind, that kind.
-#[tactic(auto, using(crate::proofs::LeastViolation::Noted::noted_append), unfolding(crate::specs::Expressions::wanted))]
+#[tactic(auto, using(crate::proofs::LeastViolation::Earliest::earliest_append), unfolding(crate::specs::Expressions::wanted))]
 fn want_right(
     functions: &Functions,
     symbols: &SymbolTable,
@@ -126,7 +126,7 @@ fn want_right(
     kind: Option<Kind>,
     right: &Right,
 )
-    ensures { found.new ≡ noted found.old (wanted_as kind (read_right functions.now right.now) (known_in symbols.now) (pending_in symbols.now)) }
+    ensures { found.new ≡ earliest found.old (wanted_as kind (read_right functions.now right.now) (known_in symbols.now) (pending_in symbols.now)) }
 {
     let seen = see_right(functions, symbols, found, right);
     if let Some(kind) = kind {
@@ -144,15 +144,15 @@ fn spawn_into(
     ensures { OnOk result (state_of symbols.new ≡ record (state_of symbols.old) { names = after_right x.now right.now (state_of symbols.old).names }) }
 {
     match right {
-        Right::Spawn(_, _) => symbols.spawn_to(alloc, x),
+        Right::Spawn(_, _) => symbols.add_pending(alloc, x),
         _ => Ok(()),
     }
 }
 
 /// `a[E] = E`.
-#[tactic(auto, using(crate::proofs::LeastViolation::Noted::noted_append))]
+#[tactic(auto, using(crate::proofs::LeastViolation::Earliest::earliest_append))]
 fn judge_store(symbols: &SymbolTable, found: &mut Findings, x: &Name, i: &Expr, e: &Expr)
-    ensures { found.new ≡ noted found.old (array_use ((known_in symbols.now).what x.now.bytes) (pending_in symbols.now) x.now
+    ensures { found.new ≡ earliest found.old (array_use ((known_in symbols.now).what x.now.bytes) (pending_in symbols.now) x.now
         ++ two_wanted kind.Int (read i.now) (read e.now) (known_in symbols.now) (pending_in symbols.now)) }
 {
     use_array(symbols, found, x);
@@ -160,7 +160,7 @@ fn judge_store(symbols: &SymbolTable, found: &mut Findings, x: &Name, i: &Expr, 
 }
 
 /// `pfor i in E..E into a call f(i, ..)`.
-#[tactic(auto, using(crate::proofs::LeastViolation::Noted::noted_append))]
+#[tactic(auto, using(crate::proofs::LeastViolation::Earliest::earliest_append))]
 fn judge_loop(
     functions: &Functions,
     symbols: &SymbolTable,
@@ -170,7 +170,7 @@ fn judge_loop(
     target: &Option<Name>,
     call: &CallText,
 )
-    ensures { found.new ≡ noted found.old (two_wanted kind.Int (read lo.now) (read hi.now) (known_in symbols.now) (pending_in symbols.now)
+    ensures { found.new ≡ earliest found.old (two_wanted kind.Int (read lo.now) (read hi.now) (known_in symbols.now) (pending_in symbols.now)
         ++ target_use target.now (known_in symbols.now) (pending_in symbols.now)
         ++ loop_call_of (function_named functions.now call.now.name.bytes) (is_some target.now) call.now (known_in symbols.now) (pending_in symbols.now)) }
 {
@@ -180,9 +180,9 @@ fn judge_loop(
 }
 
 /// Two expressions that have to be numbers.
-#[tactic(auto, using(crate::proofs::LeastViolation::Noted::noted_append), unfolding(crate::specs::Expressions::two_wanted))]
+#[tactic(auto, using(crate::proofs::LeastViolation::Earliest::earliest_append), unfolding(crate::specs::Expressions::two_wanted))]
 fn want_two(symbols: &SymbolTable, found: &mut Findings, a: &Expr, b: &Expr)
-    ensures { found.new ≡ noted found.old (two_wanted kind.Int (read a.now) (read b.now) (known_in symbols.now) (pending_in symbols.now)) }
+    ensures { found.new ≡ earliest found.old (two_wanted kind.Int (read a.now) (read b.now) (known_in symbols.now) (pending_in symbols.now)) }
 {
     want(symbols, found, Kind::Int, a);
     want(symbols, found, Kind::Int, b);
@@ -208,7 +208,7 @@ fn end_if(
     Ok(())
 }
 
-/// The beginning of a `while`: its condition and its body are judged with all that an earlier turn may have left pending.
+/// The beginning of a `while`: its condition and its body are judged with all that an earlier iteration may have left pending.
 fn begin_while(alloc: Global, symbols: &mut SymbolTable, body: &[Stmt]) -> Result<(), Memory>
     ensures { OnOk result (state_of symbols.new ≡ record (state_of symbols.old) { names = union (state_of symbols.old).names (after body.now (state_of symbols.old).names) }) }
 {
@@ -227,7 +227,7 @@ pub(crate) fn judge_each(
     statements: &[Stmt],
 ) -> Result<(), Memory>
     ensures state { OnOk result (state_of symbols.new ≡ state_after_all functions.now statements.now (state_of symbols.old)) }
-    ensures found { OnOk result (found.new ≡ noted found.old (violations_each (judge_all statements.now) (context functions.now in_block) (known_in symbols.old) (pending_in symbols.old))) }
+    ensures found { OnOk result (found.new ≡ earliest found.old (violations_each (judge_all statements.now) (context functions.now in_block) (known_in symbols.old) (pending_in symbols.old))) }
 {
     for statement in statements {
         judge(alloc, functions, symbols, found, in_block, statement)?;
@@ -246,7 +246,7 @@ fn judge_block(
 ) -> Result<bool, Memory>
     ensures keeps { IfOk result (λ b. b ≡ keeps_all statements.now) }
     ensures state { OnOk result (state_of symbols.new ≡ record (state_of symbols.old) { known = known_each (judge_all statements.now) functions.now (known_in symbols.old) }) }
-    ensures found { OnOk result (found.new ≡ noted found.old (violations_each (judge_all statements.now) (context functions.now true) (known_in symbols.old) (pending_in symbols.old))) }
+    ensures found { OnOk result (found.new ≡ earliest found.old (violations_each (judge_all statements.now) (context functions.now true) (known_in symbols.old) (pending_in symbols.old))) }
 {
     let outer = symbols.enter(alloc);
     judge_each(alloc, functions, symbols, found, true, statements)?;
@@ -255,7 +255,7 @@ fn judge_block(
 
 /// One statement.
 #[cycle(statements)]
-#[tactic(auto, using(crate::proofs::LeastViolation::Noted::noted_append))]
+#[tactic(auto, using(crate::proofs::LeastViolation::Earliest::earliest_append))]
 fn judge(
     alloc: Global,
     functions: &Functions,
@@ -265,15 +265,15 @@ fn judge(
     statement: &Stmt,
 ) -> Result<(), Memory>
     ensures state { OnOk result (state_of symbols.new ≡ state_after functions.now statement.now (state_of symbols.old)) }
-    ensures found { OnOk result (found.new ≡ noted found.old ((judge statement.now).violations (context functions.now in_block) (known_in symbols.old) (pending_in symbols.old))) }
+    ensures found { OnOk result (found.new ≡ earliest found.old ((judge statement.now).violations (context functions.now in_block) (known_in symbols.old) (pending_in symbols.old))) }
 {
     match &statement.act {
         Act::Let(x, right) => {
-            found.note_if(in_block, Condition::LetInABlock, statement.at);
+            found.add_if(in_block, Condition::LetInABlock, statement.at);
             judge_let(alloc, functions, symbols, found, x, right)?;
         }
         Act::Array(x, n) => {
-            found.note_if(in_block, Condition::LetInABlock, statement.at);
+            found.add_if(in_block, Condition::LetInABlock, statement.at);
             judge_array(alloc, symbols, found, x, n)?;
         }
         Act::Set(x, right) => judge_set(alloc, functions, symbols, found, x, right)?,
@@ -298,9 +298,9 @@ fn judge(
 }
 
 /// A statement that has blocks. Both blocks of an `if`, and that of a `scope`, are judged with what is pending before; a `while` is judged
-/// once, with what an earlier turn may have left pending. A `scope` ends with a sync.
+/// once, with what an earlier iteration may have left pending. A `scope` ends with a sync.
 #[cycle(statements)]
-#[tactic(auto, using(crate::proofs::LeastViolation::Noted::noted_append))]
+#[tactic(auto, using(crate::proofs::LeastViolation::Earliest::earliest_append))]
 fn judge_nested(
     alloc: Global,
     functions: &Functions,
@@ -310,7 +310,7 @@ fn judge_nested(
 ) -> Result<(), Memory>
     requires { HasBlocks (out-Act (out-Stmt statement.now).act) }
     ensures state { OnOk result (state_of symbols.new ≡ state_after functions.now statement.now (state_of symbols.old)) }
-    ensures found { (in_block : Bool) → OnOk result (found.new ≡ noted found.old ((judge statement.now).violations (context functions.now in_block) (known_in symbols.old) (pending_in symbols.old))) }
+    ensures found { (in_block : Bool) → OnOk result (found.new ≡ earliest found.old ((judge statement.now).violations (context functions.now in_block) (known_in symbols.old) (pending_in symbols.old))) }
 {
     match &statement.act {
         Act::If(e, a, b) => {

@@ -4,7 +4,7 @@ ghost use Rattle.std.specs.Prelude.{◌≡◌, false, true, OnOk, ◌&&◌};
 ghost use Rattle.script_check.specs.Names.{no_names, names_if, with_name};
 ghost use Rattle.script_check.specs.Tables.{no_entries, with_first};
 ghost use Rattle.script_check.specs.Rules.{declaration};
-ghost use Rattle.script_check.specs.Violations.{noted};
+ghost use Rattle.script_check.specs.Violations.{earliest};
 ghost use Rattle.script_check.specs.Walk.{undo, undone, state_of, known_in, pending_in};
 
 use crate::condition::Condition;
@@ -73,7 +73,7 @@ impl SymbolTable {
         self.pending.get(name.bytes.as_slice()).is_some()
     }
 
-    /// Makes a variable known, and notes where its name is known or one too many.
+    /// Makes a variable known, and adds a finding where its name is known or one too many.
     pub(crate) fn declare(
         &mut self,
         alloc: Global,
@@ -82,12 +82,12 @@ impl SymbolTable {
         variable: Variable,
     ) -> Result<(), Memory>
         ensures state { OnOk result (state_of self.new ≡ record (state_of self.old) { known = with_first (known_in self.old) name.now.bytes variable }) }
-        ensures found { OnOk result (found.new ≡ noted found.old (declaration (known_in self.old) name.now)) }
+        ensures found { OnOk result (found.new ≡ earliest found.old (declaration (known_in self.old) name.now)) }
     {
         let bytes = name.bytes.as_slice();
         let is_known = self.known.get(bytes).is_some();
-        found.note_if(is_known, Condition::VariableTwice, name.at);
-        found.note_if(
+        found.add_if(is_known, Condition::VariableTwice, name.at);
+        found.add_if(
             !is_known && self.known.len() == MOST_VARIABLES,
             Condition::TooManyVariables,
             name.at,
@@ -96,7 +96,7 @@ impl SymbolTable {
     }
 
     /// A spawn with this target.
-    pub(crate) fn spawn_to(&mut self, alloc: Global, name: &Name) -> Result<(), Memory>
+    pub(crate) fn add_pending(&mut self, alloc: Global, name: &Name) -> Result<(), Memory>
         ensures { OnOk result (state_of self.new ≡ record (state_of self.old) { names = with_name name.now.bytes (state_of self.old).names }) }
     {
         let bytes = name.bytes.as_slice();

@@ -9,8 +9,8 @@ abbrev pub shown : ℕ → ℕ
 shown byte = if byte == 9 then 9 else if nat_le 32 byte then (if nat_le byte 126 then byte else 63) else 63
 
 -- what takes as much room: a tab for a tab, else a blank
-abbrev pub room : ℕ → ℕ
-room byte = if byte == 9 then 9 else 32
+abbrev pub blank_for : ℕ → ℕ
+blank_for byte = if byte == 9 then 9 else 32
 
 -- The line of byte `at` from the first to the second, but 72 bytes before `at` and 72 from it on at most.
 pub record IsWindow (text : List ℕ) (at from to : ℕ) : Type 0 where
@@ -49,7 +49,7 @@ place_line line column = codes "line " ++ decimal line ++ codes ", column " ++ d
 
 -- the text from one byte to another, and below it room up to byte `at`
 abbrev pub text_lines : (text : List ℕ) (from at to : ℕ) → List ℕ
-text_lines text from at to = map shown (drop from (take to text)) ++ codes "\n" ++ map room (drop from (take at text))
+text_lines text from at to = map shown (drop from (take to text)) ++ codes "\n" ++ map blank_for (drop from (take at text))
 
 -- the caret with a message and an advice
 abbrev pub caret_line : List ℕ → List ℕ → List ℕ

@@ -1,7 +1,7 @@
 // The lines that show a fault of a text.
 
 ghost use Rattle.std.specs.Prelude.{◌≡◌, ◌≤◌, ◌++◌, IfOk, OnOk, codes, length, map};
-ghost use Rattle.script_excerpt.specs.Excerpts.{IsAdvice, IsExcerpt, IsWindow, caret_line, is_at_version, is_misplaced_return, is_misplaced_version, place_line, room, shown, text_lines, word_advice};
+ghost use Rattle.script_excerpt.specs.Excerpts.{IsAdvice, IsExcerpt, IsWindow, caret_line, is_at_version, is_misplaced_return, is_misplaced_version, place_line, blank_for, shown, text_lines, word_advice};
 
 use crate::advice::follower;
 use crate::bytes::extended;
@@ -34,8 +34,8 @@ fn shown(byte: u8) -> u8
 }
 
 // What takes as much room on a terminal.
-fn room(byte: u8) -> u8
-    ensures { result ≡ room byte }
+fn blank_for(byte: u8) -> u8
+    ensures { result ≡ blank_for byte }
 {
     match byte {
         b'\t' => b'\t',
@@ -55,10 +55,10 @@ pub fn add_shown(lines: &mut Vec<u8>, bytes: &[u8]) -> Result<(), AllocError>
 
 // Adds as much room as the bytes take.
 fn add_room(lines: &mut Vec<u8>, bytes: &[u8]) -> Result<(), AllocError>
-    ensures { OnOk result (lines.new.items ≡ lines.old.items ++ map room bytes.now) }
+    ensures { OnOk result (lines.new.items ≡ lines.old.items ++ map blank_for bytes.now) }
 {
     for &byte in bytes {
-        lines.push(room(byte))?;
+        lines.push(blank_for(byte))?;
     }
     Ok(())
 }

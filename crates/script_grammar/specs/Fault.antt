@@ -9,6 +9,7 @@ use Rattle.script_tokens.specs.declared.token.Word.TheVariants as word
 use Rattle.script_tokens.specs.declared.lexing.LexEnd.{LexEnd}
 use Rattle.script_tokens.specs.declared.lexing.LexEnd.TheVariants.{End, NotAscii, NoToken}
 use Rattle.script_grammar.specs.declared.tree.Function.{Function}
+use Rattle.script_grammar.specs.FaultNumbers as fault
 use Rattle.script_grammar.specs.Grammar.{Token, IsScript, AreOf, IsScriptOf, IsViable, decimal}
 use Rattle.script_grammar.specs.Nesting.{functions_nesting}
 
@@ -29,14 +30,14 @@ NestsAt version before t n =
 
 -- the token after these breaks the limit that a fault of that number names
 pub data BreaksLimit (version : Version) (before : List Token) (t : Token) : ℕ → Type 0 where
-  number_out_of_range : t.word ≡ word.Number → 9223372036854775807 < decimal 0 t.text → BreaksLimit version before t 3
-  name_too_long : t.word ≡ word.Name → 32 < length t.text → BreaksLimit version before t 4
-  nested_too_deep : {n : ℕ} → NestsAt version before t n → 64 < n → BreaksLimit version before t 5
-  too_many_functions : t.word ≡ word.Fn → 1024 ≤ functions_begun before → BreaksLimit version before t 7
+  number_out_of_range : t.word ≡ word.Number → 9223372036854775807 < decimal 0 t.text → BreaksLimit version before t fault.number_out_of_range
+  name_too_long : t.word ≡ word.Name → 32 < length t.text → BreaksLimit version before t fault.name_too_long
+  nested_too_deep : {n : ℕ} → NestsAt version before t n → 64 < n → BreaksLimit version before t fault.nested_too_deep
+  too_many_functions : t.word ≡ word.Fn → 1024 ≤ functions_begun before → BreaksLimit version before t fault.too_many_functions
 
 -- the token after these is at fault: it is unexpected, or breaks a limit
 pub data IsFault (version : Version) (before : List Token) (t : Token) : ℕ → Type 0 where
-  unexpected : (IsViable version (before ++ t ∷ []) → ⊥) → IsFault version before t 2
+  unexpected : (IsViable version (before ++ t ∷ []) → ⊥) → IsFault version before t fault.unexpected_token
   breaks_limit : {n : ℕ} → IsViable version (before ++ t ∷ []) → BreaksLimit version before t n → IsFault version before t n
 
 -- what stands after the last token: where the text ends, and why there is no further token
@@ -44,11 +45,12 @@ pub record TextEnd : Type 0 where
   pub end : ℕ
   pub stop : LexEnd
 
--- The fault after all tokens, its number and its place: 6 where the text ends and they are no script yet, else what stopped them.
+-- The fault after all tokens, its number and its place: the unexpected end where the text ends and they are no script yet, else what stopped
+-- them.
 abbrev pub FaultAtStop : Version → ℕ → LexEnd → List Token → ℕ → ℕ → Type 0
-FaultAtStop version end End tokens number at = (number ≡ 6) × (at ≡ end) × ((functions : List Function) → IsScriptOf version tokens functions → ⊥)
-FaultAtStop version end (NotAscii place) tokens number at = (number ≡ 1) × (at ≡ place)
-FaultAtStop version end (NoToken place) tokens number at = (number ≡ 2) × (at ≡ place)
+FaultAtStop version end End tokens number at = (number ≡ fault.unexpected_end) × (at ≡ end) × ((functions : List Function) → IsScriptOf version tokens functions → ⊥)
+FaultAtStop version end (NotAscii place) tokens number at = (number ≡ fault.not_ascii) × (at ≡ place)
+FaultAtStop version end (NoToken place) tokens number at = (number ≡ fault.unexpected_token) × (at ≡ place)
 
 -- the first fault after the tokens `before`, its number and its place
 abbrev pub FaultAfter : Version → TextEnd → List Token → List Token → ℕ → ℕ → Type 0

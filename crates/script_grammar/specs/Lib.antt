@@ -2,5 +2,6 @@ pub mod formers
 pub mod Grammar
 pub mod Nesting
 pub mod Fault
+pub mod FaultNumbers
 pub mod Text
 pub mod Names

@@ -8,6 +8,7 @@ use Rattle.script_tokens.specs.Lexing.{IsLexed}
 use Rattle.script_grammar.specs.declared.tree.Function.{Function}
 use Rattle.script_grammar.specs.Grammar.{Token, IsScriptOf, IsViable}
 use Rattle.script_grammar.specs.Fault.{IsFault}
+use Rattle.script_grammar.specs.FaultNumbers as fault
 use Rattle.script_grammar.specs.Text.{tokens_of}
 
 -- the text is cut into these tokens, and they end for this reason
@@ -20,12 +21,12 @@ pub record HasTokens (bytes : List ℕ) (tokens : List Token) (stop : LexEnd) : 
 -- token, blank or comment begins; a token with which those so far begin no script, or one that may stand there and breaks a limit; or its end,
 -- where the tokens begin a script and aren't one.
 pub data HasFault (bytes : List ℕ) : (number : ℕ) → (at : ℕ) → Type 0 where
-  not_ascii : {at b : ℕ} → slice_get bytes at ≡ Some b → 128 ≤ b → HasFault bytes 1 at
-  no_token : {at : ℕ} {tokens : List Token} → HasTokens bytes tokens (NoToken at) → HasFault bytes 2 at
+  not_ascii : {at b : ℕ} → slice_get bytes at ≡ Some b → 128 ≤ b → HasFault bytes fault.not_ascii at
+  no_token : {at : ℕ} {tokens : List Token} → HasTokens bytes tokens (NoToken at) → HasFault bytes fault.unexpected_token at
   of_token : {number : ℕ} {before : List Token} {t : Token} (after : List Token) {stop : LexEnd} →
       HasTokens bytes (before ++ t ∷ after) stop → IsFault (version_of bytes) before t number → HasFault bytes number t.at
   unexpected_end : {tokens : List Token} → HasTokens bytes tokens End → IsViable (version_of bytes) tokens →
-      ((functions : List Function) → IsScriptOf (version_of bytes) tokens functions → ⊥) → HasFault bytes 6 (length bytes)
+      ((functions : List Function) → IsScriptOf (version_of bytes) tokens functions → ⊥) → HasFault bytes fault.unexpected_end (length bytes)
 
 -- It stands at the first offset at which the text has a fault, and is the one of the least number of those there.
 pub record IsFirstFault (bytes : List ℕ) (number at : ℕ) : Type 0 where

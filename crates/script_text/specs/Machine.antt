@@ -11,6 +11,7 @@ use Rattle.script_tokens.specs.declared.lexing.LexEnd.{LexEnd}
 use Rattle.script_tokens.specs.declared.lexing.LexEnd.TheVariants.{End, NotAscii, NoToken}
 use Rattle.script_grammar.specs.Grammar.{Token, decimal}
 use Rattle.script_grammar.specs.Fault.{is_fn, TextEnd}
+use Rattle.script_grammar.specs.FaultNumbers as fault
 
 pub data Sym : Type 0 where
   -- a token of that word, or the name with these bytes
@@ -32,53 +33,53 @@ pub record Production : Type 0 where
 abbrev pub rule : Word → List Sym → Production
 rule w r = record { first = w; fits = λ _. true; rest = λ _. r }
 
-abbrev pub code : Word → ℕ
-code word.Name = 0
-code word.Number = 1
-code word.Fn = 2
-code word.Id = 3
-code word.Let = 4
-code word.Spawn = 5
-code word.Call = 6
-code word.Sync = 7
-code word.Print = 8
-code word.If = 9
-code word.Else = 10
-code word.While = 11
-code word.Pfor = 12
-code word.In = 13
-code word.Into = 14
-code word.Draw = 15
-code word.New = 16
-code word.Return = 17
-code word.Same = 18
-code word.Older = 19
-code word.Open = 20
-code word.Close = 21
-code word.OpenBlock = 22
-code word.CloseBlock = 23
-code word.OpenItem = 24
-code word.CloseItem = 25
-code word.Comma = 26
-code word.Semicolon = 27
-code word.Assign = 28
-code word.Plus = 29
-code word.Minus = 30
-code word.Times = 31
-code word.Over = 32
-code word.Modulo = 33
-code word.Eq = 34
-code word.Ne = 35
-code word.Lt = 36
-code word.Le = 37
-code word.Gt = 38
-code word.Ge = 39
-code word.Arrow = 40
-code word.Range = 41
-code word.Scope = 42
+abbrev pub word_number : Word → ℕ
+word_number word.Name = 0
+word_number word.Number = 1
+word_number word.Fn = 2
+word_number word.Id = 3
+word_number word.Let = 4
+word_number word.Spawn = 5
+word_number word.Call = 6
+word_number word.Sync = 7
+word_number word.Print = 8
+word_number word.If = 9
+word_number word.Else = 10
+word_number word.While = 11
+word_number word.Pfor = 12
+word_number word.In = 13
+word_number word.Into = 14
+word_number word.Draw = 15
+word_number word.New = 16
+word_number word.Return = 17
+word_number word.Same = 18
+word_number word.Older = 19
+word_number word.Open = 20
+word_number word.Close = 21
+word_number word.OpenBlock = 22
+word_number word.CloseBlock = 23
+word_number word.OpenItem = 24
+word_number word.CloseItem = 25
+word_number word.Comma = 26
+word_number word.Semicolon = 27
+word_number word.Assign = 28
+word_number word.Plus = 29
+word_number word.Minus = 30
+word_number word.Times = 31
+word_number word.Over = 32
+word_number word.Modulo = 33
+word_number word.Eq = 34
+word_number word.Ne = 35
+word_number word.Lt = 36
+word_number word.Le = 37
+word_number word.Gt = 38
+word_number word.Ge = 39
+word_number word.Arrow = 40
+word_number word.Range = 41
+word_number word.Scope = 42
 
 abbrev pub same_word : Word → Word → Bool
-same_word v w = nat_eq (code v) (code w)
+same_word v w = nat_eq (word_number v) (word_number w)
 
 abbrev pub same_bytes : List ℕ → List ℕ → Bool
 same_bytes [] [] = true
@@ -197,13 +198,13 @@ choose None true s o = o
 choose None false s o = None
 
 -- the stack after a token, where it may come
-abbrev pub step : Word → List ℕ → List Sym → Option (List Sym)
-step w text [] = None
-step w text (a ∷ s) = choose (find_rule w text (rules a)) (is_empty a) s (step w text s)
+abbrev pub consume : Word → List ℕ → List Sym → Option (List Sym)
+consume w text [] = None
+consume w text (a ∷ s) = choose (find_rule w text (rules a)) (is_empty a) s (consume w text s)
 
 abbrev pub run : List Token → List Sym → Option (List Sym)
 run [] s = Some s
-run (t ∷ ts) s = option_and_then (run ts) (step t.word t.text s)
+run (t ∷ ts) s = option_and_then (run ts) (consume t.word t.text s)
 
 abbrev pub all_empty : List Sym → Bool
 all_empty [] = true
@@ -229,7 +230,7 @@ onward (Some s) go = option_and_then (λ p. Some (nesting s ∷ p.0, p.1)) (go s
 -- the nesting after each token, and the stack in the end
 abbrev pub nestings : List Token → List Sym → Nestings
 nestings [] s = Some ([], s)
-nestings (t ∷ ts) s = onward (step t.word t.text s) (nestings ts)
+nestings (t ∷ ts) s = onward (consume t.word t.text s) (nestings ts)
 
 -- a fault: its number and its place
 abbrev pub PlacedFault : Type 0
@@ -238,10 +239,10 @@ PlacedFault = ℕ × ℕ
 -- the limit that a token breaks where it may come, with n functions before, and nested d deep
 abbrev pub broken : ℕ → Token → ℕ → Option ℕ
 broken n t d =
-    if same_word t.word word.Number && nat_lt 9223372036854775807 (decimal 0 t.text) then Some 3
-    else if same_word t.word word.Name && nat_lt 32 (length t.text) then Some 4
-    else if is_fn t.word && nat_lt 1023 n then Some 7
-    else if nat_lt 64 d then Some 5
+    if same_word t.word word.Number && nat_lt 9223372036854775807 (decimal 0 t.text) then Some fault.number_out_of_range
+    else if same_word t.word word.Name && nat_lt 32 (length t.text) then Some fault.name_too_long
+    else if is_fn t.word && nat_lt 1023 n then Some fault.too_many_functions
+    else if nat_lt 64 d then Some fault.nested_too_deep
     else None
 
 abbrev pub unless_broken : Option ℕ → ℕ → Option PlacedFault → Option PlacedFault
@@ -249,13 +250,13 @@ unless_broken None at o = o
 unless_broken (Some k) at o = Some (k, at)
 
 abbrev pub verdict : ℕ → Token → Option (List Sym) → (List Sym → Option PlacedFault) → Option PlacedFault
-verdict n t None go = Some (2, t.at)
+verdict n t None go = Some (fault.unexpected_token, t.at)
 verdict n t (Some s) go = unless_broken (broken n t (nesting s)) t.at (go s)
 
 abbrev pub at_stop : ℕ → LexEnd → List Sym → Option PlacedFault
-at_stop end End s = if all_empty s then None else Some (6, end)
-at_stop end (NotAscii place) s = Some (1, place)
-at_stop end (NoToken place) s = Some (2, place)
+at_stop end End s = if all_empty s then None else Some (fault.unexpected_end, end)
+at_stop end (NotAscii place) s = Some (fault.not_ascii, place)
+at_stop end (NoToken place) s = Some (fault.unexpected_token, place)
 
 -- how many functions have begun after a token
 abbrev pub begun : Token → ℕ → ℕ
@@ -264,4 +265,4 @@ begun t n = if is_fn t.word then suc n else n
 -- the first fault of these tokens, where these symbols are expected and n functions have begun
 abbrev pub judge : TextEnd → ℕ → List Sym → List Token → Option PlacedFault
 judge e n s [] = at_stop e.end e.stop s
-judge e n s (t ∷ ts) = verdict n t (step t.word t.text s) (λ s'. judge e (begun t n) s' ts)
+judge e n s (t ∷ ts) = verdict n t (consume t.word t.text s) (λ s'. judge e (begun t n) s' ts)

@@ -5,13 +5,14 @@ use Rattle.script_tokens.specs.declared.token.Token as token
 use Rattle.script_tokens.specs.declared.lexing.Misfit.{Misfit}
 use Rattle.script_tokens.specs.declared.lexing.Misfit.TheVariants.{NotAscii, NoToken}
 use Rattle.script_tokens.specs.Lexing.{NextToken}
+use Rattle.script_grammar.specs.FaultNumbers as fault
 use Rattle.script_text.specs.declared.error.SyntaxError.{SyntaxError}
 use Rattle.script_text.specs.declared.error.SyntaxError.TheVariants.{Bad}
 
 -- why no token comes next, as an error
 abbrev pub error_of : Misfit → SyntaxError
-error_of (NotAscii at) = Bad 1 at
-error_of (NoToken at) = Bad 2 at
+error_of (NotAscii at) = Bad fault.not_ascii at
+error_of (NoToken at) = Bad fault.unexpected_token at
 
 abbrev pub next_answer : Result token.Token Misfit → Result token.Token SyntaxError
 next_answer (Ok t) = Ok t

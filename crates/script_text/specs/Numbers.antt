@@ -1,26 +1,27 @@
 -- The numbers of the faults of a text, and what they are called.
 use Rattle.std.specs.Prelude.{ℕ, nat_eq, List, if◌then◌else◌, codes}
+use Rattle.script_grammar.specs.FaultNumbers as fault
 use Rattle.script_text.specs.declared.fault.TextFault.{TextFault}
 use Rattle.script_text.specs.declared.fault.TextFault.TheVariants.{NotAscii, UnexpectedToken, NumberOutOfRange, NameTooLong, NestedTooDeep, UnexpectedEnd, TooManyFunctions}
 
 abbrev pub number_of : TextFault → ℕ
-number_of NotAscii = 1
-number_of UnexpectedToken = 2
-number_of NumberOutOfRange = 3
-number_of NameTooLong = 4
-number_of NestedTooDeep = 5
-number_of UnexpectedEnd = 6
-number_of TooManyFunctions = 7
+number_of NotAscii = fault.not_ascii
+number_of UnexpectedToken = fault.unexpected_token
+number_of NumberOutOfRange = fault.number_out_of_range
+number_of NameTooLong = fault.name_too_long
+number_of NestedTooDeep = fault.nested_too_deep
+number_of UnexpectedEnd = fault.unexpected_end
+number_of TooManyFunctions = fault.too_many_functions
 
 -- the fault of a number
 abbrev pub fault_of : ℕ → TextFault
 fault_of number =
-    if nat_eq number 1 then NotAscii
-    else if nat_eq number 2 then UnexpectedToken
-    else if nat_eq number 3 then NumberOutOfRange
-    else if nat_eq number 4 then NameTooLong
-    else if nat_eq number 5 then NestedTooDeep
-    else if nat_eq number 6 then UnexpectedEnd
+    if nat_eq number fault.not_ascii then NotAscii
+    else if nat_eq number fault.unexpected_token then UnexpectedToken
+    else if nat_eq number fault.number_out_of_range then NumberOutOfRange
+    else if nat_eq number fault.name_too_long then NameTooLong
+    else if nat_eq number fault.nested_too_deep then NestedTooDeep
+    else if nat_eq number fault.unexpected_end then UnexpectedEnd
     else TooManyFunctions
 
 -- what it is called

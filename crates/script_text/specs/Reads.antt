@@ -22,24 +22,25 @@ use Rattle.script_text.specs.declared.error.SyntaxError.TheVariants.{Bad, Memory
 use Rattle.script_text.specs.declared.parser.source.LexedText.{LexedText}
 use Rattle.script_grammar.specs.Grammar.{Token, tok, name_at, number_at, decimal, IsExpr, IsMoreArgs, IsArgs, IsCall, IsRight, stmt_at, IsStmt, IsStmts, IsMoreParams, IsParams, IsFunction, IsFunctions, IsScript}
 use Rattle.script_grammar.specs.Fault.{TextEnd}
+use Rattle.script_grammar.specs.FaultNumbers as fault
 use Rattle.script_grammar.specs.Text.{tokens_of}
-use Rattle.script_text.specs.Machine.{Sym, only, exactly, pair, stmts, after_name, functions, body, expr_then, rules, rule, find_rule, is_empty, nesting, judge, code}
+use Rattle.script_text.specs.Machine.{Sym, only, exactly, pair, stmts, after_name, functions, body, expr_then, rules, rule, find_rule, is_empty, nesting, judge, word_number}
 
 abbrev pub seen : LexedText → List Lexeme → List Token
 seen source ls = tokens_of source.bytes.now ls
 
-abbrev pub ending : LexedText → TextEnd
-ending source = record { end = source.end; stop = source.stop }
+abbrev pub text_end : LexedText → TextEnd
+text_end source = record { end = source.end; stop = source.stop }
 
 -- the machine comes from the symbols before to those after, by the lexemes between
 abbrev pub Leads : List Sym → List Sym → LexedText → ℕ → List Lexeme → List Lexeme → Type 0
 Leads front back source d old rest =
-    (n : ℕ) (s : List Sym) → nesting s ≡ d → judge (ending source) n (front ++ s) (seen source old) ≡ judge (ending source) n (back ++ s) (seen source rest)
+    (n : ℕ) (s : List Sym) → nesting s ≡ d → judge (text_end source) n (front ++ s) (seen source old) ≡ judge (text_end source) n (back ++ s) (seen source rest)
 
 -- the machine finds that fault
 abbrev pub Finds : List Sym → LexedText → ℕ → List Lexeme → ℕ → ℕ → Type 0
 Finds front source d old number at =
-    (n : ℕ) (s : List Sym) → nesting s ≡ d → judge (ending source) n (front ++ s) (seen source old) ≡ Some (number, at)
+    (n : ℕ) (s : List Sym) → nesting s ≡ d → judge (text_end source) n (front ++ s) (seen source old) ≡ Some (number, at)
 
 -- the same of an error
 abbrev pub Errs : List Sym → LexedText → ℕ → List Lexeme → SyntaxError → Type 0
@@ -53,13 +54,13 @@ Reads R front source d old (Err e) = Errs front source d old e
 
 -- the fault where nothing that may come next does
 abbrev pub stopped_at : ℕ → LexEnd → SyntaxError
-stopped_at end End = Bad 6 end
-stopped_at end (NotAscii place) = Bad 1 place
-stopped_at end (NoToken place) = Bad 2 place
+stopped_at end End = Bad fault.unexpected_end end
+stopped_at end (NotAscii place) = Bad fault.not_ascii place
+stopped_at end (NoToken place) = Bad fault.unexpected_token place
 
 abbrev pub unexpected_in : LexedText → List Lexeme → SyntaxError
 unexpected_in source [] = stopped_at source.end source.stop
-unexpected_in source (l ∷ ls) = Bad 2 l.start
+unexpected_in source (l ∷ ls) = Bad fault.unexpected_token l.start
 
 -- that word comes next, at that place and with these after it; or it doesn't
 abbrev pub NextIs : Word → ℕ → List Lexeme → List Lexeme → Type 0
@@ -71,7 +72,7 @@ NextIsNot w (l ∷ ls) = l.word ≡ w → ⊥
 
 -- a word that no limit but the nesting is about
 abbrev pub is_unlimited : Word → Bool
-is_unlimited w = nat_lt 2 (code w)
+is_unlimited w = nat_lt 2 (word_number w)
 
 abbrev pub IsUnlimited : Word → Type 0
 IsUnlimited w = is_unlimited w ≡ true
@@ -94,12 +95,12 @@ Opens w source d old (Err e) = (a : Sym) (inside : List Sym) → IsBracket a w i
 abbrev pub Deepens : ℕ → ℕ → Result ℕ SyntaxError → Type 0
 Deepens d at (Ok inner) = (inner ≡ d + 1) × (d < 64)
 Deepens d at (Err Memory) = ⊥
-Deepens d at (Err (Bad number place)) = (d ≡ 64) × (number ≡ 5) × (place ≡ at)
+Deepens d at (Err (Bad number place)) = (d ≡ 64) × (number ≡ fault.nested_too_deep) × (place ≡ at)
 
 abbrev pub ReadsName : LexedText → Lexeme → Result Name SyntaxError → Type 0
 ReadsName source l (Ok name) = (name ≡ name_at l.start (text_of source.bytes.now l)) × (length (text_of source.bytes.now l) ≤ 32)
 ReadsName source l (Err Memory) = Unit {0}
-ReadsName source l (Err (Bad number at)) = (32 < length (text_of source.bytes.now l)) × (number ≡ 4) × (at ≡ l.start)
+ReadsName source l (Err (Bad number at)) = (32 < length (text_of source.bytes.now l)) × (number ≡ fault.name_too_long) × (at ≡ l.start)
 
 abbrev pub IsValue : List ℕ → Option ℕ → Type 0
 IsValue digits None = 9223372036854775807 < decimal 0 digits
@@ -108,7 +109,7 @@ IsValue digits (Some value) = (value ≡ decimal 0 digits) × (decimal 0 digits 
 abbrev pub ReadsNumber : LexedText → Lexeme → Result Number SyntaxError → Type 0
 ReadsNumber source l (Ok number) = (number ≡ number_at l.start (text_of source.bytes.now l)) × (decimal 0 (text_of source.bytes.now l) ≤ 9223372036854775807)
 ReadsNumber source l (Err Memory) = ⊥
-ReadsNumber source l (Err (Bad number at)) = (9223372036854775807 < decimal 0 (text_of source.bytes.now l)) × (number ≡ 3) × (at ≡ l.start)
+ReadsNumber source l (Err (Bad number at)) = (9223372036854775807 < decimal 0 (text_of source.bytes.now l)) × (number ≡ fault.number_out_of_range) × (at ≡ l.start)
 
 -- the sign that a word is, or the symbol has no rule for the word
 abbrev pub Signs : {X : Type 0} → Sym → (Word → X → Type 0) → Word → Option X → Type 0
@@ -247,11 +248,11 @@ IsRestOfFunction ts f rest = (a : ℕ) (t : List ℕ) → IsFunction (tok a word
 abbrev pub ReadsFunctions : LexedText → List Lexeme → Result (List Function × Bor (List Lexeme)) SyntaxError → Type 0
 ReadsFunctions source old (Ok p) =
     IsFunctions (seen source old) p.0 (seen source p.1.now)
-    × (judge (ending source) 0 (functions ∷ []) (seen source old) ≡ judge (ending source) (length p.0) [] (seen source p.1.now))
+    × (judge (text_end source) 0 (functions ∷ []) (seen source old) ≡ judge (text_end source) (length p.0) [] (seen source p.1.now))
 ReadsFunctions source old (Err Memory) = Unit {0}
-ReadsFunctions source old (Err (Bad number at)) = judge (ending source) 0 (functions ∷ []) (seen source old) ≡ Some (number, at)
+ReadsFunctions source old (Err (Bad number at)) = judge (text_end source) 0 (functions ∷ []) (seen source old) ≡ Some (number, at)
 
 abbrev pub Judges : LexedText → List Lexeme → Result Script SyntaxError → Type 0
-Judges source old (Ok script) = (script.version ≡ source.version) × IsScript (seen source old) script.functions × (judge (ending source) 0 (functions ∷ []) (seen source old) ≡ None)
+Judges source old (Ok script) = (script.version ≡ source.version) × IsScript (seen source old) script.functions × (judge (text_end source) 0 (functions ∷ []) (seen source old) ≡ None)
 Judges source old (Err Memory) = Unit {0}
-Judges source old (Err (Bad number at)) = judge (ending source) 0 (functions ∷ []) (seen source old) ≡ Some (number, at)
+Judges source old (Err (Bad number at)) = judge (text_end source) 0 (functions ∷ []) (seen source old) ≡ Some (number, at)

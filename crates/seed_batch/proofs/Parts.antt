@@ -15,7 +15,7 @@ use Rattle.serial_meaning.specs.declared.answer.Outcome.{Outcome}
 use Rattle.meet_block.specs.Joined.{Joined}
 use Rattle.strand_machine.specs.Family.{tag}
 use Rattle.crew.specs.Crews.{AreRootAnswers, new_root}
-use Rattle.seed_batch.specs.Batch.{main_answer, part, batch, batch_text}
+use Rattle.seed_batch.specs.Batch.{main_answer, seed_lines, batch, batch_text}
 
 -- The answers of the roots of plans are main's
 
@@ -57,11 +57,11 @@ all_are_whole plans answers e =
 -- One part more is printed
 
 pub part-more : (seeds : List ℕ) (answers : List AnswerView) (text text' all : List ℕ) (i d s : ℕ) (e a : AnswerView) → i < length seeds → i < length answers → s ≡ get_or seeds i d →
-    a ≡ get_or answers i e → text' ≡ text ++ part s (answer_text a) → text ++ batch_text (drop i seeds) (drop i answers) ≡ all →
+    a ≡ get_or answers i e → text' ≡ text ++ seed_lines s (answer_text a) → text ++ batch_text (drop i seeds) (drop i answers) ≡ all →
     text' ++ batch_text (drop (i + 1) seeds) (drop (i + 1) answers) ≡ all
 part-more seeds answers text text' all i d s e a in-seeds in-answers is-s is-a more was =
     ap (λ (t : List ℕ). t ++ batch_text (drop (i + 1) seeds) (drop (i + 1) answers)) more
-    ∙ append_assoc text (part s (answer_text a)) (batch_text (drop (i + 1) seeds) (drop (i + 1) answers))
+    ∙ append_assoc text (seed_lines s (answer_text a)) (batch_text (drop (i + 1) seeds) (drop (i + 1) answers))
     ∙ ap₂ (λ (x : ℕ) (y : AnswerView). text ++ batch_text (x ∷ drop (i + 1) seeds) (y ∷ drop (i + 1) answers)) is-s is-a
     ∙ sym (ap₂ (λ (xs : List ℕ) (ys : List AnswerView). text ++ batch_text xs ys) (drop_more seeds i d in-seeds) (drop_more answers i e in-answers))
     ∙ was
@@ -78,7 +78,7 @@ all-parts seeds answers text all i end was =
 
 elisions : (plan : ℕ → PlanView) (seeds : List ℕ) → batch_text seeds (map main_answer (map plan seeds)) ≡ batch (λ seed. answer_text (main_answer (plan seed))) seeds
 elisions plan [] = refl
-elisions plan (s ∷ ss) = ap (λ text. part s (answer_text (main_answer (plan s))) ++ text) (elisions plan ss)
+elisions plan (s ∷ ss) = ap (λ text. seed_lines s (answer_text (main_answer (plan s))) ++ text) (elisions plan ss)
 
 pub batch_is : (plan : ℕ → PlanView) (seeds : List ℕ) (plans : List PlanView) (answers : List AnswerView) → plans ≡ map plan seeds → answers ≡ map main_answer plans →
     batch_text seeds answers ≡ batch (λ seed. answer_text (main_answer (plan seed))) seeds

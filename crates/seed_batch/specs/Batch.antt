@@ -15,15 +15,15 @@ main_answer plan = record {
 }
 
 -- one part of a batch: a line of the seed, and then what is printed under it
-abbrev pub part : ℕ → List ℕ → List ℕ
-part seed text = line (codes "seed " ++ decimal seed) ++ text
+abbrev pub seed_lines : ℕ → List ℕ → List ℕ
+seed_lines seed text = line (codes "seed " ++ decimal seed) ++ text
 
 -- a part of each seed, in order
 abbrev pub batch : (ℕ → List ℕ) → List ℕ → List ℕ
-batch text_under seeds = flat_map (λ seed. part seed (text_under seed)) seeds
+batch text_under seeds = flat_map (λ seed. seed_lines seed (text_under seed)) seeds
 
 -- a part of each seed and of the answer under it, in order
 abbrev pub batch_text : List ℕ → List AnswerView → List ℕ
 batch_text [] answers = []
 batch_text (seed ∷ seeds) [] = []
-batch_text (seed ∷ seeds) (answer ∷ answers) = part seed (answer_text answer) ++ batch_text seeds answers
+batch_text (seed ∷ seeds) (answer ∷ answers) = seed_lines seed (answer_text answer) ++ batch_text seeds answers

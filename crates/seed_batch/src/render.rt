@@ -2,7 +2,7 @@
 ghost use Rattle.std.specs.Prelude.{◌≡◌, ◌++◌, All, IfOk, OnOk, length};
 ghost use Rattle.serial_meaning.specs.Answer.{AnswerView};
 ghost use Rattle.serial_meaning.specs.Render.{IsWhole, answer_text};
-ghost use Rattle.seed_batch.specs.Batch.{batch_text, part};
+ghost use Rattle.seed_batch.specs.Batch.{batch_text, seed_lines};
 
 use crew::Memory;
 use itoa::Buffer;
@@ -13,7 +13,7 @@ use std::alloc::Global;
 /// Writes the part of a seed, with what a run prints of this answer.
 fn write_part(alloc: Global, seed: u64, answer: &Answer, text: &mut Vec<u8>) -> Result<(), Memory>
     requires { IsWhole answer.now.outcome }
-    ensures { OnOk result (text.new.items ≡ text.old.items ++ part seed (answer_text answer.now)) }
+    ensures { OnOk result (text.new.items ≡ text.old.items ++ seed_lines seed (answer_text answer.now)) }
 {
     let printed = render_run(alloc, answer)?;
     text.extend_from_slice(b"seed ")?;

@@ -2,7 +2,7 @@
 use Rattle.std.specs.Prelude.{◌≡◌, ◌≤◌, ◌<◌, ◌++◌, ℕ, List, [], ◌∷◌, Result, Ok, Err, Contains}
 use Rattle.ped_path.specs.Path.{IsBefore}
 use Rattle.serial_meaning.specs.Plan.{PlanView}
-use Rattle.serial_meaning.specs.Eval.{first_of, eval}
+use Rattle.serial_meaning.specs.Eval.{first_value, eval}
 use Rattle.serial_meaning.specs.Open.{faults}
 use Rattle.serial_meaning.specs.declared.value.Value.{Value}
 use Rattle.serial_meaning.specs.declared.event.Event.{Event}
@@ -26,7 +26,7 @@ pub record AnswerTag : Type 0 where
 
 -- how an origin ends whose evaluation ended so
 abbrev pub outcome_of : Origin → Result (List Value) Fault → Outcome
-outcome_of (Instance function args path) (Ok vs) = outcome.Value (first_of vs)
+outcome_of (Instance function args path) (Ok vs) = outcome.Value (first_value vs)
 outcome_of (Loop function rest first path range) (Ok vs) = outcome.Values vs
 outcome_of o (Err f) = outcome.Fault f
 

@@ -17,9 +17,9 @@ use Rattle.serial_meaning.specs.declared.origin.Origin.TheVariants.{Instance, Lo
 abbrev pub Evaluation : Type 0
 Evaluation = Run Event Fault (List Value)
 
-abbrev pub first_of : List Value → Value
-first_of [] = Int (pos 0)
-first_of (v ∷ vs) = v
+abbrev pub first_value : List Value → Value
+first_value [] = Int (pos 0)
+first_value (v ∷ vs) = v
 
 -- A spawn runs its child at once and takes its value, a loop runs its iterations, a sync has nothing to wait for, and the first fault
 -- ends everything.
@@ -30,7 +30,7 @@ serial child = record {
   closes = λ j. [];
   own = λ f. f;
   none = tt;
-  spawn = λ o k. child o then λ vs. done (first_of vs, k);
+  spawn = λ o k. child o then λ vs. done (first_value vs, k);
   loop = child;
   sync = λ k. done k;
 }
@@ -40,16 +40,16 @@ abbrev pub iteration : ℕ → List Value → ℤ → List ℕ → ℕ → Origi
 iteration function rest first path k = Instance function (Int (int_wrapping_add w64 first (pos k)) ∷ rest) (path ++ k ∷ [])
 
 -- n iterations from the k-th on, in order, up to the first fault
-abbrev pub turns : (Origin → Evaluation) → ℕ → List Value → ℤ → List ℕ → ℕ → ℕ → Evaluation
-turns child function rest first path k zero = done []
-turns child function rest first path k (suc n) =
-    child (iteration function rest first path k) then λ vs. turns child function rest first path (k + 1) n then λ ws. done (vs ++ ws)
+abbrev pub loop_evaluation : (Origin → Evaluation) → ℕ → List Value → ℤ → List ℕ → ℕ → ℕ → Evaluation
+loop_evaluation child function rest first path k zero = done []
+loop_evaluation child function rest first path k (suc n) =
+    child (iteration function rest first path k) then λ vs. loop_evaluation child function rest first path (k + 1) n then λ ws. done (vs ++ ws)
 
 -- an origin, where children give what child says
 abbrev pub eval_with : PlanView → (Origin → Evaluation) → Origin → Evaluation
 eval_with plan child (Instance function args path) =
     instance (serial child) plan path (function_at (functions_of plan) function) args then λ v. done (v ∷ [])
-eval_with plan child (Loop function rest first path range) = turns child function rest first path range.lo (range.hi - range.lo)
+eval_with plan child (Loop function rest first path range) = loop_evaluation child function rest first path range.lo (range.hi - range.lo)
 
 abbrev pub path_of : Origin → List ℕ
 path_of (Instance function args path) = path

@@ -96,9 +96,9 @@ has_room None n env = true
 has_room (Some x) n env = nat_lt n (length (items_of (slot_of env x.bytes)) + 1)
 
 -- the target's items replaced by the iterations' values
-abbrev pub filled : Option Name → List Value → Env → Env
-filled None vs env = env
-filled (Some x) vs env = with_slot env x.bytes (Array (with_front (items_of (slot_of env x.bytes)) vs))
+abbrev pub with_loop_values : Option Name → List Value → Env → Env
+with_loop_values None vs env = env
+with_loop_values (Some x) vs env = with_slot env x.bytes (Array (with_front (items_of (slot_of env x.bytes)) vs))
 
 module _ {K : Type 0} where
   abbrev pub set_scalar : State K → Name → Value → State K
@@ -130,8 +130,8 @@ module _ {I E K : Type 0} (how : Manner I E K) (plan : PlanView) (path : List �
   fault kind s = run_ends_by (how.own (record { kind = kind; at = strand path s }))
 
   -- an event of this strand, and then the next rank
-  abbrev pub emit : (List ℕ → Event) → State K → Run I E (State K)
-  emit e s = happens (how.event (e (strand path s))) (record s { rank = s.rank + 1 })
+  abbrev pub emit_and_raise : (List ℕ → Event) → State K → Run I E (State K)
+  emit_and_raise e s = happens (how.event (e (strand path s))) (record s { rank = s.rank + 1 })
 
   -- goes on with what a calculation gives here, unless that is a fault
   abbrev pub unless_fault : {A B : Type 0} → Result A FaultKind → State K → (A → Run I E B) → Run I E B
@@ -161,15 +161,15 @@ module _ {I E K : Type 0} (how : Manner I E K) (plan : PlanView) (path : List �
       done (r.0, record s { rank = s.rank + 1; spawned = r.1 }))
 
   -- a sync at that path
-  abbrev pub join_at : List ℕ → State K → Run I E (State K)
-  join_at here s =
+  abbrev pub sync_at : List ℕ → State K → Run I E (State K)
+  sync_at here s =
       happens (how.event (event.Sync (strand here s))) s then λ s.
       how.sync s.spawned then λ k.
       done (record s { rank = s.rank + 1; spawned = k })
 
   -- a sync, written or implied
-  abbrev pub join : State K → Run I E (State K)
-  join s = join_at path s
+  abbrev pub sync_here : State K → Run I E (State K)
+  sync_here s = sync_at path s
 
   -- out of the scope that stands at this rank, to the rank after it
   abbrev pub goes_out : ℕ → State K → Run I E (State K)
@@ -177,10 +177,10 @@ module _ {I E K : Type 0} (how : Manner I E K) (plan : PlanView) (path : List �
 
   -- the end of that scope: a sync of the frame in it, and then out
   abbrev pub leaves : ℕ → State K → Run I E (State K)
-  leaves rank s = join_at (path ++ rank ∷ []) s then goes_out rank
+  leaves rank s = sync_at (path ++ rank ∷ []) s then goes_out rank
 
   abbrev pub implied : Bool → State K → Run I E (State K)
-  implied true s = join s
+  implied true s = sync_here s
   implied false s = done s
 
   -- a function's end: its return pays a step, then comes the sync that is implied where the text holds a spawn, then the value
@@ -211,9 +211,9 @@ module _ {I E K : Type 0} (how : Manner I E K) (plan : PlanView) (path : List �
   right_side block calls (right.Value e) s = unless_fault (value_of e s.env) s λ v. done (v, s)
   right_side block calls (right.Draw at) s =
       let n = drawn plan (strand path s) in
-      emit (λ j. event.Draw j n) s then λ s'.
+      emit_and_raise (λ j. event.Draw j n) s then λ s'.
       done (Int (cast_signed w64 n), s')
-  right_side block calls (right.New at) s = emit event.New s then λ s'. done (Id (strand path s), s')
+  right_side block calls (right.New at) s = emit_and_raise event.New s then λ s'. done (Id (strand path s), s')
   right_side block calls (right.Call at c) s = called block calls c s
   right_side block calls (right.Spawn at c) s = spawn c s
 
@@ -243,7 +243,7 @@ module _ {I E K : Type 0} (how : Manner I E K) (plan : PlanView) (path : List �
       (tested (fits_depth n) Depth s'
       (happens (how.event (event.Loop (strand path s'))) s' then λ s.
       how.loop (origin.Loop (number_of (functions_of plan) c.name.bytes) vs lo (strand path s) (record { lo = 0; hi = n })) then λ ws.
-      done (record s { rank = s.rank + 1; env = filled target ws s.env }))))
+      done (record s { rank = s.rank + 1; env = with_loop_values target ws s.env }))))
 
   -- a scope: the depth, its block one level further at rank 0, and its end
   abbrev pub scoped : BlockMeaning I E K → ℕ → List Stmt → State K → Run I E (State K)
@@ -259,7 +259,7 @@ module _ {I E K : Type 0} (how : Manner I E K) (plan : PlanView) (path : List �
   does block calls st (act.Store x i e) s = store x i e s
   does block calls st (act.Spawn c) s = spawn c s then λ p. done p.1
   does block calls st (act.Call c) s = called block calls c s then λ p. done p.1
-  does block calls st act.Sync s = join s
+  does block calls st act.Sync s = sync_here s
   does block calls st (act.Print e) s = unless_fault (value_of e s.env) s λ v. happens (how.event (event.Print (strand path s) v)) s
   does block calls st (act.If e a b) s = unless_fault (value_of e s.env) s λ v. block path calls (if is_true v then a else b) s
   does block calls st (act.While e a) s =
@@ -279,7 +279,7 @@ module _ {I E K : Type 0} (how : Manner I E K) (plan : PlanView) (path : List �
   each one (st ∷ sts) s = one st s then each one sts
 
 module _ {I E K : Type 0} (how : Manner I E K) (plan : PlanView) where
-  -- A statement pays a step before it enters a block, a turn, a call or a scope. So n levels of these are enough for n steps, and one more
+  -- A statement pays a step before it enters a block, an iteration, a call or a scope. So n levels of these are enough for n steps, and one more
   -- statement finds no step. That makes the meaning total, whatever the script. Nothing above depends on the levels: the laws of
   -- `exec` give its equations without them.
   abbrev pub statements : ℕ → BlockMeaning I E K

@@ -22,7 +22,7 @@ use Rattle.serial_meaning.specs.declared.origin.Origin.TheVariants.{Loop}
 
 -- The equations of statements
 
--- Statements in a row are the first and then the others, and a turn of a loop puts its body and the loop before them. No number
+-- Statements in a row are the first and then the others, and an iteration of a `while` puts its body and the loop before them. No number
 -- of levels stands here.
 pub record Equations {I E K : Type 0} (how : Manner I E K) (plan : PlanView) (path : List ℕ) : Type 0 where
   pub nothing : (calls : ℕ) (s : State K) → exec how plan path calls [] s ≡ done s
@@ -30,7 +30,7 @@ pub record Equations {I E K : Type 0} (how : Manner I E K) (plan : PlanView) (pa
       exec how plan path calls (st ∷ sts) s ≡ (statement how plan path (exec how plan) calls st s then exec how plan path calls sts)
   pub in_a_row : (calls : ℕ) (xs ys : List Stmt) (s : State K) →
       exec how plan path calls (xs ++ ys) s ≡ (exec how plan path calls xs s then exec how plan path calls ys)
-  pub turn : (calls : ℕ) (loop : Stmt) (body sts : List Stmt) (s : State K) →
+  pub again : (calls : ℕ) (loop : Stmt) (body sts : List Stmt) (s : State K) →
       ((exec how plan path calls body s then exec how plan path calls (loop ∷ [])) then exec how plan path calls sts) ≡ exec how plan path calls (body ++ (loop ∷ sts)) s
 
 abbrev pub ElisionHasEquations : Type 0
@@ -42,18 +42,18 @@ OpenTreeHasEquations = (plan : PlanView) (path : List ℕ) (child : Origin → E
 -- Pedigrees
 
 -- the pedigrees of all events but printing
-abbrev pub places : List Event → List (List ℕ)
-places [] = []
-places (event.Print j v ∷ es) = places es
-places (event.Draw j n ∷ es) = j ∷ places es
-places (event.New j ∷ es) = j ∷ places es
-places (event.Spawn j ∷ es) = j ∷ places es
-places (event.Sync j ∷ es) = j ∷ places es
-places (event.Loop j ∷ es) = j ∷ places es
+abbrev pub raising_pedigrees : List Event → List (List ℕ)
+raising_pedigrees [] = []
+raising_pedigrees (event.Print j v ∷ es) = raising_pedigrees es
+raising_pedigrees (event.Draw j n ∷ es) = j ∷ raising_pedigrees es
+raising_pedigrees (event.New j ∷ es) = j ∷ raising_pedigrees es
+raising_pedigrees (event.Spawn j ∷ es) = j ∷ raising_pedigrees es
+raising_pedigrees (event.Sync j ∷ es) = j ∷ raising_pedigrees es
+raising_pedigrees (event.Loop j ∷ es) = j ∷ raising_pedigrees es
 
 -- Of two events of the elision that are no printing, the earlier one's pedigree is before the later one's.
 abbrev pub PedigreesRise : Type 0
-PedigreesRise = (plan : PlanView) → AllPairs IsBefore (places (elision plan).items)
+PedigreesRise = (plan : PlanView) → AllPairs IsBefore (raising_pedigrees (elision plan).items)
 
 -- Each draw of the elision is DotMix of its pedigree.
 abbrev pub DrawsAreDotMix : Type 0

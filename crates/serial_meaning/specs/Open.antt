@@ -10,7 +10,7 @@ use Rattle.serial_meaning.specs.Runs.{Run, done, run_ends_by, happens, ◌then�
 use Rattle.serial_meaning.specs.Functions.{function_at}
 use Rattle.serial_meaning.specs.Plan.{PlanView, functions_of}
 use Rattle.serial_meaning.specs.Exec.{Manner, instance}
-use Rattle.serial_meaning.specs.Eval.{Evaluation, first_of, iteration, by_depth, eval_below, depth_left, main_origin}
+use Rattle.serial_meaning.specs.Eval.{Evaluation, first_value, iteration, by_depth, eval_below, depth_left, main_origin}
 use Rattle.serial_meaning.specs.declared.value.Value.{Value}
 use Rattle.serial_meaning.specs.declared.value.Value.TheVariants.{Int, Id}
 use Rattle.serial_meaning.specs.declared.event.Fault.{Fault}
@@ -57,12 +57,12 @@ filler plan (Loop function rest first path range) = Int (pos 0)
 
 -- the value of a spawned child, and the least fault of the children so far
 abbrev pub put_off : Value → Option Fault → Result (List Value) Fault → Value × Option Fault
-put_off instead faulted (Ok vs) = (first_of vs, faulted)
+put_off instead faulted (Ok vs) = (first_value vs, faulted)
 put_off instead faulted (Err f) = (instead, Some (least faulted f))
 
-abbrev pub joined : Option Fault → Run Item NodeFault (Option Fault)
-joined None = done None
-joined (Some f) = run_ends_by (ChildFaulted f)
+abbrev pub unless_child_faulted : Option Fault → Run Item NodeFault (Option Fault)
+unless_child_faulted None = done None
+unless_child_faulted (Some f) = run_ends_by (ChildFaulted f)
 
 abbrev pub loop_end : Result (List Value) Fault → Result (List Value) NodeFault
 loop_end (Ok vs) = Ok vs
@@ -86,7 +86,7 @@ put_off_all plan child = record {
   none = None;
   spawn = λ o faulted. happens (Child o) (put_off (filler plan o) faulted (child o).ending);
   loop = λ o. if is_empty_loop o then done [] else record { items = Child o ∷ []; ending = loop_end (child o).ending };
-  sync = joined;
+  sync = unless_child_faulted;
 }
 
 -- n iterations of a loop from the k-th on, as origins
@@ -142,22 +142,22 @@ faults_in plan o = faults_with plan (faults_below plan (depth_left plan o)) o
 abbrev pub faults : PlanView → List Fault
 faults plan = faults_in plan (main_origin plan)
 
--- Places
+-- Strands
 
 -- the pedigree after a rise of the rank
-abbrev pub risen : List ℕ → List ℕ
-risen [] = []
-risen (rank ∷ []) = (rank + 1) ∷ []
-risen (rank ∷ k ∷ ranks) = rank ∷ risen (k ∷ ranks)
+abbrev pub raised : List ℕ → List ℕ
+raised [] = []
+raised (rank ∷ []) = (rank + 1) ∷ []
+raised (rank ∷ k ∷ ranks) = rank ∷ raised (k ∷ ranks)
 
 -- the strand after an event of the strand `here`: a print raises no rank
 abbrev pub strand_after : List ℕ → Event → List (List ℕ)
 strand_after here (event.Print j v) = []
-strand_after here (event.Draw j n) = risen here ∷ []
-strand_after here (event.New j) = risen here ∷ []
-strand_after here (event.Spawn j) = risen here ∷ []
-strand_after here (event.Sync j) = risen here ∷ []
-strand_after here (event.Loop j) = risen here ∷ []
+strand_after here (event.Draw j n) = raised here ∷ []
+strand_after here (event.New j) = raised here ∷ []
+strand_after here (event.Spawn j) = raised here ∷ []
+strand_after here (event.Sync j) = raised here ∷ []
+strand_after here (event.Loop j) = raised here ∷ []
 
 abbrev pub last_of : List ℕ → List (List ℕ) → List ℕ
 last_of here [] = here
@@ -170,7 +170,7 @@ led_to here [] = []
 led_to here (Happened e ∷ items) = strand_after here e ++ led_to (last_of here (strand_after here e)) items
 led_to here (Child o ∷ items) = led_to here items
 led_to here (Opened j ∷ items) = (j ++ 0 ∷ []) ∷ led_to (j ++ 0 ∷ []) items
-led_to here (Closed j ∷ items) = risen j ∷ led_to (risen j) items
+led_to here (Closed j ∷ items) = raised j ∷ led_to (raised j) items
 
 abbrev pub without_last : List (List ℕ) → List (List ℕ)
 without_last [] = []
@@ -185,6 +185,6 @@ reached_by js (Err (Own f)) = js
 reached_by js (Err (ChildFaulted f)) = without_last js
 
 -- the pedigrees of an instance's own strands, in order; a loop has none
-abbrev pub places_of : Origin → Node → List (List ℕ)
-places_of (Instance function args path) n = reached_by ((path ++ 0 ∷ []) ∷ led_to (path ++ 0 ∷ []) n.items) n.ending
-places_of (Loop function rest first path range) n = []
+abbrev pub strand_pedigrees : Origin → Node → List (List ℕ)
+strand_pedigrees (Instance function args path) n = reached_by ((path ++ 0 ∷ []) ∷ led_to (path ++ 0 ∷ []) n.items) n.ending
+strand_pedigrees (Loop function rest first path range) n = []

@@ -8,7 +8,7 @@ pub mod answer_key;
 mod chunk;
 pub mod environment;
 pub mod event;
-pub mod examples;
+mod examples;
 pub mod known;
 pub mod laws;
 pub mod memory;

@@ -22,11 +22,11 @@ use Rattle.strand_meaning.proofs.NextStops.Stops.{stops_are_sound, stops_keep_or
 use Rattle.strand_machine.specs.Family.{tag, tags}
 use Rattle.strand_machine.specs.Faults.{is_fault, EndsByFault}
 use Rattle.strand_machine.specs.Parts.{awaited}
-use Rattle.strand_machine.specs.Stops.{IsStop, WentOn, answer_tags, any_cut, is_cut, went, with_evaluations, view_on}
+use Rattle.strand_machine.specs.Stops.{IsStop, WentOn, answer_tags, any_cut, is_cut, with_evaluations, view_on}
 use Rattle.strand_machine.specs.Tasks.{TaskView, fresh}
 use Rattle.strand_machine.specs.declared.stop.Stop as stops
 use Rattle.strand_machine.specs.declared.stop.Stop.TheVariants as stop
-use Rattle.serial_runner.specs.Stacks.{task_of, IsOpenTask, AreBelow, IsStack, root_of, tasks, IsAnswerOf, task_of_answer, stack_with_answer, Follows, Closes, AdvancesTo}
+use Rattle.serial_runner.specs.Stacks.{task_of, IsOpenTask, AreBelow, IsStack, lowest_of, tasks, IsAnswerOf, task_of_answer, stack_with_answer, Follows, Closes, AdvancesTo}
 use Rattle.serial_runner.specs.declared.open_tasks.OpenTask.{OpenTask}
 use Rattle.serial_runner.specs.declared.stack.Stack.{Stack}
 use Rattle.serial_runner.specs.declared.stack.Advanced.{Advanced}
@@ -71,7 +71,7 @@ more-uncut (x ∷ answers) a whole h =
 
 -- By answers of which none is a cut it goes on.
 pub went_whole : (answers : List AnswerView) (t next : TaskView) → any_cut answers ≡ false → WentOn answers t next → next ≡ view_on t
-went_whole answers t next whole h = subst (λ (b : Bool). went b answers t next) whole h
+went_whole answers t next whole h = h.whole whole
 
 -- Children that a wait is over with aren't awaited
 
@@ -92,9 +92,9 @@ pub below-same : (t u : Task) (fs : List OpenTask) → IsOf t u → AreBelow t f
 below-same t u [] same b = tt
 below-same t u (f ∷ fs) same b = (same.0 ∙ b.0, subst (λ (o : Origin). IsOpenTask (o ∷ []) f) (sym same.1) b.1, b.2)
 
-pub root-same : (t u : Task) (fs : List OpenTask) → IsOf t u → IsOf (root_of t fs) (root_of u fs)
-root-same t u [] same = same
-root-same t u (f ∷ fs) same = (refl, refl)
+pub lowest-same : (t u : Task) (fs : List OpenTask) → IsOf t u → IsOf (lowest_of t fs) (lowest_of u fs)
+lowest-same t u [] same = same
+lowest-same t u (f ∷ fs) same = (refl, refl)
 
 begun-open_task : (plan : PlanView) (o : Origin) → IsTask (start plan o) → IsOpenTask [] (record { task = fresh plan o; answers = [] })
 begun-open_task plan o is = record { task = is; idle = refl; goes_on = refl; whole = refl; answers = refl }
@@ -130,7 +130,7 @@ module _ (s : Stack) (is : IsStack s) where
         top = subst (λ (v : TaskView). IsOpenTask [] (open_task v [])) (sym is-fresh) (begun-open_task t.plan c (tasks_begin t.plan c sound.0 is.top.task.clear));
         below = (ap (λ (u : Task). u.plan) begun ∙ sym same.0, record { task = sound.1; idle = fewer.1; goes_on = at.keeps.3; whole = is.top.whole; answers = answers }, below-same t rest.task s.below same is.below);
       };
-      root = root-same t rest.task s.below same;
+      lowest = lowest-same t rest.task s.below same;
       stop = to;
       comes = at.next;
       leaves = ap (λ (u : Task). u ∷ rest.task ∷ tasks s.below) (begun ∙ ap (λ (p : PlanView). start p c) (sym same.0));
@@ -167,7 +167,7 @@ module _ (s : Stack) (is : IsStack s) where
         top = record { task = answers_keep_tasks rest.task sound; idle = refl; goes_on = at.keeps.2; whole = refl; answers = ap (λ (l : List AwaitedChild). tags rest.task.plan (awaited l)) (sym none) };
         below = below-same t (with_evaluations rest) s.below same is.below;
       };
-      root = root-same t (with_evaluations rest) s.below same;
+      lowest = lowest-same t (with_evaluations rest) s.below same;
       stop = Wait rest.task;
       comes = at.next;
       leaves = refl;
@@ -183,7 +183,7 @@ module _ (s : Stack) (is : IsStack s) where
     to-parent : (f : OpenTask) (fs : List OpenTask) → s.below ≡ f ∷ fs → AreBelow t (f ∷ fs) → Follows s (stack_with_answer answer f fs)
     to-parent f fs e b = record {
       sound = record { top = record { task = b.1.task; idle = b.1.idle; goes_on = b.1.goes_on; whole = more-uncut f.answers answer b.1.whole whole; answers = answers }; below = b.2 };
-      root = subst (λ (l : List OpenTask). IsOf (root_of t l) (root_of (task_of f) fs)) (sym e) (refl, refl);
+      lowest = subst (λ (l : List OpenTask). IsOf (lowest_of t l) (lowest_of (task_of f) fs)) (sym e) (refl, refl);
       stop = End answer.out answer.outcome;
       comes = at.next;
       leaves = ap tasks (sym e);
@@ -199,7 +199,7 @@ module _ (s : Stack) (is : IsStack s) where
             ∙ ap (λ (o : Origin). answer_tags f.answers ++ tag (task_of f).plan o ∷ []) at.keeps.1 ∙ b.1.answers
 
     abbrev IsEnd : List OpenTask → Type 0
-    IsEnd fs = IsAnswerOf (root_of t fs) answer
+    IsEnd fs = IsAnswerOf (lowest_of t fs) answer
 
     -- An end's answer goes to the task below, or is the one of the task at the bottom.
     pub ended : (result : Result Advanced Memory) → ((f : OpenTask) (fs : List OpenTask) → s.below ≡ f ∷ fs → IfOk result (λ to. to ≡ Goes (stack_with_answer answer f fs))) →
@@ -227,9 +227,9 @@ module _ (s : Stack) (is : IsStack s) where
     pub answer_below : AreBelow (task_of_answer answer) s.below
     answer_below = below-same t (task_of_answer answer) s.below same-task is.below
 
-    pub all_ended : (last : AnswerView) → IsAnswerOf (root_of (task_of_answer answer) s.below) last → Closes s last
+    pub all_ended : (last : AnswerView) → IsAnswerOf (lowest_of (task_of_answer answer) s.below) last → Closes s last
     all_ended last h =
-        let same : IsOf (root_of t s.below) (root_of (task_of_answer answer) s.below) = root-same t (task_of_answer answer) s.below same-task in
+        let same : IsOf (lowest_of t s.below) (lowest_of (task_of_answer answer) s.below) = lowest-same t (task_of_answer answer) s.below same-task in
         record { plan = h.plan ∙ same.0; origin = h.origin ∙ same.1; fault = subst (λ (p : PlanView). IsFaultOf p last.outcome) same.0 h.fault }
 
 -- The tasks below an answer that is a fault
@@ -238,21 +238,21 @@ pub record EndsAt (bottom : Task) (answer : AnswerView) (fs : List OpenTask) : T
   pub below : AreBelow (task_of_answer answer) fs
   pub fault : is_fault answer.outcome ≡ true
   pub known : IsFaultOf answer.plan answer.outcome
-  pub root : IsOf bottom (root_of (task_of_answer answer) fs)
+  pub lowest : IsOf bottom (lowest_of (task_of_answer answer) fs)
 
 pub ends-next : (bottom : Task) (a b : AnswerView) (by : AnswerTag) (f : OpenTask) (fs gs : List OpenTask) → gs ≡ f ∷ fs → EndsAt bottom a gs → EndsByFault f.task b by → EndsAt bottom b fs
 ends-next bottom a b by f fs gs e at ends =
     let was : EndsAt bottom a (f ∷ fs) = subst (EndsAt bottom a) e at in
     let same : IsOf (task_of f) (task_of_answer b) = (ends.plan, ends.origin) in
-    let lower : IsOf (root_of (task_of f) fs) (root_of (task_of_answer b) fs) = root-same (task_of f) (task_of_answer b) fs same in
+    let lower : IsOf (lowest_of (task_of f) fs) (lowest_of (task_of_answer b) fs) = lowest-same (task_of f) (task_of_answer b) fs same in
     record {
       below = below-same (task_of f) (task_of_answer b) fs same was.below.2;
       fault = ends.fault;
       known = subst (λ (p : PlanView). IsFaultOf p b.outcome) (sym ends.plan) ends.known;
-      root = (lower.0 ∙ was.root.0, lower.1 ∙ was.root.1);
+      lowest = (lower.0 ∙ was.lowest.0, lower.1 ∙ was.lowest.1);
     }
 
 pub ends-last : (bottom : Task) (a : AnswerView) (fs : List OpenTask) → fs ≡ [] → EndsAt bottom a fs → IsAnswerOf bottom a
 ends-last bottom a fs e at =
     let was : EndsAt bottom a [] = subst (EndsAt bottom a) e at in
-    record { plan = was.root.0; origin = was.root.1; fault = subst (λ (p : PlanView). IsFaultOf p a.outcome) was.root.0 was.known }
+    record { plan = was.lowest.0; origin = was.lowest.1; fault = subst (λ (p : PlanView). IsFaultOf p a.outcome) was.lowest.0 was.known }

@@ -13,7 +13,7 @@ use Rattle.serial_meaning.specs.declared.origin.Origin.TheVariants.{Instance, Lo
 use Rattle.serial_meaning.specs.declared.answer.Outcome.{Outcome}
 use Rattle.strand_meaning.specs.Machine.{Effect, Opens, Closes, Emitted, Handed, Syncs, Loops, Reached, Stands, Gives, move}
 use Rattle.strand_meaning.specs.Trace.{AwaitedChild, Trace, after_last, emit, emit_at, add_child, with_effects}
-use Rattle.strand_meaning.specs.Task.{InstanceState, Running, AtSync, AtLoop, Ended, Work, Splits, Runs, Over, Task, own_instance, MoveOrStop, Passes, Stops, Stop, Spawn, Wait, End, IsNext, Now, Later, stage_after, child_in, stops_at, passing, moved, ends_unless, faults_after, gave, stage_step, first_half, split_step, over_step, work_step, step}
+use Rattle.strand_meaning.specs.Task.{InstanceState, Running, AtSync, AtLoop, Ended, Work, Splits, Runs, Finished, Task, own_instance, MoveOrStop, Passes, Stops, Stop, Spawn, Wait, End, IsNext, Now, Later, stage_after, child_in, stops_at, passing, moved, ends_unless, faults_after, gave, stage_step, first_half, split_step, over_step, work_step, step}
 use Rattle.strand_meaning.specs.Sound.{IsEndOf, IsSoundWork, IsTask}
 use Rattle.strand_meaning.specs.Laws.{IsOf, IsSoundStep}
 use Rattle.strand_meaning.proofs.SoundSteps.Ends.{steps_are_sound}
@@ -42,8 +42,8 @@ awaited-effects [] trace = sym (append-nil (awaited trace.handed))
 awaited-effects (Opens j ∷ ts) trace = awaited-effects ts trace
 awaited-effects (Closes j ∷ ts) trace = awaited-effects ts trace
 awaited-effects (Emitted e ∷ ts) trace = awaited-effects ts (emit e trace) ∙ ap (λ l. l ++ children ts) (awaited-emit trace.handed e trace refl)
-awaited-effects (Handed o place ∷ ts) trace =
-    awaited-effects ts (add_child o place trace) ∙ ap (λ l. l ++ children ts) (awaited-append trace.handed _) ∙ append_assoc (awaited trace.handed) (o ∷ []) (children ts)
+awaited-effects (Handed o destination ∷ ts) trace =
+    awaited-effects ts (add_child o destination trace) ∙ ap (λ l. l ++ children ts) (awaited-append trace.handed _) ∙ append_assoc (awaited trace.handed) (o ∷ []) (children ts)
 awaited-effects (Syncs ∷ ts) trace = awaited-effects ts trace
 awaited-effects (Loops ∷ ts) trace = awaited-effects ts trace
 
@@ -56,7 +56,7 @@ child-first [] = refl
 child-first (Opens j ∷ ts) = child-first ts
 child-first (Closes j ∷ ts) = child-first ts
 child-first (Emitted e ∷ ts) = child-first ts
-child-first (Handed o place ∷ ts) = refl
+child-first (Handed o destination ∷ ts) = refl
 child-first (Syncs ∷ ts) = child-first ts
 child-first (Loops ∷ ts) = child-first ts
 
@@ -138,8 +138,8 @@ module _ (t : Task) where
   hands-work : (work : Work) → IsSoundWork t.plan t.origin t.trace.handed work → HandsStep t (work_step t work)
   hands-work (Splits left) is = hands-split left (left.hi - left.lo) is.0 refl
   hands-work (Runs stage) is = hands-stage stage
-  hands-work (Over v true) is = hands-ends t.trace.fault _
-  hands-work (Over v false) is = hands-over v t.origin
+  hands-work (Finished v true) is = hands-ends t.trace.fault _
+  hands-work (Finished v false) is = hands-over v t.origin
 
 step-hands : (t : Task) → IsTask t → HandsStep t (step t)
 step-hands t is = hands-work t t.work is.work

@@ -13,13 +13,13 @@ use Rattle.serial_runner.specs.declared.walk.NodeWalk.{NodeWalk}
 pub made : {B E : Type 0} (P : B → Type 0) (r : Result B E) (b : B) → r ≡ Ok b → IfOk r P → P b
 made P r b e h = subst (λ z. IfOk z P) e h
 
--- what was noted, and is seen by then
-pub observation : (j : List ℕ) (w : NodeWalk) (observed : ObservedInstance) (n : ObservedStop) → observed ≡ w.observed → IsObserved w.task j w.observed.eye n → (r : Result ObservedInstance Memory) → IfOk r (λ s. s ≡ with_observation n.eye n.events n.fault n.joined observed)
+-- what was observed, and is seen by then
+pub observation : (j : List ℕ) (w : NodeWalk) (observed : ObservedInstance) (n : ObservedStop) → observed ≡ w.observed → IsObserved w.task j w.observed.eye n → (r : Result ObservedInstance Memory) → IfOk r (λ s. s ≡ with_observation n.eye n.events n.fault n.child_fault observed)
     → (result : Result (Stop × ObservedInstance) Memory) → Beside n.stop r result → IfOk result (λ p. IsStopped j w p.0 p.1)
 observation j w observed n e is r h (Ok p) b = record {
-  noted = n;
-  is_noted = is;
+  observed_stop = n;
+  is_observed = is;
   stops = b.0;
-  sees = made (λ s. s ≡ with_observation n.eye n.events n.fault n.joined observed) r p.1 b.1 h ∙ ap (with_observation n.eye n.events n.fault n.joined) e;
+  sees = made (λ s. s ≡ with_observation n.eye n.events n.fault n.child_fault observed) r p.1 b.1 h ∙ ap (with_observation n.eye n.events n.fault n.child_fault) e;
 }
 observation j w observed n e is r h (Err m) b = tt

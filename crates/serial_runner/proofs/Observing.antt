@@ -1,8 +1,8 @@
--- What is seen of an instance, by what is noted of it.
+-- What is seen of an instance, by what is observed of it.
 use Rattle.std.proofs.Common.{◌≡◌, ℕ, Bool, true, false, ◌||◌, ◌&&◌, List, [], ◌∷◌, ◌++◌, Option, Some, None, Result, Ok, Err, append-nil, if◌then◌else◌, refl, sym, ap, ◌∙◌, subst, arith}
 use Rattle.serial_meaning.specs.Eval.{path_of}
 use Rattle.serial_meaning.specs.Open as open_tree
-use Rattle.serial_meaning.specs.Open.{Item, Happened, Child, Opened, Closed, NodeFault, Own, ChildFaulted, opened, places_of}
+use Rattle.serial_meaning.specs.Open.{Item, Happened, Child, Opened, Closed, NodeFault, Own, ChildFaulted, opened, strand_pedigrees}
 use Rattle.serial_meaning.specs.Runs.{after_items}
 use Rattle.serial_meaning.specs.Plan.{PlanView}
 use Rattle.serial_meaning.specs.declared.value.Value.{Value}
@@ -12,26 +12,26 @@ use Rattle.serial_meaning.specs.declared.origin.Origin.{Origin}
 use Rattle.serial_meaning.specs.declared.origin.Origin.TheVariants.{Instance, Loop}
 use Rattle.strand_meaning.specs.Observation.{IsInstance, Observation, also, newest, own_fault_of, node_left, IsOnWay, IsAllObserved}
 use Rattle.strand_meaning.specs.Task.{Task}
-use Rattle.strand_meaning.specs.Strands.{Strand, is_below, events_at, own_events, own_fault_at, joined_fault, last_place, ended_before, child_on_way, is_one_of, strand_of, blocks}
+use Rattle.strand_meaning.specs.Strands.{Strand, is_below, events_at, own_events, own_fault_at, fault_of_child, last_pedigree, ended_before, child_on_way, is_one_of, strand_of, blocking_fault}
 use Rattle.strand_meaning.proofs.NodesObserved.EventsOfPedigree.{events_at-append}
 use Rattle.strand_machine.specs.Eyes.{new_eye, eye_after, is_none_ahead}
 use Rattle.strand_machine.specs.declared.eye.Eye.{Eye}
 use Rattle.strand_machine.proofs.NodesObserved.Eyes.{looks-append, own-append, places-seen, places-without, past-seen}
-use Rattle.serial_runner.specs.Nodes.{IsBelow, shown_by, shown_at, fault_at, is_none, came_to, strand_seen, joined_before, node_seen}
-use Rattle.serial_runner.specs.Observed.{with_observation, first_of, with_child, seen, IsSeen, is_some, is_over}
+use Rattle.serial_runner.specs.Nodes.{IsBelow, shown_by, shown_at, fault_at, is_none, came_to, strand_seen, child_fault_before, node_seen}
+use Rattle.serial_runner.specs.Observed.{with_observation, first_child, with_child, seen, IsSeen, is_some, is_over}
 use Rattle.serial_runner.specs.declared.observed.ObservedInstance.{ObservedInstance}
 use Rattle.serial_runner.proofs.Over.{IsOver, stays, comes, none-later, fault-later, not-ended, last-led, came-stays}
 use Rattle.serial_runner.proofs.Places.{stands, came_by, stands-append, by-append, follow-front, follow-rest, NodeFollows, NodeEnds, node-follows}
 
--- Words of notes, over lists put together
+-- What observations one after another say, over lists put together
 
-pub child-append : (j : List ℕ) (xs ys : List Item) → child_on_way j (xs ++ ys) ≡ first_of (child_on_way j xs) (child_on_way j ys)
+pub child-append : (j : List ℕ) (xs ys : List Item) → child_on_way j (xs ++ ys) ≡ first_child (child_on_way j xs) (child_on_way j ys)
 child-append j [] ys = refl
 child-append j (Happened e ∷ xs) ys = child-append j xs ys
 child-append j (Child o ∷ xs) ys = by_path (is_below (path_of o) j) (child-append j xs ys)
   where
-    by_path : (b : Bool) → child_on_way j (xs ++ ys) ≡ first_of (child_on_way j xs) (child_on_way j ys) →
-        (if b then Some o else child_on_way j (xs ++ ys)) ≡ first_of (if b then Some o else child_on_way j xs) (child_on_way j ys)
+    by_path : (b : Bool) → child_on_way j (xs ++ ys) ≡ first_child (child_on_way j xs) (child_on_way j ys) →
+        (if b then Some o else child_on_way j (xs ++ ys)) ≡ first_child (if b then Some o else child_on_way j xs) (child_on_way j ys)
     by_path true h = refl
     by_path false h = h
 child-append j (Opened k ∷ xs) ys = child-append j xs ys
@@ -64,20 +64,20 @@ child-among j (Child o ∷ is) = ap (λ (d : Option Origin). if is_below (path_o
 child-among j (Opened k ∷ is) = child-among j is
 child-among j (Closed k ∷ is) = child-among j is
 
-pub first-only : (o : Option Origin) → first_of o None ≡ o
+pub first-only : (o : Option Origin) → first_child o None ≡ o
 first-only None = refl
 first-only (Some o) = refl
 
--- What is seen once more is noted
+-- What is seen once more is observed
 
 module _ (path j : List ℕ) (observation later : Observation) where
-  abbrev noted : Option Origin → ObservedInstance
-  noted child = record {
+  abbrev observed_so_far : Option Origin → ObservedInstance
+  observed_so_far child = record {
     eye = eye_after j (new_eye path j) (observation.items ++ later.items);
     events = events_at j (own_events (observation.items ++ later.items));
     fault = newest observation.fault later.fault;
     child = child;
-    joined = newest observation.joined later.joined;
+    child_fault = newest observation.child_fault later.child_fault;
   }
 
   with-events : (so_far events : List Event) → so_far ≡ events_at j (own_events observation.items) → events ≡ events_at j (own_events later.items) → so_far ++ events ≡ events_at j (own_events (observation.items ++ later.items))
@@ -85,25 +85,25 @@ module _ (path j : List ℕ) (observation later : Observation) where
       ap (λ (l : List Event). l ++ events) e ∙ ap (λ (l : List Event). events_at j (own_events observation.items) ++ l) h ∙ sym (events_at-append j (own_events observation.items) (own_events later.items))
       ∙ ap (events_at j) (sym (own-append observation.items later.items))
 
-  pub seen-with : (s : ObservedInstance) (eye : Eye) (events : List Event) (fault joined : Option Fault) → s ≡ seen path j observation → eye ≡ eye_after j s.eye later.items → events ≡ events_at j (own_events later.items) →
-      fault ≡ later.fault → joined ≡ later.joined → with_observation eye events fault joined s ≡ noted (child_on_way j observation.items)
-  seen-with s eye events fault joined e r v f g =
-      ap (with_observation eye events fault joined) e
-      ∙ ap (λ (b : Eye). record (with_observation eye events fault joined (seen path j observation)) { eye = b }) (r ∙ ap (λ (t : ObservedInstance). eye_after j t.eye later.items) e ∙ sym (looks-append j (new_eye path j) observation.items later.items))
-      ∙ ap (λ (l : List Event). record (noted (child_on_way j observation.items)) { events = l; fault = newest observation.fault fault; joined = newest observation.joined joined }) (with-events (events_at j (own_events observation.items)) events refl v)
-      ∙ ap (λ (x : Option Fault). record (noted (child_on_way j observation.items)) { fault = newest observation.fault x; joined = newest observation.joined joined }) f
-      ∙ ap (λ (x : Option Fault). record (noted (child_on_way j observation.items)) { joined = newest observation.joined x }) g
+  pub seen-with : (s : ObservedInstance) (eye : Eye) (events : List Event) (fault child_fault : Option Fault) → s ≡ seen path j observation → eye ≡ eye_after j s.eye later.items → events ≡ events_at j (own_events later.items) →
+      fault ≡ later.fault → child_fault ≡ later.child_fault → with_observation eye events fault child_fault s ≡ observed_so_far (child_on_way j observation.items)
+  seen-with s eye events fault child_fault e r v f g =
+      ap (with_observation eye events fault child_fault) e
+      ∙ ap (λ (b : Eye). record (with_observation eye events fault child_fault (seen path j observation)) { eye = b }) (r ∙ ap (λ (t : ObservedInstance). eye_after j t.eye later.items) e ∙ sym (looks-append j (new_eye path j) observation.items later.items))
+      ∙ ap (λ (l : List Event). record (observed_so_far (child_on_way j observation.items)) { events = l; fault = newest observation.fault fault; child_fault = newest observation.child_fault child_fault }) (with-events (events_at j (own_events observation.items)) events refl v)
+      ∙ ap (λ (x : Option Fault). record (observed_so_far (child_on_way j observation.items)) { fault = newest observation.fault x; child_fault = newest observation.child_fault child_fault }) f
+      ∙ ap (λ (x : Option Fault). record (observed_so_far (child_on_way j observation.items)) { child_fault = newest observation.child_fault x }) g
 
   -- where a child was handed out, and where none was
-  pub seen_child : (c : Origin) (s : ObservedInstance) → item_children later.items ≡ c ∷ [] → s ≡ noted (child_on_way j observation.items) → with_child j c s ≡ seen path j (also observation later)
+  pub seen_child : (c : Origin) (s : ObservedInstance) → item_children later.items ≡ c ∷ [] → s ≡ observed_so_far (child_on_way j observation.items) → with_child j c s ≡ seen path j (also observation later)
   seen_child c s h e =
       ap (with_child j c) e
-      ∙ ap (λ (x : Option Origin). noted (first_of (child_on_way j observation.items) x)) (sym (child-among j later.items ∙ ap (origin_on_way j) h))
-      ∙ ap noted (sym (child-append j observation.items later.items))
+      ∙ ap (λ (x : Option Origin). observed_so_far (first_child (child_on_way j observation.items) x)) (sym (child-among j later.items ∙ ap (origin_on_way j) h))
+      ∙ ap observed_so_far (sym (child-append j observation.items later.items))
 
-  pub seen_none : (s : ObservedInstance) → item_children later.items ≡ [] → s ≡ noted (child_on_way j observation.items) → s ≡ seen path j (also observation later)
+  pub seen_none : (s : ObservedInstance) → item_children later.items ≡ [] → s ≡ observed_so_far (child_on_way j observation.items) → s ≡ seen path j (also observation later)
   seen_none s h e =
-      e ∙ ap noted (sym (child-append j observation.items later.items ∙ ap (first_of (child_on_way j observation.items)) (child-among j later.items ∙ ap (origin_on_way j) h) ∙ first-only (child_on_way j observation.items)))
+      e ∙ ap observed_so_far (sym (child-append j observation.items later.items ∙ ap (first_child (child_on_way j observation.items)) (child-among j later.items ∙ ap (origin_on_way j) h) ∙ first-only (child_on_way j observation.items)))
 
 -- What is seen of a whole instance
 
@@ -111,7 +111,7 @@ abbrev a_strand : List Event → Option Fault → Strand
 a_strand events fault = record { events = events; fault = fault }
 
 abbrev an_observed : Eye → List Event → Option Fault → Option Origin → Option Fault → ObservedInstance
-an_observed eye events fault child joined = record { eye = eye; events = events; fault = fault; child = child; joined = joined }
+an_observed eye events fault child child_fault = record { eye = eye; events = events; fault = fault; child = child; child_fault = child_fault }
 
 own-at : (j : List ℕ) (e : Result (List Value) NodeFault) → fault_at j (own_fault_of e) ≡ own_fault_at j e
 own-at j (Ok vs) = refl
@@ -147,26 +147,26 @@ module _ (function : ℕ) (args : List Value) (path : List ℕ) (r : ℕ) (more 
   start = path ++ 0 ∷ []
 
   abbrev observed_of : List Item → Result (List Value) NodeFault → ObservedInstance
-  observed_of items e = an_observed (eye_after j (new_eye path j) items) (events_at j (own_events items)) (own_fault_of e) (child_on_way j items) (joined_fault e)
+  observed_of items e = an_observed (eye_after j (new_eye path j) items) (events_at j (own_events items)) (own_fault_of e) (child_on_way j items) (fault_of_child e)
 
   -- whether the instance came to the strand
-  came-is : (e : Result (List Value) NodeFault) → came_to (observed_of n.items e) ≡ is_one_of j (places_of o (record n { ending = e }))
+  came-is : (e : Result (List Value) NodeFault) → came_to (observed_of n.items e) ≡ is_one_of j (strand_pedigrees o (record n { ending = e }))
   came-is (Ok vs) = let eye = eye_after j (new_eye path j) n.items in and-true eye.came (is_none_ahead eye.ahead) ∙ sym (places-seen r more start (new_eye path j) n.items refl)
   came-is (Err (Own f)) = let eye = eye_after j (new_eye path j) n.items in and-true eye.came (is_none_ahead eye.ahead) ∙ sym (places-seen r more start (new_eye path j) n.items refl)
   came-is (Err (ChildFaulted f)) = let eye = eye_after j (new_eye path j) n.items in and-false eye.came (is_none_ahead eye.ahead) ∙ sym (places-without r more start (new_eye path j) n.items refl)
 
-  joined-is : (e : Result (List Value) NodeFault) → joined_before (observed_of n.items e) ≡ blocks (record n { ending = e }) j
-  joined-is (Ok vs) = if-none (eye_after j (new_eye path j) n.items).past
-  joined-is (Err (Own f)) = if-none (eye_after j (new_eye path j) n.items).past
-  joined-is (Err (ChildFaulted f)) = ap (λ (b : Bool). if b then Some f else None) (past-seen j [] (new_eye path j) n.items refl)
+  child_fault-is : (e : Result (List Value) NodeFault) → child_fault_before (observed_of n.items e) ≡ blocking_fault (record n { ending = e }) j
+  child_fault-is (Ok vs) = if-none (eye_after j (new_eye path j) n.items).past
+  child_fault-is (Err (Own f)) = if-none (eye_after j (new_eye path j) n.items).past
+  child_fault-is (Err (ChildFaulted f)) = ap (λ (b : Bool). if b then Some f else None) (past-seen j [] (new_eye path j) n.items refl)
 
   strand-is : strand_seen j (observed_of n.items n.ending) ≡ strand_of o n j
   strand-is =
       ap (λ (b : Bool). if b then Some (a_strand (events_at j (own_events n.items)) (fault_at j (own_fault_of n.ending))) else None) (came-is n.ending)
-      ∙ ap (λ (f : Option Fault). if is_one_of j (places_of o n) then Some (a_strand (events_at j (own_events n.items)) f) else None) (own-at j n.ending)
+      ∙ ap (λ (f : Option Fault). if is_one_of j (strand_pedigrees o n) then Some (a_strand (events_at j (own_events n.items)) f) else None) (own-at j n.ending)
 
   pub node-is : node_seen j (observed_of n.items n.ending) ≡ shown_at o n j
-  node-is = ap (λ (t : Option Strand). shown_by (child_on_way j n.items) t (joined_before (observed_of n.items n.ending))) strand-is ∙ ap (λ (f : Option Fault). shown_by (child_on_way j n.items) (strand_of o n j) f) (joined-is n.ending)
+  node-is = ap (λ (t : Option Strand). shown_by (child_on_way j n.items) t (child_fault_before (observed_of n.items n.ending))) strand-is ∙ ap (λ (f : Option Fault). shown_by (child_on_way j n.items) (strand_of o n j) f) (child_fault-is n.ending)
 
   -- Where a strand of its own was over before some of its items, the others tell no more.
   module _ (follows : NodeFollows path n) (xs ys : List Item) (parts : n.items ≡ xs ++ ys) (came : (eye_after j (new_eye path j) xs).came ≡ true) where
@@ -191,7 +191,7 @@ module _ (function : ℕ) (args : List Value) (path : List ℕ) (r : ℕ) (more 
     later = none-later j (stands start xs) (came_by [] xs) ys (follow-rest start [] xs ys (whole.follow [])) over
 
     same-child : child_on_way j n.items ≡ child_on_way j xs
-    same-child = ap (child_on_way j) parts ∙ child-append j xs ys ∙ ap (first_of (child_on_way j xs)) later.1 ∙ first-only (child_on_way j xs)
+    same-child = ap (child_on_way j) parts ∙ child-append j xs ys ∙ ap (first_child (child_on_way j xs)) later.1 ∙ first-only (child_on_way j xs)
 
     same-events : events_at j (own_events n.items) ≡ events_at j (own_events xs)
     same-events =
@@ -206,13 +206,13 @@ module _ (function : ℕ) (args : List Value) (path : List ℕ) (r : ℕ) (more 
     no-fault (Err (Own f)) h = ap (λ (b : Bool). if b then Some f else None) (fault-later j here f.at h.0 at-end.before)
     no-fault (Err (ChildFaulted f)) h = refl
 
-    no-block : (e : Result (List Value) NodeFault) → NodeEnds here by e → joined_before (observed_of n.items e) ≡ None
+    no-block : (e : Result (List Value) NodeFault) → NodeEnds here by e → child_fault_before (observed_of n.items e) ≡ None
     no-block (Ok vs) h = if-none (eye_after j (new_eye path j) n.items).past
     no-block (Err (Own f)) h = if-none (eye_after j (new_eye path j) n.items).past
     no-block (Err (ChildFaulted f)) h =
         ap (λ (b : Bool). if b then Some f else None)
         (past-seen j [] (new_eye path j) n.items refl
-        ∙ ap (λ (l : List ℕ). ended_before l j) (ap (λ (l : List Item). last_place [] (own_events l)) parts ∙ last-led [] [] (xs ++ ys) (λ q. refl) h.1)
+        ∙ ap (λ (l : List ℕ). ended_before l j) (ap (λ (l : List Item). last_pedigree [] (own_events l)) parts ∙ last-led [] [] (xs ++ ys) (λ q. refl) h.1)
         ∙ not-ended j by (at-end.after h.1))
 
     abbrev strand : Option Fault → Option Strand
@@ -221,30 +221,30 @@ module _ (function : ℕ) (args : List Value) (path : List ℕ) (r : ℕ) (more 
     strand-there : strand_of o n j ≡ strand None
     strand-there =
         sym strand-is
-        ∙ ap (λ (b : Bool). if b || (is_none_ahead (eye_after j (new_eye path j) n.items).ahead && is_none (joined_fault n.ending)) then Some (a_strand (events_at j (own_events n.items)) (fault_at j (own_fault_of n.ending))) else None) still
+        ∙ ap (λ (b : Bool). if b || (is_none_ahead (eye_after j (new_eye path j) n.items).ahead && is_none (fault_of_child n.ending)) then Some (a_strand (events_at j (own_events n.items)) (fault_at j (own_fault_of n.ending))) else None) still
         ∙ ap (λ (l : List Event). Some (a_strand l (fault_at j (own_fault_of n.ending)))) same-events
         ∙ ap strand (no-fault n.ending (whole.ends []))
 
-    pub over-is : (s : ObservedInstance) → s.eye ≡ eye_after j (new_eye path j) xs → s.events ≡ events_at j (own_events xs) → s.fault ≡ None → s.child ≡ child_on_way j xs → s.joined ≡ None → node_seen j s ≡ shown_at o n j
-    over-is s eye events fault child joined =
-        ap (λ (c : Option Origin). shown_by c (strand_seen j s) (joined_before s)) (child ∙ sym same-child)
-        ∙ ap (λ (t : Option Strand). shown_by (child_on_way j n.items) t (joined_before s)) (here-strand ∙ sym strand-there)
-        ∙ ap (λ (f : Option Fault). shown_by (child_on_way j n.items) (strand_of o n j) f) (here-joined ∙ sym (sym (joined-is n.ending) ∙ no-block n.ending (whole.ends [])))
+    pub over-is : (s : ObservedInstance) → s.eye ≡ eye_after j (new_eye path j) xs → s.events ≡ events_at j (own_events xs) → s.fault ≡ None → s.child ≡ child_on_way j xs → s.child_fault ≡ None → node_seen j s ≡ shown_at o n j
+    over-is s eye events fault child child_fault =
+        ap (λ (c : Option Origin). shown_by c (strand_seen j s) (child_fault_before s)) (child ∙ sym same-child)
+        ∙ ap (λ (t : Option Strand). shown_by (child_on_way j n.items) t (child_fault_before s)) (here-strand ∙ sym strand-there)
+        ∙ ap (λ (f : Option Fault). shown_by (child_on_way j n.items) (strand_of o n j) f) (here-child_fault ∙ sym (sym (child_fault-is n.ending) ∙ no-block n.ending (whole.ends [])))
       where
         here-strand : strand_seen j s ≡ strand None
         here-strand =
-            ap (λ (b : Bool). if b || (is_none_ahead s.eye.ahead && is_none s.joined) then Some (a_strand s.events (fault_at j s.fault)) else None) (ap (λ (e : Eye). e.came) eye ∙ came)
+            ap (λ (b : Bool). if b || (is_none_ahead s.eye.ahead && is_none s.child_fault) then Some (a_strand s.events (fault_at j s.fault)) else None) (ap (λ (e : Eye). e.came) eye ∙ came)
             ∙ ap (λ (l : List Event). Some (a_strand l (fault_at j s.fault))) events
             ∙ ap (λ (f : Option Fault). strand (fault_at j f)) fault
 
-        here-joined : joined_before s ≡ None
-        here-joined = ap (λ (f : Option Fault). if s.eye.past then f else None) joined ∙ if-none s.eye.past
+        here-child_fault : child_fault_before s ≡ None
+        here-child_fault = ap (λ (f : Option Fault). if s.eye.past then f else None) child_fault ∙ if-none s.eye.past
 
 -- The node
 
 -- a child on the way is told alone
-pub by-child : (j : List ℕ) (s : ObservedInstance) (c : Origin) → s.child ≡ Some c → node_seen j s ≡ record { strand = None; child = Some c; joined = None }
-by-child j s c e = ap (λ (d : Option Origin). shown_by d (strand_seen j s) (joined_before s)) e
+pub by-child : (j : List ℕ) (s : ObservedInstance) (c : Origin) → s.child ≡ Some c → node_seen j s ≡ record { strand = None; child = Some c; child_fault = None }
+by-child j s c e = ap (λ (d : Option Origin). shown_by d (strand_seen j s) (child_fault_before s)) e
 
 module _ (plan : PlanView) (o : Origin) (j : List ℕ) (i : IsInstance o) (below : IsBelow (path_of o) j) where
   -- what is seen of the whole instance
@@ -254,14 +254,14 @@ module _ (plan : PlanView) (o : Origin) (j : List ℕ) (i : IsInstance o) (below
       n : open_tree.Node
       n = opened plan o
 
-      same : seen (path_of o) j observation ≡ an_observed (eye_after j (new_eye (path_of o) j) n.items) (events_at j (own_events n.items)) (own_fault_of n.ending) (child_on_way j n.items) (joined_fault n.ending)
+      same : seen (path_of o) j observation ≡ an_observed (eye_after j (new_eye (path_of o) j) n.items) (events_at j (own_events n.items)) (own_fault_of n.ending) (child_on_way j n.items) (fault_of_child n.ending)
       same =
-          ap (λ (l : List Item). an_observed (eye_after j (new_eye (path_of o) j) l) (events_at j (own_events l)) observation.fault (child_on_way j l) observation.joined) (sym w.items)
-          ∙ ap (λ (f : Option Fault). an_observed (eye_after j (new_eye (path_of o) j) n.items) (events_at j (own_events n.items)) f (child_on_way j n.items) observation.joined) (sym w.fault)
-          ∙ ap (λ (f : Option Fault). an_observed (eye_after j (new_eye (path_of o) j) n.items) (events_at j (own_events n.items)) (own_fault_of n.ending) (child_on_way j n.items) f) (sym w.joined)
+          ap (λ (l : List Item). an_observed (eye_after j (new_eye (path_of o) j) l) (events_at j (own_events l)) observation.fault (child_on_way j l) observation.child_fault) (sym w.items)
+          ∙ ap (λ (f : Option Fault). an_observed (eye_after j (new_eye (path_of o) j) n.items) (events_at j (own_events n.items)) f (child_on_way j n.items) observation.child_fault) (sym w.fault)
+          ∙ ap (λ (f : Option Fault). an_observed (eye_after j (new_eye (path_of o) j) n.items) (events_at j (own_events n.items)) (own_fault_of n.ending) (child_on_way j n.items) f) (sym w.child_fault)
 
       from : (o : Origin) → IsInstance o → (j : List ℕ) → IsBelow (path_of o) j → (n : open_tree.Node) →
-          node_seen j (an_observed (eye_after j (new_eye (path_of o) j) n.items) (events_at j (own_events n.items)) (own_fault_of n.ending) (child_on_way j n.items) (joined_fault n.ending)) ≡ shown_at o n j
+          node_seen j (an_observed (eye_after j (new_eye (path_of o) j) n.items) (events_at j (own_events n.items)) (own_fault_of n.ending) (child_on_way j n.items) (fault_of_child n.ending)) ≡ shown_at o n j
       from (Instance function args path) i [] b n = absurd (let l = b.longer in omega (arith, l))
       from (Instance function args path) i (r ∷ more) b n = node-is function args path r more n
       from (Loop function rest first path range) i j b n = absurd i
@@ -280,10 +280,10 @@ module _ (plan : PlanView) (o : Origin) (j : List ℕ) (i : IsInstance o) (below
       child = ap (λ (t : ObservedInstance). t.child) e
 
       found : (c : Origin) → s.child ≡ Some c → IsSeen plan o j s
-      found c g = by-child j s c g ∙ sym (ap (λ (d : Option Origin). shown_by d (strand_of o (opened plan o) j) (blocks (opened plan o) j)) there)
+      found c g = by-child j s c g ∙ sym (ap (λ (d : Option Origin). shown_by d (strand_of o (opened plan o) j) (blocking_fault (opened plan o) j)) there)
         where
           there : child_on_way j (opened plan o).items ≡ Some c
-          there = ap (child_on_way j) parts ∙ child-append j observation.items (node_left u).items ∙ ap (λ (d : Option Origin). first_of d (child_on_way j (node_left u).items)) (sym child ∙ g)
+          there = ap (child_on_way j) parts ∙ child-append j observation.items (node_left u).items ∙ ap (λ (d : Option Origin). first_child d (child_on_way j (node_left u).items)) (sym child ∙ g)
 
       came : s.child ≡ None → (s.eye.came ≡ true) × (s.fault ≡ None)
       came g = split s.eye.came s.fault (sym (ap (λ (d : Option Origin). is_some d || (s.eye.came && is_none s.fault)) g) ∙ h)
@@ -294,14 +294,14 @@ module _ (plan : PlanView) (o : Origin) (j : List ℕ) (i : IsInstance o) (below
           split false f k = absurd (cc)
 
       from : (o : Origin) → IsInstance o → (j : List ℕ) → IsBelow (path_of o) j → (n : open_tree.Node) → NodeFollows (path_of o) n → n.items ≡ observation.items ++ (node_left u).items → (eye_after j (new_eye (path_of o) j) observation.items).came ≡ true →
-          s.eye ≡ eye_after j (new_eye (path_of o) j) observation.items → s.events ≡ events_at j (own_events observation.items) → s.fault ≡ None → s.child ≡ child_on_way j observation.items → s.joined ≡ None → node_seen j s ≡ shown_at o n j
-      from (Instance function args path) i [] b n follows p c eye events fault one joined = absurd (let l = b.longer in omega (arith, l))
-      from (Instance function args path) i (r ∷ more) b n follows p c eye events fault one joined = over-is function args path r more n follows observation.items (node_left u).items p c s eye events fault one joined
-      from (Loop function rest first path range) i j b n follows p c eye events fault one joined = absurd i
+          s.eye ≡ eye_after j (new_eye (path_of o) j) observation.items → s.events ≡ events_at j (own_events observation.items) → s.fault ≡ None → s.child ≡ child_on_way j observation.items → s.child_fault ≡ None → node_seen j s ≡ shown_at o n j
+      from (Instance function args path) i [] b n follows p c eye events fault one child_fault = absurd (let l = b.longer in omega (arith, l))
+      from (Instance function args path) i (r ∷ more) b n follows p c eye events fault one child_fault = over-is function args path r more n follows observation.items (node_left u).items p c s eye events fault one child_fault
+      from (Loop function rest first path range) i j b n follows p c eye events fault one child_fault = absurd i
 
       by_child : (c : Option Origin) → s.child ≡ c → IsSeen plan o j s
       by_child (Some c) g = found c g
       by_child None g =
           let k = came g in
           let eye : s.eye ≡ eye_after j (new_eye (path_of o) j) observation.items = ap (λ (t : ObservedInstance). t.eye) e in
-          from o i j below (opened plan o) (node-follows plan o i) parts (sym (ap (λ (y : Eye). y.came) eye) ∙ k.0) eye (ap (λ (t : ObservedInstance). t.events) e) k.1 child (ap (λ (t : ObservedInstance). t.joined) e ∙ way.joined)
+          from o i j below (opened plan o) (node-follows plan o i) parts (sym (ap (λ (y : Eye). y.came) eye) ∙ k.0) eye (ap (λ (t : ObservedInstance). t.events) e) k.1 child (ap (λ (t : ObservedInstance). t.child_fault) e ∙ way.child_fault)

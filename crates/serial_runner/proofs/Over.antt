@@ -7,11 +7,11 @@ use Rattle.std.specs.declared.cmp.Ordering.{Ordering}
 use Rattle.std.specs.declared.cmp.Ordering.TheVariants.{Less, Equal, Greater}
 use Rattle.ped_path.specs.Path.{IsBefore}
 use Rattle.serial_meaning.specs.Eval.{path_of}
-use Rattle.serial_meaning.specs.Open.{Item, Happened, Child, Opened, Closed, risen, led_to, without_last}
+use Rattle.serial_meaning.specs.Open.{Item, Happened, Child, Opened, Closed, raised, led_to, without_last}
 use Rattle.serial_meaning.proofs.RisingPedigrees.Order.{before-by_rank, before-prefix, not_before_itself, not_before-back, before-before}
 use Rattle.serial_meaning.specs.declared.event.Event.{Event}
 use Rattle.serial_meaning.specs.declared.event.Event.TheVariants as event
-use Rattle.strand_meaning.specs.Strands.{pedigree_of, events_at, own_events, last_place, is_below, child_on_way, ended_before, is_one_of}
+use Rattle.strand_meaning.specs.Strands.{pedigree_of, events_at, own_events, last_pedigree, is_below, child_on_way, ended_before, is_one_of}
 use Rattle.strand_meaning.proofs.Unfilled.Variables.{same-name, is-other}
 use Rattle.strand_machine.specs.Eyes.{eye_after, goes_to, less, ahead_of, is_none_ahead}
 use Rattle.strand_machine.specs.declared.eye.Eye.{Eye}
@@ -24,17 +24,17 @@ no-strand s = let l : length {A = ℕ} [] ≡ length (s.0 ++ s.1 ∷ []) = ap le
 
 -- Strands stand one after another
 
-risen-after : (here : List ℕ) → IsStrand here → IsBefore here (risen here)
+risen-after : (here : List ℕ) → IsStrand here → IsBefore here (raised here)
 risen-after here s =
-    subst (λ (l : List ℕ). IsBefore l (risen l)) (sym s.2) (subst (IsBefore (s.0 ++ s.1 ∷ [])) (sym (risen-last s.0 s.1)) (before-by_rank s.0 s.1 (s.1 + 1) [] [] (omega arith)))
+    subst (λ (l : List ℕ). IsBefore l (raised l)) (sym s.2) (subst (IsBefore (s.0 ++ s.1 ∷ [])) (sym (risen-last s.0 s.1)) (before-by_rank s.0 s.1 (s.1 + 1) [] [] (omega arith)))
 
 scope-after : (here : List ℕ) → IsBefore here (here ++ 0 ∷ [])
 scope-after here = before-prefix here 0 []
 
-closed-after : (j : List ℕ) (rank : ℕ) → IsStrand j → IsBefore (j ++ rank ∷ []) (risen j)
+closed-after : (j : List ℕ) (rank : ℕ) → IsStrand j → IsBefore (j ++ rank ∷ []) (raised j)
 closed-after j rank s =
-    subst (λ (l : List ℕ). IsBefore (l ++ rank ∷ []) (risen l)) (sym s.2)
-    (subst (λ (l : List ℕ). IsBefore l (risen (s.0 ++ s.1 ∷ []))) (sym (append_assoc s.0 (s.1 ∷ []) (rank ∷ [])))
+    subst (λ (l : List ℕ). IsBefore (l ++ rank ∷ []) (raised l)) (sym s.2)
+    (subst (λ (l : List ℕ). IsBefore l (raised (s.0 ++ s.1 ∷ []))) (sym (append_assoc s.0 (s.1 ∷ []) (rank ∷ [])))
     (subst (IsBefore (s.0 ++ s.1 ∷ rank ∷ [])) (sym (risen-last s.0 s.1)) (before-by_rank s.0 s.1 (s.1 + 1) (rank ∷ []) [] (omega arith))))
 
 module _ (j : List ℕ) where
@@ -51,27 +51,27 @@ module _ (j : List ℕ) where
     pub after : IsStrand by → AtMost by
 
   -- after an event that raises the rank, at the beginning of a scope, and after its end
-  raise : (here k : List ℕ) → IsStrand here → k ≡ here → AtMost here → IsOver (risen here) k
-  raise here k s e a = record { before = most-before here (risen here) a (risen-after here s); after = λ q. subst AtMost (sym e) a }
+  raise : (here k : List ℕ) → IsStrand here → k ≡ here → AtMost here → IsOver (raised here) k
+  raise here k s e a = record { before = most-before here (raised here) a (risen-after here s); after = λ q. subst AtMost (sym e) a }
 
   enter : (here k : List ℕ) → k ≡ here → AtMost here → IsOver (k ++ 0 ∷ []) []
   enter here k e a = record { before = most-before here (k ++ 0 ∷ []) a (subst (λ (l : List ℕ). IsBefore l (k ++ 0 ∷ [])) e (scope-after k)); after = λ q. absurd (no-strand q) }
 
-  leave : (here k : List ℕ) (rank : ℕ) → IsStrand k → here ≡ k ++ rank ∷ [] → AtMost here → IsOver (risen k) []
-  leave here k rank s e a = record { before = most-before here (risen k) a (subst (λ (l : List ℕ). IsBefore l (risen k)) (sym e) (closed-after k rank s)); after = λ q. absurd (no-strand q) }
+  leave : (here k : List ℕ) (rank : ℕ) → IsStrand k → here ≡ k ++ rank ∷ [] → AtMost here → IsOver (raised k) []
+  leave here k rank s e a = record { before = most-before here (raised k) a (subst (λ (l : List ℕ). IsBefore l (raised k)) (sym e) (closed-after k rank s)); after = λ q. absurd (no-strand q) }
 
   -- once it is over, it stays so
   pub stays : (here by : List ℕ) (items : List Item) → Follow here by items → IsOver here by → IsOver (stands here items) (came_by by items)
   stays here by [] f o = o
   stays here by (Happened (event.Print k v) ∷ items) f o = stays here [] items f.2 (record { before = o.before; after = λ q. absurd (no-strand q) })
-  stays here by (Happened (event.Draw k n) ∷ items) f o = stays (risen here) k items f.2 (raise here k f.1 f.0 (inr o.before))
-  stays here by (Happened (event.New k) ∷ items) f o = stays (risen here) k items f.2 (raise here k f.1 f.0 (inr o.before))
-  stays here by (Happened (event.Spawn k) ∷ items) f o = stays (risen here) k items f.2 (raise here k f.1 f.0 (inr o.before))
-  stays here by (Happened (event.Sync k) ∷ items) f o = stays (risen here) k items f.2 (raise here k f.1 f.0 (inr o.before))
-  stays here by (Happened (event.Loop k) ∷ items) f o = stays (risen here) k items f.2 (raise here k f.1 f.0 (inr o.before))
+  stays here by (Happened (event.Draw k n) ∷ items) f o = stays (raised here) k items f.2 (raise here k f.1 f.0 (inr o.before))
+  stays here by (Happened (event.New k) ∷ items) f o = stays (raised here) k items f.2 (raise here k f.1 f.0 (inr o.before))
+  stays here by (Happened (event.Spawn k) ∷ items) f o = stays (raised here) k items f.2 (raise here k f.1 f.0 (inr o.before))
+  stays here by (Happened (event.Sync k) ∷ items) f o = stays (raised here) k items f.2 (raise here k f.1 f.0 (inr o.before))
+  stays here by (Happened (event.Loop k) ∷ items) f o = stays (raised here) k items f.2 (raise here k f.1 f.0 (inr o.before))
   stays here by (Child c ∷ items) f o = stays here by items f.2 o
   stays here by (Opened k ∷ items) f o = stays (k ++ 0 ∷ []) [] items f.2 (enter here k f.0 (inr o.before))
-  stays here by (Closed k ∷ items) f o = stays (risen k) [] items f.2 (leave here k f.1.0 f.0 f.1.1 (inr o.before))
+  stays here by (Closed k ∷ items) f o = stays (raised k) [] items f.2 (leave here k f.1.0 f.0 f.1.1 (inr o.before))
 
   -- one of the strands so far, and not the last
   either : {R : Type 0} (here : List ℕ) (rest : Bool) → (bytes_eq here j || rest) ≡ true → (AtMost here → R) → (rest ≡ true → R) → R
@@ -85,20 +85,20 @@ module _ (j : List ℕ) where
   comes here by [] f c = absurd (cc)
   comes here by (Happened (event.Print k v) ∷ items) f c = comes here [] items f.2 c
   comes here by (Happened (event.Draw k n) ∷ items) f c =
-      either here (is_one_of j (without_last (risen here ∷ led_to (risen here) items))) c (λ a. stays (risen here) k items f.2 (raise here k f.1 f.0 a)) (λ d. comes (risen here) k items f.2 d)
+      either here (is_one_of j (without_last (raised here ∷ led_to (raised here) items))) c (λ a. stays (raised here) k items f.2 (raise here k f.1 f.0 a)) (λ d. comes (raised here) k items f.2 d)
   comes here by (Happened (event.New k) ∷ items) f c =
-      either here (is_one_of j (without_last (risen here ∷ led_to (risen here) items))) c (λ a. stays (risen here) k items f.2 (raise here k f.1 f.0 a)) (λ d. comes (risen here) k items f.2 d)
+      either here (is_one_of j (without_last (raised here ∷ led_to (raised here) items))) c (λ a. stays (raised here) k items f.2 (raise here k f.1 f.0 a)) (λ d. comes (raised here) k items f.2 d)
   comes here by (Happened (event.Spawn k) ∷ items) f c =
-      either here (is_one_of j (without_last (risen here ∷ led_to (risen here) items))) c (λ a. stays (risen here) k items f.2 (raise here k f.1 f.0 a)) (λ d. comes (risen here) k items f.2 d)
+      either here (is_one_of j (without_last (raised here ∷ led_to (raised here) items))) c (λ a. stays (raised here) k items f.2 (raise here k f.1 f.0 a)) (λ d. comes (raised here) k items f.2 d)
   comes here by (Happened (event.Sync k) ∷ items) f c =
-      either here (is_one_of j (without_last (risen here ∷ led_to (risen here) items))) c (λ a. stays (risen here) k items f.2 (raise here k f.1 f.0 a)) (λ d. comes (risen here) k items f.2 d)
+      either here (is_one_of j (without_last (raised here ∷ led_to (raised here) items))) c (λ a. stays (raised here) k items f.2 (raise here k f.1 f.0 a)) (λ d. comes (raised here) k items f.2 d)
   comes here by (Happened (event.Loop k) ∷ items) f c =
-      either here (is_one_of j (without_last (risen here ∷ led_to (risen here) items))) c (λ a. stays (risen here) k items f.2 (raise here k f.1 f.0 a)) (λ d. comes (risen here) k items f.2 d)
+      either here (is_one_of j (without_last (raised here ∷ led_to (raised here) items))) c (λ a. stays (raised here) k items f.2 (raise here k f.1 f.0 a)) (λ d. comes (raised here) k items f.2 d)
   comes here by (Child o ∷ items) f c = comes here by items f.2 c
   comes here by (Opened k ∷ items) f c =
       either here (is_one_of j (without_last ((k ++ 0 ∷ []) ∷ led_to (k ++ 0 ∷ []) items))) c (λ a. stays (k ++ 0 ∷ []) [] items f.2 (enter here k f.0 a)) (λ d. comes (k ++ 0 ∷ []) [] items f.2 d)
   comes here by (Closed k ∷ items) f c =
-      either here (is_one_of j (without_last (risen k ∷ led_to (risen k) items))) c (λ a. stays (risen k) [] items f.2 (leave here k f.1.0 f.0 f.1.1 a)) (λ d. comes (risen k) [] items f.2 d)
+      either here (is_one_of j (without_last (raised k ∷ led_to (raised k) items))) c (λ a. stays (raised k) [] items f.2 (leave here k f.1.0 f.0 f.1.1 a)) (λ d. comes (raised k) [] items f.2 d)
 
   -- What comes later
 
@@ -127,7 +127,7 @@ module _ (j : List ℕ) where
       let h = none-later here by items f.2 o in
       (h.0, ap (λ (b : Bool). if b then Some c else child_on_way j items) (not-below (path_of c) (subst AtMost (sym f.0) (o.after f.1))) ∙ h.1)
   none-later here by (Opened k ∷ items) f o = none-later (k ++ 0 ∷ []) [] items f.2 (enter here k f.0 (inr o.before))
-  none-later here by (Closed k ∷ items) f o = none-later (risen k) [] items f.2 (leave here k f.1.0 f.0 f.1.1 (inr o.before))
+  none-later here by (Closed k ∷ items) f o = none-later (raised k) [] items f.2 (leave here k f.1.0 f.0 f.1.1 (inr o.before))
 
   -- an own fault isn't there, and a child's fault ends the instance after it
   pub fault-later : (here : List ℕ) (at : List ℕ) → at ≡ here → IsBefore j here → bytes_eq at j ≡ false
@@ -143,7 +143,7 @@ module _ (j : List ℕ) where
       by Greater e k = refl
 
 -- The event that led to where the instance stands is its last one.
-pub last-led : (last by : List ℕ) (items : List Item) → (IsStrand by → last ≡ by) → IsStrand (came_by by items) → last_place last (own_events items) ≡ came_by by items
+pub last-led : (last by : List ℕ) (items : List Item) → (IsStrand by → last ≡ by) → IsStrand (came_by by items) → last_pedigree last (own_events items) ≡ came_by by items
 last-led last by [] h s = h s
 last-led last by (Happened (event.Print k v) ∷ items) h s = last-led k [] items (λ q. absurd (no-strand q)) s
 last-led last by (Happened (event.Draw k n) ∷ items) h s = last-led k k items (λ q. refl) s
@@ -166,4 +166,4 @@ came-stays j eye (Happened (event.Sync k) ∷ items) h = came-stays j (goes_to (
 came-stays j eye (Happened (event.Loop k) ∷ items) h = came-stays j (goes_to (less eye.ahead) (record eye { past = ended_before k j })) items (ap (λ (b : Bool). b || is_none_ahead eye.ahead) h)
 came-stays j eye (Child o ∷ items) h = came-stays j eye items h
 came-stays j eye (Opened k ∷ items) h = came-stays j (goes_to (ahead_of (k ++ 0 ∷ []) j) eye) items (ap (λ (b : Bool). b || is_none_ahead eye.ahead) h)
-came-stays j eye (Closed k ∷ items) h = came-stays j (goes_to (ahead_of (risen k) j) eye) items (ap (λ (b : Bool). b || is_none_ahead eye.ahead) h)
+came-stays j eye (Closed k ∷ items) h = came-stays j (goes_to (ahead_of (raised k) j) eye) items (ap (λ (b : Bool). b || is_none_ahead eye.ahead) h)

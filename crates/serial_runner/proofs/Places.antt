@@ -5,9 +5,9 @@ use Rattle.script_grammar.specs.declared.tree.Function.{Function}
 use Rattle.serial_meaning.specs.Runs.{Run, done, after_items, goes_on, ◌then◌}
 use Rattle.serial_meaning.specs.Functions.{function_at}
 use Rattle.serial_meaning.specs.Plan.{PlanView, functions_of}
-use Rattle.serial_meaning.specs.Exec.{State, goes_out, frame, exec, filled}
+use Rattle.serial_meaning.specs.Exec.{State, goes_out, frame, exec, with_loop_values}
 use Rattle.serial_meaning.specs.Eval.{Evaluation, path_of, eval_below, depth_left}
-use Rattle.serial_meaning.specs.Open.{Item, Happened, Child, Opened, Closed, NodeFault, Own, ChildFaulted, Node, put_off_all, joined, loop_end, is_empty_loop, risen, strand_after, last_of, opened}
+use Rattle.serial_meaning.specs.Open.{Item, Happened, Child, Opened, Closed, NodeFault, Own, ChildFaulted, Node, put_off_all, unless_child_faulted, loop_end, is_empty_loop, raised, strand_after, last_of, opened}
 use Rattle.serial_meaning.proofs.RisingPedigrees.Closed.{Closed as Rules, closed-exec, returned-q}
 use Rattle.serial_meaning.specs.declared.value.Value.{Value}
 use Rattle.serial_meaning.specs.declared.event.Fault.{Fault}
@@ -29,7 +29,7 @@ stands here [] = here
 stands here (Happened e ∷ items) = stands (last_of here (strand_after here e)) items
 stands here (Child o ∷ items) = stands here items
 stands here (Opened j ∷ items) = stands (j ++ 0 ∷ []) items
-stands here (Closed j ∷ items) = stands (risen j) items
+stands here (Closed j ∷ items) = stands (raised j) items
 
 -- the pedigree of an event that raises the rank
 abbrev pub raised_by : Event → List ℕ
@@ -54,14 +54,14 @@ Follow here by [] = Unit {0}
 Follow here by (Happened e ∷ items) = (pedigree_of e ≡ here) × IsStrand here × Follow (last_of here (strand_after here e)) (raised_by e) items
 Follow here by (Child o ∷ items) = (path_of o ≡ by) × (IsStrand by) × Follow here by items
 Follow here by (Opened j ∷ items) = (j ≡ here) × IsStrand here × Follow (j ++ 0 ∷ []) [] items
-Follow here by (Closed j ∷ items) = IsStrand j × ((rank : ℕ) × (here ≡ j ++ rank ∷ [])) × Follow (risen j) [] items
+Follow here by (Closed j ∷ items) = IsStrand j × ((rank : ℕ) × (here ≡ j ++ rank ∷ [])) × Follow (raised j) [] items
 
 pub stands-append : (here : List ℕ) (xs ys : List Item) → stands here (xs ++ ys) ≡ stands (stands here xs) ys
 stands-append here [] ys = refl
 stands-append here (Happened e ∷ xs) ys = stands-append (last_of here (strand_after here e)) xs ys
 stands-append here (Child o ∷ xs) ys = stands-append here xs ys
 stands-append here (Opened j ∷ xs) ys = stands-append (j ++ 0 ∷ []) xs ys
-stands-append here (Closed j ∷ xs) ys = stands-append (risen j) xs ys
+stands-append here (Closed j ∷ xs) ys = stands-append (raised j) xs ys
 
 pub by-append : (by : List ℕ) (xs ys : List Item) → came_by by (xs ++ ys) ≡ came_by (came_by by xs) ys
 by-append by [] ys = refl
@@ -75,27 +75,27 @@ follow-append here by [] ys f g = g
 follow-append here by (Happened e ∷ xs) ys f g = (f.0, f.1, follow-append (last_of here (strand_after here e)) (raised_by e) xs ys f.2 g)
 follow-append here by (Child o ∷ xs) ys f g = (f.0, f.1, follow-append here by xs ys f.2 g)
 follow-append here by (Opened j ∷ xs) ys f g = (f.0, f.1, follow-append (j ++ 0 ∷ []) [] xs ys f.2 g)
-follow-append here by (Closed j ∷ xs) ys f g = (f.0, f.1, follow-append (risen j) [] xs ys f.2 g)
+follow-append here by (Closed j ∷ xs) ys f g = (f.0, f.1, follow-append (raised j) [] xs ys f.2 g)
 
 pub follow-front : (here by : List ℕ) (xs ys : List Item) → Follow here by (xs ++ ys) → Follow here by xs
 follow-front here by [] ys f = tt
 follow-front here by (Happened e ∷ xs) ys f = (f.0, f.1, follow-front (last_of here (strand_after here e)) (raised_by e) xs ys f.2)
 follow-front here by (Child o ∷ xs) ys f = (f.0, f.1, follow-front here by xs ys f.2)
 follow-front here by (Opened j ∷ xs) ys f = (f.0, f.1, follow-front (j ++ 0 ∷ []) [] xs ys f.2)
-follow-front here by (Closed j ∷ xs) ys f = (f.0, f.1, follow-front (risen j) [] xs ys f.2)
+follow-front here by (Closed j ∷ xs) ys f = (f.0, f.1, follow-front (raised j) [] xs ys f.2)
 
 pub follow-rest : (here by : List ℕ) (xs ys : List Item) → Follow here by (xs ++ ys) → Follow (stands here xs) (came_by by xs) ys
 follow-rest here by [] ys f = f
 follow-rest here by (Happened e ∷ xs) ys f = follow-rest (last_of here (strand_after here e)) (raised_by e) xs ys f.2
 follow-rest here by (Child o ∷ xs) ys f = follow-rest here by xs ys f.2
 follow-rest here by (Opened j ∷ xs) ys f = follow-rest (j ++ 0 ∷ []) [] xs ys f.2
-follow-rest here by (Closed j ∷ xs) ys f = follow-rest (risen j) [] xs ys f.2
+follow-rest here by (Closed j ∷ xs) ys f = follow-rest (raised j) [] xs ys f.2
 
 -- Where a run ends: by its own fault at the strand where it stands, and by a child's after the event that led there.
 abbrev EndsAt : {A : Type 0} → List ℕ → (A → ℕ) → List ℕ → List ℕ → Result A NodeFault → Type 0
 EndsAt path rank here by (Ok a) = here ≡ path ++ rank a ∷ []
 EndsAt path rank here by (Err (Own f)) = (f.at ≡ here) × IsStrand here
-EndsAt path rank here by (Err (ChildFaulted f)) = (here ≡ risen by) × IsStrand by
+EndsAt path rank here by (Err (ChildFaulted f)) = (here ≡ raised by) × IsStrand by
 
 -- a run of an instance at a present path from a rank on
 record Follows {A : Type 0} (path : List ℕ) (rank : A → ℕ) (lo : ℕ) (r : Run Item NodeFault A) : Type 0 where
@@ -148,26 +148,26 @@ module _ (plan : PlanView) (child : Origin → Evaluation) where
   strand-is path rank = (path, rank, refl)
 
   -- one event that raises the rank
-  one : {A : Type 0} (path : List ℕ) (rank : A → ℕ) (lo : ℕ) (e : Event) (a : A) → pedigree_of e ≡ path ++ lo ∷ [] → strand_after (path ++ lo ∷ []) e ≡ risen (path ++ lo ∷ []) ∷ [] → rank a ≡ lo + 1 →
+  one : {A : Type 0} (path : List ℕ) (rank : A → ℕ) (lo : ℕ) (e : Event) (a : A) → pedigree_of e ≡ path ++ lo ∷ [] → strand_after (path ++ lo ∷ []) e ≡ raised (path ++ lo ∷ []) ∷ [] → rank a ≡ lo + 1 →
       Follows path rank lo (record { items = Happened e ∷ []; ending = Ok a })
   one path rank lo e a at raises r = record {
     follow = λ by. (at, strand-is path lo, tt);
     ends = λ by. ap (last_of (path ++ lo ∷ [])) raises ∙ risen-last path lo ∙ ap (λ (n : ℕ). path ++ n ∷ []) (sym r);
   }
 
-  join-follows : (path : List ℕ) (s : S) (known : Option Fault) → P path s.rank (after_items (Happened (event.Sync (path ++ s.rank ∷ [])) ∷ []) (joined known then λ k. done (record s { rank = s.rank + 1; spawned = k })))
+  join-follows : (path : List ℕ) (s : S) (known : Option Fault) → P path s.rank (after_items (Happened (event.Sync (path ++ s.rank ∷ [])) ∷ []) (unless_child_faulted known then λ k. done (record s { rank = s.rank + 1; spawned = k })))
   join-follows path s None = one path rank_of s.rank (event.Sync (path ++ s.rank ∷ [])) (record s { rank = s.rank + 1; spawned = None }) refl refl refl
   join-follows path s (Some f) = record { follow = λ by. (refl, strand-is path s.rank, tt); ends = λ by. (refl, strand-is path s.rank) }
 
   -- an event, and the child that it begins
-  begun : {A : Type 0} (path : List ℕ) (rank : A → ℕ) (lo : ℕ) (e : Event) (o : Origin) (q : Result A NodeFault) → pedigree_of e ≡ path ++ lo ∷ [] → raised_by e ≡ path ++ lo ∷ [] → strand_after (path ++ lo ∷ []) e ≡ risen (path ++ lo ∷ []) ∷ [] →
-      path_of o ≡ path ++ lo ∷ [] → EndsAt path rank (risen (path ++ lo ∷ [])) (path ++ lo ∷ []) q → Follows path rank lo (record { items = Happened e ∷ Child o ∷ []; ending = q })
+  begun : {A : Type 0} (path : List ℕ) (rank : A → ℕ) (lo : ℕ) (e : Event) (o : Origin) (q : Result A NodeFault) → pedigree_of e ≡ path ++ lo ∷ [] → raised_by e ≡ path ++ lo ∷ [] → strand_after (path ++ lo ∷ []) e ≡ raised (path ++ lo ∷ []) ∷ [] →
+      path_of o ≡ path ++ lo ∷ [] → EndsAt path rank (raised (path ++ lo ∷ [])) (path ++ lo ∷ []) q → Follows path rank lo (record { items = Happened e ∷ Child o ∷ []; ending = q })
   begun {A = A} path rank lo e o q at by raises below ends = record {
     follow = λ l. (at, strand-is path lo, (below ∙ sym by, (path, lo, by), tt));
-    ends = λ l. subst (λ (k : List ℕ). EndsAt path rank k (raised_by e) q) (sym place) (subst (λ (k : List ℕ). EndsAt path rank (risen (path ++ lo ∷ [])) k q) (sym by) ends);
+    ends = λ l. subst (λ (k : List ℕ). EndsAt path rank k (raised_by e) q) (sym place) (subst (λ (k : List ℕ). EndsAt path rank (raised (path ++ lo ∷ [])) k q) (sym by) ends);
   }
     where
-      place : last_of (path ++ lo ∷ []) (strand_after (path ++ lo ∷ []) e) ≡ risen (path ++ lo ∷ [])
+      place : last_of (path ++ lo ∷ []) (strand_after (path ++ lo ∷ []) e) ≡ raised (path ++ lo ∷ [])
       place = ap (last_of (path ++ lo ∷ [])) raises
 
   loop-follows : (path : List ℕ) (s : S) (o : Origin) (env : List Value → S) → ((ws : List Value) → (env ws).rank ≡ s.rank + 1) → path_of o ≡ path ++ s.rank ∷ [] → (b : Result (List Value) Fault) (empty : Bool) →
@@ -208,7 +208,7 @@ module _ (plan : PlanView) (child : Origin → Evaluation) where
     p-join = λ path s. join-follows path s s.spawned;
     q-child = λ path n vs s _. let o = origin.Instance n vs (path ++ s.rank ∷ []) in begun path pair_rank s.rank (event.Spawn (path ++ s.rank ∷ [])) o _ refl refl refl refl (risen-last path s.rank);
     p-loop = λ path n vs lo hi target s _. let o = origin.Loop n vs lo (path ++ s.rank ∷ []) (record { lo = 0; hi = hi }) in
-        loop-follows path s o (λ ws. record s { rank = s.rank + 1; env = filled target ws s.env }) (λ ws. refl) refl (child o).ending (is_empty_loop o);
+        loop-follows path s o (λ ws. record s { rank = s.rank + 1; env = with_loop_values target ws s.env }) (λ ws. refl) refl (child o).ending (is_empty_loop o);
     p-scope = λ path s r _ h. scope-follows path s r h;
     pp = λ path n r f h k. follows-then path rank_of rank_of n r f h k;
     pq = λ path n r f h k. follows-then path rank_of pair_rank n r f h k;
@@ -228,7 +228,7 @@ module _ (plan : PlanView) (child : Origin → Evaluation) where
 abbrev pub NodeEnds : List ℕ → List ℕ → Result (List Value) NodeFault → Type 0
 NodeEnds here by (Ok vs) = Unit {0}
 NodeEnds here by (Err (Own f)) = (f.at ≡ here) × IsStrand here
-NodeEnds here by (Err (ChildFaulted f)) = (here ≡ risen by) × IsStrand by
+NodeEnds here by (Err (ChildFaulted f)) = (here ≡ raised by) × IsStrand by
 
 pub record NodeFollows (path : List ℕ) (node : Node) : Type 0 where
   pub follow : (by : List ℕ) → Follow (path ++ 0 ∷ []) by node.items

@@ -11,7 +11,7 @@ use Rattle.serial_meaning.specs.declared.answer.Outcome.{Outcome}
 use Rattle.strand_meaning.specs.Machine.{Effect, Opens, Closes, Emitted, Handed, Syncs, Loops, Reached, Stands, Gives, move}
 use Rattle.strand_meaning.specs.Observation.{IsInstance, Observation, effect_items, work_observation, step_observation, Shows, Now, Later}
 use Rattle.strand_meaning.specs.Trace.{AwaitedChild}
-use Rattle.strand_meaning.specs.Task.{Running, AtSync, AtLoop, Ended, Work, Splits, Runs, Over, Task, own_instance, MoveOrStop, Passes, Stops, Stop, Spawn, Wait, End, stage_after, child_in, stops_at, passing, moved, ends_unless, faults_after, gave, work_step}
+use Rattle.strand_meaning.specs.Task.{Running, AtSync, AtLoop, Ended, Work, Splits, Runs, Finished, Task, own_instance, MoveOrStop, Passes, Stops, Stop, Spawn, Wait, End, stage_after, child_in, stops_at, passing, moved, ends_unless, faults_after, gave, work_step}
 use Rattle.strand_meaning.specs.Sound.{IsEndOf, IsLoop, IsSoundWork, IsTask}
 use Rattle.strand_meaning.specs.Laws.{IsSoundStep}
 use Rattle.strand_meaning.proofs.SoundSteps.Ends.{steps_are_sound}
@@ -25,7 +25,7 @@ effect-children [] = refl
 effect-children (Opens j ∷ ts) = effect-children ts
 effect-children (Closes j ∷ ts) = effect-children ts
 effect-children (Emitted e ∷ ts) = effect-children ts
-effect-children (Handed o place ∷ ts) = ap (λ l. o ∷ l) (effect-children ts)
+effect-children (Handed o destination ∷ ts) = ap (λ l. o ∷ l) (effect-children ts)
 effect-children (Syncs ∷ ts) = effect-children ts
 effect-children (Loops ∷ ts) = effect-children ts
 
@@ -77,8 +77,8 @@ module _ (t : Task) where
   at-work (Runs (Ended (Ok v))) i is = at-value t.origin v
   at-work (Runs (Ended (Err (Own f)))) i is = at-fault t.trace.handed f
   at-work (Runs (Ended (Err (ChildFaulted f)))) i is = at-end t.trace.fault _
-  at-work (Over v true) i is = absurd (no_loop t.origin i is.0)
-  at-work (Over v false) i is = absurd (no_loop t.origin i is.0)
+  at-work (Finished v true) i is = absurd (no_loop t.origin i is.0)
+  at-work (Finished v false) i is = absurd (no_loop t.origin i is.0)
 
 abbrev pub ShowsStop : List Item → Stop → Type 0
 ShowsStop is stop = ShowsStep is (Stops stop)

@@ -15,7 +15,7 @@ use Rattle.serial_meaning.specs.Runs.{Run, done, goes_on, ◌then◌}
 use Rattle.serial_meaning.specs.Values.{value_of, values_of, slot_of, items_of, as_integer, is_true, at_index}
 use Rattle.serial_meaning.specs.Functions.{number_of, function_at}
 use Rattle.serial_meaning.specs.Plan.{PlanView, functions_of}
-use Rattle.serial_meaning.specs.Exec.{State, Manner, strand, unless_fault, paid_from, tested, has_room, fits_depth, spawn, join, implied, frame, called, right_side, found, looped, does, count_of}
+use Rattle.serial_meaning.specs.Exec.{State, Manner, strand, unless_fault, paid_from, tested, has_room, fits_depth, spawn, sync_here, implied, frame, called, right_side, found, looped, does, count_of}
 use Rattle.serial_meaning.specs.Eval.{path_of}
 use Rattle.serial_meaning.specs.Open.{is_zero}
 use Rattle.serial_meaning.specs.declared.value.Value.{Value}
@@ -35,7 +35,7 @@ children [] = []
 children (Opens j ∷ ts) = children ts
 children (Closes j ∷ ts) = children ts
 children (Emitted e ∷ ts) = children ts
-children (Handed o place ∷ ts) = o ∷ children ts
+children (Handed o destination ∷ ts) = o ∷ children ts
 children (Syncs ∷ ts) = children ts
 children (Loops ∷ ts) = children ts
 
@@ -58,7 +58,7 @@ MoveHands plan path os (Err f) = os ≡ []
 
 module _ (plan : PlanView) (path : List ℕ) where
   abbrev what : Destination → Manner Effect Exit Bool
-  what place = handing plan place
+  what destination = handing plan destination
 
   -- a run that hands out one child at most, and none where it ends by a fault
   abbrev HandsAt : {A : Type 0} → List Origin → Result A Exit → Type 0
@@ -77,20 +77,20 @@ module _ (plan : PlanView) (path : List ℕ) where
       from items (Err (Faulted x)) k = k
       from items (Err (Inside here calls inner s)) k = k
 
-  hands-given : {A B : Type 0} (place : Destination) (o : Result A FaultKind) (s : State Bool) (f : A → Run Effect Exit B) → ((a : A) → HandsOut (f a)) → HandsOut (unless_fault (what place) plan path o s f)
-  hands-given place (Ok a) s f h = h a
-  hands-given place (Err k) s f h = refl
+  hands-given : {A B : Type 0} (destination : Destination) (o : Result A FaultKind) (s : State Bool) (f : A → Run Effect Exit B) → ((a : A) → HandsOut (f a)) → HandsOut (unless_fault (what destination) plan path o s f)
+  hands-given destination (Ok a) s f h = h a
+  hands-given destination (Err k) s f h = refl
 
-  hands-tested : {A : Type 0} (place : Destination) (b : Bool) (k : FaultKind) (s : State Bool) (f : Run Effect Exit A) → (b ≡ true → HandsOut f) → HandsOut (tested (what place) plan path b k s f)
-  hands-tested place true k s f h = h refl
-  hands-tested place false k s f h = refl
+  hands-tested : {A : Type 0} (destination : Destination) (b : Bool) (k : FaultKind) (s : State Bool) (f : Run Effect Exit A) → (b ≡ true → HandsOut f) → HandsOut (tested (what destination) plan path b k s f)
+  hands-tested destination true k s f h = h refl
+  hands-tested destination false k s f h = refl
 
-  hands-paid : {A : Type 0} (place : Destination) (n : ℕ) (s : State Bool) (f : State Bool → Run Effect Exit A) → ((s : State Bool) → HandsOut (f s)) → HandsOut (paid_from (what place) plan path n s f)
-  hands-paid place zero s f h = refl
-  hands-paid place (suc n) s f h = h (record s { steps = n })
+  hands-paid : {A : Type 0} (destination : Destination) (n : ℕ) (s : State Bool) (f : State Bool → Run Effect Exit A) → ((s : State Bool) → HandsOut (f s)) → HandsOut (paid_from (what destination) plan path n s f)
+  hands-paid destination zero s f h = refl
+  hands-paid destination (suc n) s f h = h (record s { steps = n })
 
-  hands-sync : (place : Destination) (s : State Bool) → HandsOut (join (what place) plan path s)
-  hands-sync place s = by_known s.spawned
+  hands-sync : (destination : Destination) (s : State Bool) → HandsOut (sync_here (what destination) plan path s)
+  hands-sync destination s = by_known s.spawned
     where
       by_known : (b : Bool) → AtMostOne plan path (children (Emitted (event.Sync (strand path s)) ∷ (sync_effects b ++ [])))
       by_known true = tt
@@ -112,12 +112,12 @@ module _ (plan : PlanView) (path : List ℕ) where
       hands-given (Spawned height target) (values_of c.args s.env) s _ (λ vs. hands-tested (Spawned height target) (nat_lt (length path + 1) plan.limits.depth) Depth s _
       (λ h. deeper (origin.Instance (number_of (functions_of plan) c.name.bytes) vs (strand path s)) s.rank (length path + 1) refl (omega arith) h))
 
-  hands-called : (place : Destination) (calls : ℕ) (c : CallText) (s : State Bool) → HandsOut (called (what place) plan path inside calls c s)
-  hands-called place calls c s =
-      hands-given place (values_of c.args s.env) s _ (λ vs. hands-tested place (nat_lt calls 256) Calls s _ (λ h. hands-then (frame (what place) plan path inside (calls + 1) (function_at (functions_of plan) (number_of (functions_of plan) c.name.bytes)) vs s) _
+  hands-called : (destination : Destination) (calls : ℕ) (c : CallText) (s : State Bool) → HandsOut (called (what destination) plan path inside calls c s)
+  hands-called destination calls c s =
+      hands-given destination (values_of c.args s.env) s _ (λ vs. hands-tested destination (nat_lt calls 256) Calls s _ (λ h. hands-then (frame (what destination) plan path inside (calls + 1) (function_at (functions_of plan) (number_of (functions_of plan) c.name.bytes)) vs s) _
       (by_function vs (function_at (functions_of plan) (number_of (functions_of plan) c.name.bytes)))))
     where
-      by_function : (vs : List Value) (o : Option Function) → HandsOut (frame (what place) plan path inside (calls + 1) o vs s)
+      by_function : (vs : List Value) (o : Option Function) → HandsOut (frame (what destination) plan path inside (calls + 1) o vs s)
       by_function vs None = tt
       by_function vs (Some f) = tt
 
@@ -130,20 +130,20 @@ module _ (plan : PlanView) (path : List ℕ) where
 
   hands-loop : (target : Option Name) (c : CallText) (lo : ℤ) (hi : ℕ) (vs : List Value) (s : State Bool) → HandsOut (looped (what (Looped target)) plan path lo hi vs target c s)
   hands-loop target c lo hi vs s =
-      hands-tested place (nat_lt hi (s.steps + 1)) Budget s _ (λ a. hands-tested place (has_room target hi s.env) Index _ _ (λ b. hands-tested place (fits_depth (what place) plan path hi) Depth _ _ (by_size hi)))
+      hands-tested destination (nat_lt hi (s.steps + 1)) Budget s _ (λ a. hands-tested destination (has_room target hi s.env) Index _ _ (λ b. hands-tested destination (fits_depth (what destination) plan path hi) Depth _ _ (by_size hi)))
     where
-      place : Destination
-      place = Looped target
+      destination : Destination
+      destination = Looped target
 
       loop_of : ℕ → Origin
       loop_of n = origin.Loop (number_of (functions_of plan) c.name.bytes) vs lo (path ++ s.rank ∷ []) (record { lo = 0; hi = n })
 
-      by_empty : (n : ℕ) (b : Bool) → is_zero (n - 0) ≡ b → fits_depth (what place) plan path n ≡ true → AtMostOne plan path (children (loop_effects b (loop_of n) place ++ []))
+      by_empty : (n : ℕ) (b : Bool) → is_zero (n - 0) ≡ b → fits_depth (what destination) plan path n ≡ true → AtMostOne plan path (children (loop_effects b (loop_of n) destination ++ []))
       by_empty n true e h = tt
       by_empty zero false e h = absurd (cc)
       by_empty (suc n) false e h = deeper (loop_of (suc n)) s.rank (length path + 2) refl (omega arith) h
 
-      by_size : (n : ℕ) → fits_depth (what place) plan path n ≡ true → AtMostOne plan path (children (loop_effects (is_zero (n - 0)) (loop_of n) place ++ []))
+      by_size : (n : ℕ) → fits_depth (what destination) plan path n ≡ true → AtMostOne plan path (children (loop_effects (is_zero (n - 0)) (loop_of n) destination ++ []))
       by_size n h = by_empty n (is_zero (n - 0)) refl h
 
   hands-does : (height : ℕ) (st : Stmt) (a : Act-F Act Stmt) (s : State Bool) → HandsOut (does (what (destination_of height a)) plan path inside height st a s)
@@ -228,7 +228,7 @@ module _ (plan : PlanView) (path : List ℕ) (m : Machine) where
   -- the end of a scope hands out nothing
   by_leaving : (l : Level) (ls : List Level) (b : Bool) → Hands (level_move plan path m l ls b)
   by_leaving l ls false =
-      let r = join (handing plan (Spawned (length m.below) None)) plan here (state_of m) in
+      let r = sync_here (handing plan (Spawned (length m.below) None)) plan here (state_of m) in
       hands-reached plan here (children r.items) (with_leaving m) (λ inner s. m) r.ending (hands-sync plan here (Spawned (length m.below) None) (state_of m))
   by_leaving l ls true = tt
 

@@ -60,107 +60,107 @@ module _ (plan : PlanView) (o : Origin) (j : List ℕ) (w : NodeWalk) (is : IsWa
   pub of_instance : IsInstance t.origin
   of_instance = subst IsInstance (sym is.origin_is) is.instance
 
-  module _ (s : stops.Stop) (eye : Eye) (events : List Event) (fault joined : Option Fault) (noted : IsObserved w.task j w.observed.eye (record { stop = s; eye = eye; events = events; fault = fault; joined = joined })) where
+  module _ (s : stops.Stop) (eye : Eye) (events : List Event) (fault child_fault : Option Fault) (observed_stop : IsObserved w.task j w.observed.eye (record { stop = s; eye = eye; events = events; fault = fault; child_fault = child_fault })) where
     -- what is seen, but for a child that was handed out
-    observation-seen : (observed : ObservedInstance) → observed ≡ with_observation eye events fault joined w.observed → observed ≡ record (seen (path_of o) j (also is.observation noted.observation)) { child = (seen (path_of o) j is.observation).child }
+    observation-seen : (observed : ObservedInstance) → observed ≡ with_observation eye events fault child_fault w.observed → observed ≡ record (seen (path_of o) j (also is.observation observed_stop.observation)) { child = (seen (path_of o) j is.observation).child }
     observation-seen observed e =
-        e ∙ seen-with (path_of o) j is.observation noted.observation w.observed eye events fault joined is.says noted.eye noted.events noted.fault noted.joined
+        e ∙ seen-with (path_of o) j is.observation observed_stop.observation w.observed eye events fault child_fault is.says observed_stop.eye observed_stop.events observed_stop.fault observed_stop.child_fault
 
-    shown : ShowsStop noted.observation.items (stop_of s)
-    shown = stops_show t noted.observation (stop_of s) is.task of_instance noted.shows
+    shown : ShowsStop observed_stop.observation.items (stop_of s)
+    shown = stops_show t observed_stop.observation (stop_of s) is.task of_instance observed_stop.shows
 
     sound : IsSoundStop t (stop_of s)
-    sound = stops_are_sound t (stop_of s) is.task noted.stop.next
+    sound = stops_are_sound t (stop_of s) is.task observed_stop.stop.next
 
     same : KeepsOrigin t (stop_of s)
-    same = stops_keep_origins t (stop_of s) noted.stop.next
+    same = stops_keep_origins t (stop_of s) observed_stop.stop.next
 
     fewer : LeavesFewer t (stop_of s)
-    fewer = stops_fall t (stop_of s) is.task is.idle noted.stop.next
+    fewer = stops_fall t (stop_of s) is.task is.idle observed_stop.stop.next
 
-    goes-on : ObservationGoesOn → OnWay (also is.observation noted.observation) t (stop_of s)
-    goes-on go = go t is.observation noted.observation (stop_of s) is.task of_instance is.on noted.shows
+    goes-on : ObservationGoesOn → OnWay (also is.observation observed_stop.observation) t (stop_of s)
+    goes-on go = go t is.observation observed_stop.observation (stop_of s) is.task of_instance is.on observed_stop.shows
 
     -- Where nothing more counts, and this task is what is left, all that is to be seen of it is seen.
-    all-seen : IsBelow (path_of o) j → (u : Task) → IsOf t u → IsOnWay (also is.observation noted.observation) u → (observed : ObservedInstance) → is_over observed ≡ true → observed ≡ seen (path_of o) j (also is.observation noted.observation) → IsSeen plan o j observed
-    all-seen below u same way observed over says = over_seen plan o j is.instance below (also is.observation noted.observation) u (same.0 ∙ is.plan_is) (same.1 ∙ is.origin_is) way observed says over
+    all-seen : IsBelow (path_of o) j → (u : Task) → IsOf t u → IsOnWay (also is.observation observed_stop.observation) u → (observed : ObservedInstance) → is_over observed ≡ true → observed ≡ seen (path_of o) j (also is.observation observed_stop.observation) → IsSeen plan o j observed
+    all-seen below u same way observed over says = over_seen plan o j is.instance below (also is.observation observed_stop.observation) u (same.0 ∙ is.plan_is) (same.1 ∙ is.origin_is) way observed says over
 
-  module _ (n : ObservedStop) (as_noted : IsObserved w.task j w.observed.eye n) (child rest : TaskView) (stopped : n.stop ≡ stop.Spawn child rest) where
+  module _ (n : ObservedStop) (as_observed : IsObserved w.task j w.observed.eye n) (child rest : TaskView) (stopped : n.stop ≡ stop.Spawn child rest) where
     abbrev s : stops.Stop
     s = stop.Spawn child rest
 
-    noted : IsObserved w.task j w.observed.eye (record n { stop = s })
-    noted = subst (λ (to : stops.Stop). IsObserved w.task j w.observed.eye (record n { stop = to })) stopped as_noted
+    observed_stop : IsObserved w.task j w.observed.eye (record n { stop = s })
+    observed_stop = subst (λ (to : stops.Stop). IsObserved w.task j w.observed.eye (record n { stop = to })) stopped as_observed
 
     -- The child is an origin of the plan.
     pub child_known : IsOriginOf plan child.task.origin
-    child_known = let k : IsSoundStop t (stop_of s) = sound s n.eye n.events n.fault n.joined noted in subst (λ (p : PlanView). IsOriginOf p child.task.origin) is.plan_is k.0
+    child_known = let k : IsSoundStop t (stop_of s) = sound s n.eye n.events n.fault n.child_fault observed_stop in subst (λ (p : PlanView). IsOriginOf p child.task.origin) is.plan_is k.0
 
     -- The walk goes on with the rest.
-    pub walks_by_child : ObservationGoesOn → (before observed : ObservedInstance) → before ≡ with_observation n.eye n.events n.fault n.joined w.observed → observed ≡ with_child j child.task.origin before →
+    pub walks_by_child : ObservationGoesOn → (before observed : ObservedInstance) → before ≡ with_observation n.eye n.events n.fault n.child_fault w.observed → observed ≡ with_child j child.task.origin before →
         WalksOn plan o j w (Goes (record { task = rest; observed = observed }))
     walks_by_child go before observed b h = (walk, less.0)
       where
         kept : KeepsOrigin t (stop_of s)
-        kept = same s n.eye n.events n.fault n.joined noted
+        kept = same s n.eye n.events n.fault n.child_fault observed_stop
 
         less : LeavesFewer t (stop_of s)
-        less = fewer s n.eye n.events n.fault n.joined noted
+        less = fewer s n.eye n.events n.fault n.child_fault observed_stop
 
-        on : OnWay (also is.observation noted.observation) t (stop_of s)
-        on = goes-on s n.eye n.events n.fault n.joined noted go
+        on : OnWay (also is.observation observed_stop.observation) t (stop_of s)
+        on = goes-on s n.eye n.events n.fault n.child_fault observed_stop go
 
-        shows : ShowsStop noted.observation.items (stop_of s)
-        shows = shown s n.eye n.events n.fault n.joined noted
+        shows : ShowsStop observed_stop.observation.items (stop_of s)
+        shows = shown s n.eye n.events n.fault n.child_fault observed_stop
 
         task : IsSoundStop t (stop_of s)
-        task = sound s n.eye n.events n.fault n.joined noted
+        task = sound s n.eye n.events n.fault n.child_fault observed_stop
 
         walk : IsWalk plan o j (record { task = rest; observed = observed })
         walk = record {
           instance = is.instance;
           task = task.1;
           idle = less.1;
-          goes_on = noted.stop.keeps.3;
+          goes_on = observed_stop.stop.keeps.3;
           plan_is = kept.0 ∙ is.plan_is;
           origin_is = kept.1 ∙ is.origin_is;
-          observation = also is.observation noted.observation;
+          observation = also is.observation observed_stop.observation;
           on = on;
-          says = h ∙ seen_child (path_of o) j is.observation noted.observation child.task.origin before shows (observation-seen s n.eye n.events n.fault n.joined noted before b);
+          says = h ∙ seen_child (path_of o) j is.observation observed_stop.observation child.task.origin before shows (observation-seen s n.eye n.events n.fault n.child_fault observed_stop before b);
         }
 
     -- The strand is over.
-    pub over_by_child : IsBelow (path_of o) j → ObservationGoesOn → (before observed : ObservedInstance) → is_over observed ≡ true → before ≡ with_observation n.eye n.events n.fault n.joined w.observed → observed ≡ with_child j child.task.origin before →
+    pub over_by_child : IsBelow (path_of o) j → ObservationGoesOn → (before observed : ObservedInstance) → is_over observed ≡ true → before ≡ with_observation n.eye n.events n.fault n.child_fault w.observed → observed ≡ with_child j child.task.origin before →
         WalksOn plan o j w (Ends observed)
     over_by_child below go before observed over b h =
-        all-seen s n.eye n.events n.fault n.joined noted below rest.task kept on observed over
-        (h ∙ seen_child (path_of o) j is.observation noted.observation child.task.origin before shows (observation-seen s n.eye n.events n.fault n.joined noted before b))
+        all-seen s n.eye n.events n.fault n.child_fault observed_stop below rest.task kept on observed over
+        (h ∙ seen_child (path_of o) j is.observation observed_stop.observation child.task.origin before shows (observation-seen s n.eye n.events n.fault n.child_fault observed_stop before b))
       where
         kept : KeepsOrigin t (stop_of s)
-        kept = same s n.eye n.events n.fault n.joined noted
+        kept = same s n.eye n.events n.fault n.child_fault observed_stop
 
-        on : OnWay (also is.observation noted.observation) t (stop_of s)
-        on = goes-on s n.eye n.events n.fault n.joined noted go
+        on : OnWay (also is.observation observed_stop.observation) t (stop_of s)
+        on = goes-on s n.eye n.events n.fault n.child_fault observed_stop go
 
-        shows : ShowsStop noted.observation.items (stop_of s)
-        shows = shown s n.eye n.events n.fault n.joined noted
+        shows : ShowsStop observed_stop.observation.items (stop_of s)
+        shows = shown s n.eye n.events n.fault n.child_fault observed_stop
 
-  module _ (n : ObservedStop) (as_noted : IsObserved w.task j w.observed.eye n) (rest : TaskView) (stopped : n.stop ≡ stop.Wait rest) where
+  module _ (n : ObservedStop) (as_observed : IsObserved w.task j w.observed.eye n) (rest : TaskView) (stopped : n.stop ≡ stop.Wait rest) where
     abbrev at : stops.Stop
     at = stop.Wait rest
 
-    noted_wait : IsObserved w.task j w.observed.eye (record n { stop = at })
-    noted_wait = subst (λ (to : stops.Stop). IsObserved w.task j w.observed.eye (record n { stop = to })) stopped as_noted
+    observed_wait : IsObserved w.task j w.observed.eye (record n { stop = at })
+    observed_wait = subst (λ (to : stops.Stop). IsObserved w.task j w.observed.eye (record n { stop = to })) stopped as_observed
 
     pub it_waits : rest.task.waiting ≡ true
-    it_waits = let less : LeavesFewer t (stop_of at) = fewer at n.eye n.events n.fault n.joined noted_wait in less.1
+    it_waits = let less : LeavesFewer t (stop_of at) = fewer at n.eye n.events n.fault n.child_fault observed_wait in less.1
 
     pub of_plan : rest.task.plan ≡ plan
-    of_plan = let kept : KeepsOrigin t (stop_of at) = same at n.eye n.events n.fault n.joined noted_wait in kept.0 ∙ is.plan_is
+    of_plan = let kept : KeepsOrigin t (stop_of at) = same at n.eye n.events n.fault n.child_fault observed_wait in kept.0 ∙ is.plan_is
 
     pub children_known : AreOriginsOf plan (awaited rest.task.trace.handed)
     children_known =
-        let task : IsSoundStop t (stop_of at) = sound at n.eye n.events n.fault n.joined noted_wait in
+        let task : IsSoundStop t (stop_of at) = sound at n.eye n.events n.fault n.child_fault observed_wait in
         subst (λ (p : PlanView). AreOriginsOf p (awaited rest.task.trace.handed)) of_plan (parts-known rest.task.plan rest.task.origin rest.task.trace.handed task.parts)
 
     -- These are the answers that it awaits.
@@ -169,24 +169,24 @@ module _ (plan : PlanView) (o : Origin) (j : List ℕ) (w : NodeWalk) (is : IsWa
 
     -- The walk goes on with the answers.
     pub walks_by_wait : ObservationGoesOn → AnswersShowNothing → (answers : List AnswerView) → any_cut answers ≡ false → (v : TaskView) → WentOn answers rest v →
-        (observed : ObservedInstance) → observed ≡ with_observation n.eye n.events n.fault n.joined w.observed → WalksOn plan o j w (Goes (record { task = v; observed = observed }))
+        (observed : ObservedInstance) → observed ≡ with_observation n.eye n.events n.fault n.child_fault w.observed → WalksOn plan o j w (Goes (record { task = v; observed = observed }))
     walks_by_wait go nothing answers whole v h observed b =
         subst (λ (u : TaskView). WalksOn plan o j w (Goes (record { task = u; observed = observed }))) (sym (went_whole answers rest v whole h)) (walk, left)
       where
         kept : KeepsOrigin t (stop_of at)
-        kept = same at n.eye n.events n.fault n.joined noted_wait
+        kept = same at n.eye n.events n.fault n.child_fault observed_wait
 
         less : LeavesFewer t (stop_of at)
-        less = fewer at n.eye n.events n.fault n.joined noted_wait
+        less = fewer at n.eye n.events n.fault n.child_fault observed_wait
 
         task : IsSoundStop t (stop_of at)
-        task = sound at n.eye n.events n.fault n.joined noted_wait
+        task = sound at n.eye n.events n.fault n.child_fault observed_wait
 
-        on : OnWay (also is.observation noted_wait.observation) t (stop_of at)
-        on = goes-on at n.eye n.events n.fault n.joined noted_wait go
+        on : OnWay (also is.observation observed_wait.observation) t (stop_of at)
+        on = goes-on at n.eye n.events n.fault n.child_fault observed_wait go
 
-        shows : ShowsStop noted_wait.observation.items (stop_of at)
-        shows = shown at n.eye n.events n.fault n.joined noted_wait
+        shows : ShowsStop observed_wait.observation.items (stop_of at)
+        shows = shown at n.eye n.events n.fault n.child_fault observed_wait
 
         no_more : stops_left (with_evaluations rest) ≤ stops_left rest.task
         no_more = answers_leave_no_more rest.task task it_waits
@@ -199,53 +199,53 @@ module _ (plan : PlanView) (o : Origin) (j : List ℕ) (w : NodeWalk) (is : IsWa
           instance = is.instance;
           task = answers_keep_tasks rest.task task;
           idle = refl;
-          goes_on = noted_wait.stop.keeps.2;
+          goes_on = observed_wait.stop.keeps.2;
           plan_is = kept.0 ∙ is.plan_is;
           origin_is = kept.1 ∙ is.origin_is;
-          observation = also is.observation noted_wait.observation;
-          on = nothing rest.task (also is.observation noted_wait.observation) task (subst IsInstance (sym (kept.1 ∙ is.origin_is)) is.instance) on;
-          says = seen_none (path_of o) j is.observation noted_wait.observation observed shows (observation-seen at n.eye n.events n.fault n.joined noted_wait observed b);
+          observation = also is.observation observed_wait.observation;
+          on = nothing rest.task (also is.observation observed_wait.observation) task (subst IsInstance (sym (kept.1 ∙ is.origin_is)) is.instance) on;
+          says = seen_none (path_of o) j is.observation observed_wait.observation observed shows (observation-seen at n.eye n.events n.fault n.child_fault observed_wait observed b);
         }
 
     -- The strand is over.
-    pub over_by_wait : IsBelow (path_of o) j → ObservationGoesOn → AnswersShowNothing → (observed : ObservedInstance) → is_over observed ≡ true → observed ≡ with_observation n.eye n.events n.fault n.joined w.observed → WalksOn plan o j w (Ends observed)
+    pub over_by_wait : IsBelow (path_of o) j → ObservationGoesOn → AnswersShowNothing → (observed : ObservedInstance) → is_over observed ≡ true → observed ≡ with_observation n.eye n.events n.fault n.child_fault w.observed → WalksOn plan o j w (Ends observed)
     over_by_wait below go nothing observed over b =
-        all-seen at n.eye n.events n.fault n.joined noted_wait below (with_evaluations rest) kept
-        (nothing rest.task (also is.observation noted_wait.observation) task (subst IsInstance (sym (kept.1 ∙ is.origin_is)) is.instance) on) observed over
-        (seen_none (path_of o) j is.observation noted_wait.observation observed shows (observation-seen at n.eye n.events n.fault n.joined noted_wait observed b))
+        all-seen at n.eye n.events n.fault n.child_fault observed_wait below (with_evaluations rest) kept
+        (nothing rest.task (also is.observation observed_wait.observation) task (subst IsInstance (sym (kept.1 ∙ is.origin_is)) is.instance) on) observed over
+        (seen_none (path_of o) j is.observation observed_wait.observation observed shows (observation-seen at n.eye n.events n.fault n.child_fault observed_wait observed b))
       where
         task : IsSoundStop t (stop_of at)
-        task = sound at n.eye n.events n.fault n.joined noted_wait
+        task = sound at n.eye n.events n.fault n.child_fault observed_wait
 
         kept : KeepsOrigin t (stop_of at)
-        kept = same at n.eye n.events n.fault n.joined noted_wait
+        kept = same at n.eye n.events n.fault n.child_fault observed_wait
 
-        on : OnWay (also is.observation noted_wait.observation) t (stop_of at)
-        on = goes-on at n.eye n.events n.fault n.joined noted_wait go
+        on : OnWay (also is.observation observed_wait.observation) t (stop_of at)
+        on = goes-on at n.eye n.events n.fault n.child_fault observed_wait go
 
-        shows : ShowsStop noted_wait.observation.items (stop_of at)
-        shows = shown at n.eye n.events n.fault n.joined noted_wait
+        shows : ShowsStop observed_wait.observation.items (stop_of at)
+        shows = shown at n.eye n.events n.fault n.child_fault observed_wait
 
-  module _ (n : ObservedStop) (as_noted : IsObserved w.task j w.observed.eye n) (answer : AnswerView) (give : AnswerTag) (stopped : n.stop ≡ stop.Done answer give) where
+  module _ (n : ObservedStop) (as_observed : IsObserved w.task j w.observed.eye n) (answer : AnswerView) (give : AnswerTag) (stopped : n.stop ≡ stop.Done answer give) where
     abbrev end : stops.Stop
     end = stop.Done answer give
 
-    noted_end : IsObserved w.task j w.observed.eye (record n { stop = end })
-    noted_end = subst (λ (to : stops.Stop). IsObserved w.task j w.observed.eye (record n { stop = to })) stopped as_noted
+    observed_end : IsObserved w.task j w.observed.eye (record n { stop = end })
+    observed_end = subst (λ (to : stops.Stop). IsObserved w.task j w.observed.eye (record n { stop = to })) stopped as_observed
 
     -- The whole instance is seen.
-    pub walk_ends : IsBelow (path_of o) j → ObservationGoesOn → (observed : ObservedInstance) → observed ≡ with_observation n.eye n.events n.fault n.joined w.observed → WalksOn plan o j w (Ends observed)
-    walk_ends below go observed b = whole_seen plan o j is.instance below (also is.observation noted_end.observation)
-        (subst (λ (q : PlanView). IsAllObserved q o (also is.observation noted_end.observation)) is.plan_is (subst (λ (d : Origin). IsAllObserved t.plan d (also is.observation noted_end.observation)) is.origin_is whole)) observed says
+    pub walk_ends : IsBelow (path_of o) j → ObservationGoesOn → (observed : ObservedInstance) → observed ≡ with_observation n.eye n.events n.fault n.child_fault w.observed → WalksOn plan o j w (Ends observed)
+    walk_ends below go observed b = whole_seen plan o j is.instance below (also is.observation observed_end.observation)
+        (subst (λ (q : PlanView). IsAllObserved q o (also is.observation observed_end.observation)) is.plan_is (subst (λ (d : Origin). IsAllObserved t.plan d (also is.observation observed_end.observation)) is.origin_is whole)) observed says
       where
-        shows : ShowsStop noted_end.observation.items (stop_of end)
-        shows = shown end n.eye n.events n.fault n.joined noted_end
+        shows : ShowsStop observed_end.observation.items (stop_of end)
+        shows = shown end n.eye n.events n.fault n.child_fault observed_end
 
-        says : observed ≡ seen (path_of o) j (also is.observation noted_end.observation)
-        says = seen_none (path_of o) j is.observation noted_end.observation observed shows (observation-seen end n.eye n.events n.fault n.joined noted_end observed b)
+        says : observed ≡ seen (path_of o) j (also is.observation observed_end.observation)
+        says = seen_none (path_of o) j is.observation observed_end.observation observed shows (observation-seen end n.eye n.events n.fault n.child_fault observed_end observed b)
 
-        whole : OnWay (also is.observation noted_end.observation) t (stop_of end)
-        whole = goes-on end n.eye n.events n.fault n.joined noted_end go
+        whole : OnWay (also is.observation observed_end.observation) t (stop_of end)
+        whole = goes-on end n.eye n.events n.fault n.child_fault observed_end go
 
 -- A walk begins with a task of which nothing is done.
 pub walk_begins : ObservationBegins → (plan : PlanView) (o : Origin) (j : List ℕ) → IsInstance o → IsTask (start plan o) → (w : NodeWalk) → w ≡ begun_walk plan o j → IsWalk plan o j w

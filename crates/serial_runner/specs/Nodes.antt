@@ -5,7 +5,7 @@ use Rattle.serial_meaning.specs.Open.{opened}
 use Rattle.serial_meaning.specs.Plan.{PlanView}
 use Rattle.serial_meaning.specs.declared.event.Fault.{Fault}
 use Rattle.serial_meaning.specs.declared.origin.Origin.{Origin}
-use Rattle.strand_meaning.specs.Strands.{Strand, child_on_way, strand_of, blocks}
+use Rattle.strand_meaning.specs.Strands.{Strand, child_on_way, strand_of, blocking_fault}
 use Rattle.strand_machine.specs.Eyes.{is_none_ahead}
 use Rattle.serial_runner.specs.declared.node.Node.{Node}
 use Rattle.serial_runner.specs.declared.observed.ObservedInstance.{ObservedInstance}
@@ -18,11 +18,11 @@ pub record IsBelow (path j : List ℕ) : Type 0 where
 -- A child on the way to the pedigree; where there is none, the instance's strand with that pedigree, and the fault of a child by which it
 -- ended before that.
 abbrev pub shown_by : Option Origin → Option Strand → Option Fault → Node
-shown_by (Some c) strand joined = record { strand = None; child = Some c; joined = None }
-shown_by None strand joined = record { strand = strand; child = None; joined = joined }
+shown_by (Some c) strand child_fault = record { strand = None; child = Some c; child_fault = None }
+shown_by None strand child_fault = record { strand = strand; child = None; child_fault = child_fault }
 
 abbrev pub shown_at : Origin → open_tree.Node → List ℕ → Node
-shown_at o n j = shown_by (child_on_way j n.items) (strand_of o n j) (blocks n j)
+shown_at o n j = shown_by (child_on_way j n.items) (strand_of o n j) (blocking_fault n j)
 
 abbrev pub node_toward : PlanView → Origin → List ℕ → Node
 node_toward plan o j = shown_at o (opened plan o) j
@@ -39,13 +39,13 @@ is_none (Some f) = false
 
 -- whether a strand of the instance's own had the pedigree; one that ended by a child's fault hasn't come to the strand after its last event
 abbrev pub came_to : ObservedInstance → Bool
-came_to s = s.eye.came || (is_none_ahead s.eye.ahead && is_none s.joined)
+came_to s = s.eye.came || (is_none_ahead s.eye.ahead && is_none s.child_fault)
 
 abbrev pub strand_seen : List ℕ → ObservedInstance → Option Strand
 strand_seen j s = if came_to s then Some (record { events = s.events; fault = fault_at j s.fault }) else None
 
-abbrev pub joined_before : ObservedInstance → Option Fault
-joined_before s = if s.eye.past then s.joined else None
+abbrev pub child_fault_before : ObservedInstance → Option Fault
+child_fault_before s = if s.eye.past then s.child_fault else None
 
 abbrev pub node_seen : List ℕ → ObservedInstance → Node
-node_seen j s = shown_by s.child (strand_seen j s) (joined_before s)
+node_seen j s = shown_by s.child (strand_seen j s) (child_fault_before s)

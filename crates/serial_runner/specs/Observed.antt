@@ -24,31 +24,31 @@ use Rattle.serial_runner.specs.declared.walk.Walked.{Walked}
 use Rattle.serial_runner.specs.declared.walk.Walked.TheVariants.{Goes, Ends}
 
 abbrev pub nothing_seen : Eye → ObservedInstance
-nothing_seen eye = record { eye = eye; events = []; fault = None; child = None; joined = None }
+nothing_seen eye = record { eye = eye; events = []; fault = None; child = None; child_fault = None }
 
 abbrev pub with_observation : Eye → List Event → Option Fault → Option Fault → ObservedInstance → ObservedInstance
-with_observation eye events fault joined s = record s {
+with_observation eye events fault child_fault s = record s {
   eye = eye;
   events = s.events ++ events;
   fault = newest s.fault fault;
-  joined = newest s.joined joined;
+  child_fault = newest s.child_fault child_fault;
 }
 
-abbrev pub first_of : Option Origin → Option Origin → Option Origin
-first_of (Some o) later = Some o
-first_of None later = later
+abbrev pub first_child : Option Origin → Option Origin → Option Origin
+first_child (Some o) later = Some o
+first_child None later = later
 
 abbrev pub with_child : List ℕ → Origin → ObservedInstance → ObservedInstance
-with_child j o s = record s { child = first_of s.child (child_on_way j (Child o ∷ [])) }
+with_child j o s = record s { child = first_child s.child (child_on_way j (Child o ∷ [])) }
 
--- what notes say of a pedigree, of an instance with this path
+-- what an observation says of a pedigree, of an instance with this path
 abbrev pub seen : List ℕ → List ℕ → Observation → ObservedInstance
 seen path j observation = record {
   eye = eye_after j (new_eye path j) observation.items;
   events = events_at j (own_events observation.items);
   fault = observation.fault;
   child = child_on_way j observation.items;
-  joined = observation.joined;
+  child_fault = observation.child_fault;
 }
 
 -- a walk of which nothing is done
@@ -75,10 +75,10 @@ pub record IsWalk (plan : PlanView) (o : Origin) (j : List ℕ) (w : NodeWalk) :
 
 -- The task of a walk has come to this stop, and this is what is seen then.
 pub record IsStopped (j : List ℕ) (w : NodeWalk) (stop : Stop) (observed : ObservedInstance) : Type 0 where
-  pub noted : ObservedStop
-  pub is_noted : IsObserved w.task j w.observed.eye noted
-  pub stops : stop ≡ noted.stop
-  pub sees : observed ≡ with_observation noted.eye noted.events noted.fault noted.joined w.observed
+  pub observed_stop : ObservedStop
+  pub is_observed : IsObserved w.task j w.observed.eye observed_stop
+  pub stops : stop ≡ observed_stop.stop
+  pub sees : observed ≡ with_observation observed_stop.eye observed_stop.events observed_stop.fault observed_stop.child_fault w.observed
 
 -- What is seen of an instance, for a node, is what its node shows.
 abbrev pub IsSeen : PlanView → Origin → List ℕ → ObservedInstance → Type 0

@@ -37,12 +37,12 @@ pub record IsStack (s : Stack) : Type 0 where
   pub below : AreBelow (task_of s.top) s.below
 
 -- the task at the bottom
-abbrev pub root_of : Task → List OpenTask → Task
-root_of t [] = t
-root_of t (f ∷ fs) = root_of (task_of f) fs
+abbrev pub lowest_of : Task → List OpenTask → Task
+lowest_of t [] = t
+lowest_of t (f ∷ fs) = lowest_of (task_of f) fs
 
-abbrev pub root : Stack → Task
-root s = root_of (task_of s.top) s.below
+abbrev pub lowest : Stack → Task
+lowest s = lowest_of (task_of s.top) s.below
 
 -- The tasks of a stack, and what a stop of the topmost one makes of them: its child goes first, its wait is over at once, since its
 -- children have ended, and its end leaves the others.
@@ -62,7 +62,7 @@ stack_with_answer answer f fs = record { top = record f { answers = f.answers ++
 -- one stop of the topmost task
 pub record Follows (s next : Stack) : Type 0 where
   pub sound : IsStack next
-  pub root : IsOf (root s) (root next)
+  pub lowest : IsOf (lowest s) (lowest next)
   pub stop : Stop
   pub comes : IsNext (task_of s.top) stop
   pub leaves : tasks (next.top ∷ next.below) ≡ tasks_after stop (tasks s.below)
@@ -75,7 +75,7 @@ pub record IsAnswerOf (t : Task) (answer : AnswerView) : Type 0 where
 
 -- the answer of the task at the bottom
 abbrev pub Closes : Stack → AnswerView → Type 0
-Closes s = IsAnswerOf (root s)
+Closes s = IsAnswerOf (lowest s)
 
 -- the task of an answer before it was begun
 abbrev pub task_of_answer : AnswerView → Task

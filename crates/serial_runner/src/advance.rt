@@ -3,7 +3,7 @@ ghost use Rattle.std.specs.Prelude.{◌≡◌, List, [], ◌∷◌, true, IfOk};
 ghost use Rattle.strand_meaning.specs.Laws.{IsFaultOf};
 ghost use Rattle.strand_machine.specs.Faults.{is_fault};
 ghost use Rattle.serial_runner.specs.declared.open_tasks.OpenTask.{OpenTask};
-ghost use Rattle.serial_runner.specs.Stacks.{AreBelow, IsAnswerOf, IsStack, AdvancesTo, root_of, task_of_answer, stack_with_answer};
+ghost use Rattle.serial_runner.specs.Stacks.{AreBelow, IsAnswerOf, IsStack, AdvancesTo, lowest_of, task_of_answer, stack_with_answer};
 
 use crate::beside::beside;
 use crate::open_tasks::{OpenTask, OpenTasks};
@@ -51,7 +51,7 @@ fn end_all(alloc: Global, answer: Answer, mut below: OpenTasks) -> Result<Answer
     requires fault { is_fault answer.outcome ≡ true }
     requires known { IsFaultOf answer.plan answer.outcome }
     requires below { AreBelow (task_of_answer answer) below }
-    ensures { IfOk result (IsAnswerOf (root_of (task_of_answer answer) below)) }
+    ensures { IfOk result (IsAnswerOf (lowest_of (task_of_answer answer) below)) }
 {
     let mut answer = answer;
     while let Some(open_task) = below.pop() {

@@ -22,7 +22,7 @@ pub struct Node {
     /// The child on the way: an instance or a whole loop whose path the pedigree begins with and goes on from.
     pub child: Option<Origin>,
     /// The fault of a child by which the instance ended before the pedigree, where no child is on the way there.
-    pub joined: Option<Fault>,
+    pub child_fault: Option<Fault>,
 }
 
 /// The fault, where it came in the strand with this pedigree.
@@ -53,20 +53,20 @@ fn node_seen(observed: ObservedInstance, at: &Pedigree) -> Node
         events,
         fault,
         child,
-        joined,
+        child_fault,
     } = observed;
     if child.is_some() {
         return Node {
             strand: None,
             child,
-            joined: None,
+            child_fault: None,
         };
     }
-    let came = eye.came || (eye.is_here() && joined.is_none());
+    let came = eye.came || (eye.is_here() && child_fault.is_none());
     Node {
         strand: strand_if(came, events, fault_at(fault, at)),
         child: None,
-        joined: if eye.past { joined } else { None },
+        child_fault: if eye.past { child_fault } else { None },
     }
 }
 

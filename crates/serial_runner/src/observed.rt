@@ -21,7 +21,7 @@ pub(crate) struct ObservedInstance {
     /// The child on the way to the pedigree.
     pub child: Option<Origin>,
     /// The fault of a child by which the instance ended, wherever it did.
-    pub joined: Option<Fault>,
+    pub child_fault: Option<Fault>,
 }
 
 /// Whether a pedigree begins with this path, and goes on.
@@ -51,19 +51,19 @@ impl ObservedInstance {
             events: Out::new(),
             fault: None,
             child: None,
-            joined: None,
+            child_fault: None,
         }
     }
 
-    /// What is noted of the instance up to its next stop, where the eye has what it had seen before that too.
+    /// What is observed of the instance up to its next stop, where the eye has what it had seen before that too.
     pub fn observe(
         self,
         eye: Eye,
         events: Out,
         fault: Option<Fault>,
-        joined: Option<Fault>,
+        child_fault: Option<Fault>,
     ) -> Result<ObservedInstance, Memory>
-        ensures { IfOk result (λ observed. observed ≡ with_observation eye events fault joined self) }
+        ensures { IfOk result (λ observed. observed ≡ with_observation eye events fault child_fault self) }
     {
         let mut so_far = self.events;
         so_far.append(events)?;
@@ -72,7 +72,7 @@ impl ObservedInstance {
             events: so_far,
             fault: newest(self.fault, fault),
             child: self.child,
-            joined: newest(self.joined, joined),
+            child_fault: newest(self.child_fault, child_fault),
         })
     }
 

@@ -5,7 +5,7 @@ ghost use Rattle.serial_meaning.specs.Laws.{IsOriginOf};
 ghost use Rattle.strand_meaning.specs.Laws.{IsFaultOf};
 ghost use Rattle.strand_meaning.specs.Task.{start};
 ghost use Rattle.strand_machine.specs.Tasks.{fresh};
-ghost use Rattle.serial_runner.specs.Stacks.{IsStack, root};
+ghost use Rattle.serial_runner.specs.Stacks.{IsStack, lowest};
 
 use crate::advance::advance;
 use crate::open_tasks::OpenTasks;
@@ -35,7 +35,7 @@ pub(crate) fn begin_task(alloc: Global, plan: &Arc<Plan>, origin: Origin) -> Res
 pub(crate) fn stack_of(alloc: Global, plan: &Arc<Plan>, origin: Origin) -> Result<Stack, Memory>
     requires { IsOriginOf (arc_value plan.now) origin }
     ensures sound { IfOk result IsStack }
-    ensures root { IfOk result (λ stack. root stack ≡ start (arc_value plan.now) origin) }
+    ensures lowest { IfOk result (λ stack. lowest stack ≡ start (arc_value plan.now) origin) }
 {
     // Read for the proof: a checked script is valid.
     let _script = plan.checked.script();

@@ -51,23 +51,27 @@ fn answers_of(alloc: Global, plan: &Arc<Plan>, origins: &[Origin]) -> Result<Ite
     Ok(Items(answers))
 }
 
-/// Runs the task to its next stop, and notes what is seen up to there.
-fn stopped(walk: NodeWalk, alloc: Global, at: &Pedigree) -> Result<(Stop, ObservedInstance), Memory>
+/// Runs the task to its next stop, and observes what it shows up to there.
+fn run_to_stop(
+    walk: NodeWalk,
+    alloc: Global,
+    at: &Pedigree,
+) -> Result<(Stop, ObservedInstance), Memory>
     requires instance { IsInstance (origin_of walk) }
     requires goes_on { walk.task.cut ≡ None }
     ensures { IfOk result (λ p. IsStopped at.now walk p.0 p.1) }
 {
     let NodeWalk { task, observed } = walk;
     let seen = observed.eye;
-    let (observed, noted) = beside(observed, task.advance_observed(alloc, at, seen))?;
+    let (observed, observed_stop) = beside(observed, task.advance_observed(alloc, at, seen))?;
     let ObservedStop {
         stop,
         eye,
         events,
         fault,
-        joined,
-    } = noted;
-    beside(stop, observed.observe(eye, events, fault, joined))
+        child_fault,
+    } = observed_stop;
+    beside(stop, observed.observe(eye, events, fault, child_fault))
 }
 
 /// Runs the task to its next stop. Where it waits there, the children that it awaits are run, unless nothing that it does later counts.
@@ -78,7 +82,7 @@ fn walk_on(walk: NodeWalk, alloc: Global, plan: &Arc<Plan>, at: &Pedigree) -> Re
 {
     laws::observation_goes_on();
     laws::answers_show_nothing();
-    let (stop, mut observed) = stopped(walk, alloc, at)?;
+    let (stop, mut observed) = run_to_stop(walk, alloc, at)?;
     match stop {
         Stop::Spawn { child, rest } => {
             let seen = observed.observe_child(alloc, &child, at);

@@ -28,7 +28,7 @@ pub data IsNested : Whose → List ℕ → ℕ → List Event → Type 0 where
       IsNested (Instance home) path rank (event.Spawn (path ++ rank ∷ []) ∷ (child ++ es))
   Loops : (home path : List ℕ) (rank : ℕ) (inner es : List Event) → IsNested Iterations (path ++ rank ∷ []) 0 inner → IsNested (Instance home) path (rank + 1) es →
       IsNested (Instance home) path rank (event.Loop (path ++ rank ∷ []) ∷ (inner ++ es))
-  Iterates : (path : List ℕ) (k : ℕ) (turn es : List Event) → IsNested (Instance (path ++ k ∷ [])) (path ++ k ∷ []) 0 turn → IsNested Iterations path (k + 1) es → IsNested Iterations path k (turn ++ es)
+  Iterates : (path : List ℕ) (k : ℕ) (inner es : List Event) → IsNested (Instance (path ++ k ∷ [])) (path ++ k ∷ []) 0 inner → IsNested Iterations path (k + 1) es → IsNested Iterations path k (inner ++ es)
   Scopes : (home path : List ℕ) (rank : ℕ) (inner es : List Event) → IsNested (Instance home) (path ++ rank ∷ []) 0 inner → IsNested (Instance home) path (rank + 1) es →
       IsNested (Instance home) path rank (inner ++ es)
 

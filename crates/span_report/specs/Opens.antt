@@ -20,16 +20,16 @@ abbrev pub synced : OpenInstance → OpenInstance
 synced o = record o { before = max (next_length o) o.spawned; looping = None; looped = 0; spawned = 0; within = max o.within (next_length o) }
 
 -- in the loop with this pedigree
-abbrev pub turning : List ℕ → OpenInstance → OpenInstance
-turning j o = record o { looping = Some j }
+abbrev pub looping_at : List ℕ → OpenInstance → OpenInstance
+looping_at j o = record o { looping = Some j }
 
-abbrev pub noted : OpenInstance → Event → OpenInstance
-noted o (event.Print j v) = went_on o
-noted o (event.Draw j n) = went_on o
-noted o (event.New j) = went_on o
-noted o (event.Spawn j) = went_on o
-noted o (event.Sync j) = synced o
-noted o (event.Loop j) = turning j (went_on o)
+abbrev pub after_event : OpenInstance → Event → OpenInstance
+after_event o (event.Print j v) = went_on o
+after_event o (event.Draw j n) = went_on o
+after_event o (event.New j) = went_on o
+after_event o (event.Spawn j) = went_on o
+after_event o (event.Sync j) = synced o
+after_event o (event.Loop j) = looping_at j (went_on o)
 
 abbrev pub joined : OpenInstance → Begun → ℕ → OpenInstance
 joined o Spawned within = record o { spawned = max o.spawned within; within = max o.within within }
@@ -47,11 +47,11 @@ starts front path = bytes_eq (take (length front) path) front
 abbrev pub leads : OpenInstance → List ℕ → Bool
 leads o path = starts o.path path
 
-abbrev pub turn_at : List ℕ → Option ℕ → Option (List ℕ)
-turn_at by None = None
-turn_at by (Some k) = Some (by ++ k ∷ [])
+abbrev pub iteration_at : List ℕ → Option ℕ → Option (List ℕ)
+iteration_at by None = None
+iteration_at by (Some k) = Some (by ++ k ∷ [])
 
 -- the path of an iteration with which a path begins, where the instance is in a loop and the path is of that
-abbrev pub turn_on : Option (List ℕ) → List ℕ → Option (List ℕ)
-turn_on None path = None
-turn_on (Some by) path = cond (starts by path) (turn_at by (slice_get path (length by))) None
+abbrev pub iteration_on : Option (List ℕ) → List ℕ → Option (List ℕ)
+iteration_on None path = None
+iteration_on (Some by) path = cond (starts by path) (iteration_at by (slice_get path (length by))) None

@@ -8,7 +8,7 @@ use Rattle.span_report.specs.declared.instance.OpenInstance.{OpenInstance}
 use Rattle.span_report.specs.declared.instance.Begun.TheVariants.{Spawned, Iterated}
 use Rattle.span_report.specs.declared.walk.Walk.{Walk}
 use Rattle.span_report.specs.Series.{IsSpan, pedigree_of}
-use Rattle.span_report.specs.Opens.{begun, joined, leads, noted, turn_on}
+use Rattle.span_report.specs.Opens.{begun, joined, leads, after_event, iteration_on}
 
 -- The current instance, and those that it stands below, from its parent on.
 pub record OpenInstances : Type 0 where
@@ -19,8 +19,8 @@ abbrev pub open_instances : Walk → OpenInstances
 open_instances w = record { top = w.top; under = reverse w.below.items }
 
 -- at the start main alone
-abbrev pub start : OpenInstances
-start = record { top = begun [] Spawned 0; under = [] }
+abbrev pub main_alone : OpenInstances
+main_alone = record { top = begun [] Spawned 0; under = [] }
 
 -- after the end of the instances that don't lead to a path
 abbrev pub left : List ℕ → OpenInstance → List OpenInstance → OpenInstances
@@ -35,21 +35,21 @@ ended o (p ∷ ps) = ended (joined p o.begun o.within) ps
 abbrev pub pushed : OpenInstances → OpenInstance → OpenInstances
 pushed w o = record { top = o; under = w.top ∷ w.under }
 
-abbrev pub pushed_turn : Option (List ℕ) → OpenInstances → OpenInstances
-pushed_turn None w = w
-pushed_turn (Some turn) w = pushed w (begun turn Iterated w.top.before)
+abbrev pub pushed_iteration : Option (List ℕ) → OpenInstances → OpenInstances
+pushed_iteration None w = w
+pushed_iteration (Some path) w = pushed w (begun path Iterated w.top.before)
 
 -- where the instance of a path goes on, of which at most an iteration isn't open yet
 abbrev pub opened_to : List ℕ → OpenInstances → OpenInstances
-opened_to path w = pushed_turn (turn_on w.top.looping path) w
+opened_to path w = pushed_iteration (iteration_on w.top.looping path) w
 
 abbrev pub went : OpenInstances → Event → OpenInstances
-went w (event.Print j v) = record w { top = noted w.top (event.Print j v) }
-went w (event.Draw j n) = record w { top = noted w.top (event.Draw j n) }
-went w (event.New j) = record w { top = noted w.top (event.New j) }
-went w (event.Spawn j) = pushed (record w { top = noted w.top (event.Spawn j) }) (begun j Spawned (noted w.top (event.Spawn j)).before)
-went w (event.Sync j) = record w { top = noted w.top (event.Sync j) }
-went w (event.Loop j) = record w { top = noted w.top (event.Loop j) }
+went w (event.Print j v) = record w { top = after_event w.top (event.Print j v) }
+went w (event.Draw j n) = record w { top = after_event w.top (event.Draw j n) }
+went w (event.New j) = record w { top = after_event w.top (event.New j) }
+went w (event.Spawn j) = pushed (record w { top = after_event w.top (event.Spawn j) }) (begun j Spawned (after_event w.top (event.Spawn j)).before)
+went w (event.Sync j) = record w { top = after_event w.top (event.Sync j) }
+went w (event.Loop j) = record w { top = after_event w.top (event.Loop j) }
 
 -- a pedigree's path, which is all of it but the last rank
 abbrev pub path_of : Event → List ℕ
@@ -64,7 +64,7 @@ walked_all w (e ∷ es) = walked_all (walked w e) es
 
 -- the length of the longest chain, as the walk has it once all instances have ended
 abbrev pub walked_span : List Event → ℕ
-walked_span es = (ended (walked_all start es).top (walked_all start es).under).within
+walked_span es = (ended (walked_all main_alone es).top (walked_all main_alone es).under).within
 
 -- The walk along the events of a serial elision comes to their span.
 abbrev pub SpansAreWalked : Type 0

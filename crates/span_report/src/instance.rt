@@ -1,5 +1,5 @@
 ghost use Rattle.std.specs.Prelude.{◌≡◌, IfOk, OnOk};
-ghost use Rattle.span_report.specs.Opens.{begun, joined, leads, noted, turn_on};
+ghost use Rattle.span_report.specs.Opens.{begun, joined, leads, after_event, iteration_on};
 
 use ped_path::Ped;
 use serial_meaning::{Event, Memory};
@@ -58,7 +58,7 @@ impl OpenInstance {
     /// The path of the iteration with which this path begins, where the instance is in a loop and the path is of that. A path in an
     /// open scope isn't.
     pub(crate) fn iteration(&self, alloc: Global, path: &Ped) -> Result<Option<Ped>, Memory>
-        ensures { IfOk result (λ found. found ≡ turn_on self.now.looping path.now) }
+        ensures { IfOk result (λ found. found ≡ iteration_on self.now.looping path.now) }
     {
         let Some(by) = &self.looping else {
             return Ok(None);
@@ -74,7 +74,7 @@ impl OpenInstance {
 
     /// Takes in an event of this instance. Where 2^64 - 1 events stand in a chain before it, it answers `Memory`.
     pub(crate) fn add_event(&mut self, alloc: Global, event: &Event) -> Result<(), Memory>
-        ensures { OnOk result (self.new ≡ noted self.old event.now) }
+        ensures { OnOk result (self.new ≡ after_event self.old event.now) }
     {
         let before = self.before.max(self.looped);
         let length = before.checked_add(1).ok_or(Memory)?;

@@ -1,7 +1,7 @@
 ghost use Rattle.std.specs.Prelude.{◌≡◌, IfOk, OnOk, reverse};
 ghost use Rattle.span_report.specs.Series.{pedigree_of};
 ghost use Rattle.span_report.specs.Opens.{joined};
-ghost use Rattle.span_report.specs.Walks.{ended, opened_to, left, open_instances, path_of, pushed, start, walked};
+ghost use Rattle.span_report.specs.Walks.{ended, opened_to, left, open_instances, path_of, pushed, main_alone, walked};
 
 use crate::instance::{Begun, OpenInstance};
 use ped_path::{Ped, Pedigree};
@@ -20,7 +20,7 @@ pub(crate) struct Walk {
 
 impl Walk {
     pub(crate) fn new(alloc: Global) -> Result<Walk, Memory>
-        ensures { IfOk result (λ walk. open_instances walk ≡ start) }
+        ensures { IfOk result (λ walk. open_instances walk ≡ main_alone) }
     {
         Ok(Walk {
             top: OpenInstance::begin(Ped::root(alloc)?, Begun::Spawned, 0),
@@ -60,8 +60,8 @@ impl Walk {
     fn enter(&mut self, alloc: Global, path: &Ped) -> Result<(), Memory>
         ensures { OnOk result (open_instances self.new ≡ opened_to path.now (open_instances self.old)) }
     {
-        if let Some(turn) = self.top.iteration(alloc, path)? {
-            let child = OpenInstance::begin(turn, Begun::Iterated, self.top.before);
+        if let Some(iteration) = self.top.iteration(alloc, path)? {
+            let child = OpenInstance::begin(iteration, Begun::Iterated, self.top.before);
             self.push(child)?;
         }
         Ok(())

@@ -16,8 +16,8 @@ pub record FamilyView : Type 0 where
   pub ready : Bool
   pub loads : List ℕ
 
-abbrev pub alone : PlanView → Origin → FamilyView
-alone plan o = record { plan = plan; origin = o; children = []; taken = []; ready = true; loads = [] }
+abbrev pub childless : PlanView → Origin → FamilyView
+childless plan o = record { plan = plan; origin = o; children = []; taken = []; ready = true; loads = [] }
 
 abbrev pub tag : PlanView → Origin → AnswerTag
 tag plan o = record { plan = plan; origin = o }

@@ -48,7 +48,7 @@ impl Family {
     ghost use Rattle.std.specs.Prelude.{◌↔◌, IsTrue};
     ghost use Rattle.ped_path.specs.Path.{IsBefore};
     ghost use Rattle.serial_meaning.specs.Answer.{start_of};
-    ghost use Rattle.strand_family.specs.Family.{FamilyView, alone};
+    ghost use Rattle.strand_family.specs.Family.{FamilyView, childless};
 
     /// A task's family before it has children. It takes no memory yet.
     pub fn new(
@@ -58,11 +58,11 @@ impl Family {
         give: Give<Answer>,
     ) -> Result<Family, Memory>
         requires { give ≡ tag (arc_value plan) origin }
-        ensures { IfOk result (λ family. family ≡ alone (arc_value plan) origin) }
+        ensures { IfOk result (λ family. family ≡ childless (arc_value plan) origin) }
     {
         // Who runs a task for whose value nobody looks takes the values of its children by himself, too.
         let join = if give.is_alone() {
-            Join::idle()
+            Join::alone()
         } else {
             Join::new(alloc)?
         };

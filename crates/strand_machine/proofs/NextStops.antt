@@ -1,2 +1,3 @@
+pub mod ByCut
 pub mod Advancing
 pub mod Pausing

@@ -1,6 +1,6 @@
 -- What is seen of one pedigree in the items that an instance shows.
 use Rattle.std.specs.Prelude.{ℕ, zero, suc, ◌-◌, nat_eq, nat_lt, Bool, true, false, ◌||◌, List, [], ◌∷◌, ◌++◌, Option, Some, None, if◌then◌else◌}
-use Rattle.serial_meaning.specs.Open.{Item, Happened, Child, Opened, Closed, risen}
+use Rattle.serial_meaning.specs.Open.{Item, Happened, Child, Opened, Closed, raised}
 use Rattle.serial_meaning.specs.declared.event.Event.{Event}
 use Rattle.serial_meaning.specs.declared.event.Event.TheVariants as event
 use Rattle.strand_meaning.specs.Strands.{ended_before, pedigree_of}
@@ -52,4 +52,4 @@ eye_after j eye [] = eye
 eye_after j eye (Happened e ∷ items) = eye_after j (rises e (record eye { past = ended_before (pedigree_of e) j })) items
 eye_after j eye (Child o ∷ items) = eye_after j eye items
 eye_after j eye (Opened k ∷ items) = eye_after j (goes_to (ahead_of (k ++ 0 ∷ []) j) eye) items
-eye_after j eye (Closed k ∷ items) = eye_after j (goes_to (ahead_of (risen k) j) eye) items
+eye_after j eye (Closed k ∷ items) = eye_after j (goes_to (ahead_of (raised k) j) eye) items

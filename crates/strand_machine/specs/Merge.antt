@@ -16,7 +16,7 @@ use Rattle.strand_meaning.specs.Machine as machine
 use Rattle.strand_meaning.specs.Found.{FindsDestination, functions_at, functions_left}
 use Rattle.strand_meaning.specs.Sound.{IsTask}
 use Rattle.strand_meaning.specs.Task as meaning
-use Rattle.strand_meaning.specs.Task.{Splits, Runs, Over, takes_all, all_values}
+use Rattle.strand_meaning.specs.Task.{Splits, Runs, Finished, takes_all, all_values}
 use Rattle.strand_machine.specs.Family.{FamilyView}
 use Rattle.strand_machine.specs.Parts.{destination_of}
 use Rattle.strand_machine.specs.Stops.{any_cut}
@@ -39,7 +39,7 @@ result_of_outcome (outcome.Cut f) = Err f
 abbrev pub with_stage : (meaning.InstanceState → meaning.InstanceState) → meaning.Work → meaning.Work
 with_stage change (Splits left) = Splits left
 with_stage change (Runs stage) = Runs (change stage)
-with_stage change (Over v gone_on) = Over v gone_on
+with_stage change (Finished v gone_on) = Finished v gone_on
 
 -- An instance in a stage, or in what remains of a task, is one of the plan.
 abbrev pub Stands : PlanView → InstanceState → Type 0
@@ -50,14 +50,14 @@ Works plan work = (o : Origin) × WorksAt plan o work
 
 -- The variable into which the value of a child at this place goes is found, in the instance of a stage and in that of what remains of a task.
 abbrev pub StageFinds : PlanView → machine.Destination → meaning.InstanceState → Type 0
-StageFinds plan place stage = FindsDestination plan (functions_at stage) place
+StageFinds plan destination stage = FindsDestination plan (functions_at stage) destination
 
 abbrev pub WorkFinds : PlanView → machine.Destination → meaning.Work → Type 0
-WorkFinds plan place w = FindsDestination plan (functions_left w) place
+WorkFinds plan destination w = FindsDestination plan (functions_left w) destination
 
 abbrev pub WorkFindsAll : PlanView → List AfterChild → meaning.Work → Type 0
 WorkFindsAll plan [] w = Unit {0}
-WorkFindsAll plan (b ∷ bs) w = WorkFinds plan (destination_of b.place) w × WorkFindsAll plan bs w
+WorkFindsAll plan (b ∷ bs) w = WorkFinds plan (destination_of b.destination) w × WorkFindsAll plan bs w
 
 -- By its meaning the stage after it is the one before it, changed so, and an instance in it is still one of the plan.
 pub record BecomesStage (change : meaning.InstanceState → meaning.InstanceState) (before after : InstanceState) : Type 0 where

@@ -13,7 +13,7 @@ use Rattle.strand_machine.specs.declared.eye.Eye.{Eye}
 use Rattle.strand_machine.specs.declared.observe.ObservedStop.{ObservedStop}
 use Rattle.strand_machine.specs.declared.observe.Observed.{Observed}
 
--- The next stop of a task, and of what is noted on the way to it that which is of this pedigree, with what the eye had seen before.
+-- The next stop of a task, and of what is observed on the way to it that which is of this pedigree, with what the eye had seen before.
 pub record IsObserved (t : TaskView) (j : List ℕ) (before : Eye) (n : ObservedStop) : Type 0 where
   pub stop : IsStop t n.stop
   pub observation : meaning.Observation
@@ -21,19 +21,19 @@ pub record IsObserved (t : TaskView) (j : List ℕ) (before : Eye) (n : Observed
   pub eye : n.eye ≡ eye_after j before observation.items
   pub events : n.events ≡ events_at j (own_events observation.items)
   pub fault : n.fault ≡ observation.fault
-  pub joined : n.joined ≡ observation.joined
+  pub child_fault : n.child_fault ≡ observation.child_fault
 
--- these notes, and what a step shows of this pedigree
+-- what was observed so far, and what a step shows of this pedigree
 abbrev pub with_step : List ℕ → meaning.Observation → Observed → Observed
 with_step j step observation = record {
   eye = eye_after j observation.eye step.items;
   events = observation.events ++ events_at j (own_events step.items);
   fault = newest observation.fault step.fault;
-  joined = newest observation.joined step.joined;
+  child_fault = newest observation.child_fault step.child_fault;
 }
 
 -- what a move of an instance shows
 abbrev pub moved_observation : MoveResult → meaning.Observation
-moved_observation (moved.Went s) = record { items = effect_items (effects_of s); fault = None; joined = None }
+moved_observation (moved.Went s) = record { items = effect_items (effects_of s); fault = None; child_fault = None }
 moved_observation (moved.Returned v) = no_observation
-moved_observation (moved.Faulted f) = record { items = []; fault = Some f; joined = None }
+moved_observation (moved.Faulted f) = record { items = []; fault = Some f; child_fault = None }

@@ -6,16 +6,16 @@ use Rattle.serial_meaning.specs.declared.origin.Origin.{Origin}
 use Rattle.strand_meaning.specs.Machine as meaning
 use Rattle.strand_meaning.specs.Trace.{AwaitedChild, Trace}
 use Rattle.strand_machine.specs.declared.destination.Destination.{Destination}
-use Rattle.strand_machine.specs.declared.destination.Destination.TheVariants as place
+use Rattle.strand_machine.specs.declared.destination.Destination.TheVariants as destination
 use Rattle.strand_machine.specs.declared.trace.AfterChild.{AfterChild}
 
 abbrev pub destination_of : Destination → meaning.Destination
-destination_of (place.Spawned height target) = meaning.Spawned height target
-destination_of (place.Looped target) = meaning.Looped target
-destination_of place.Half = meaning.Half
+destination_of (destination.Spawned height target) = meaning.Spawned height target
+destination_of (destination.Looped target) = meaning.Looped target
+destination_of destination.Half = meaning.Half
 
 abbrev pub awaited_child : Origin → AfterChild → AwaitedChild
-awaited_child child b = record { child = child; place = destination_of b.place; after = b.events }
+awaited_child child b = record { child = child; destination = destination_of b.destination; after = b.events }
 
 abbrev pub awaited_children : List Origin → List AfterChild → List AwaitedChild
 awaited_children [] bs = []

@@ -79,13 +79,10 @@ Pauses t (paused.Spawn child rest) = IsStop t (stop.Spawn child rest)
 Pauses t (paused.Wait rest) = IsStop t (stop.Wait rest)
 Pauses t (paused.Ended rest) = HasEnded t rest
 
-abbrev pub advances : Option Outcome → TaskView → Stop → Type 0
-advances None t s = IsStop t s
-advances (Some ended) t s = IsCutEnd t ended s
-
 -- The next stop of a task that goes on, and else its end.
-abbrev pub Advances : TaskView → Stop → Type 0
-Advances t s = advances t.cut t s
+pub record Advances (t : TaskView) (s : Stop) : Type 0 where
+  pub goes_on : t.cut ≡ None → IsStop t s
+  pub has_ended : (ended : Outcome) → t.cut ≡ Some ended → IsCutEnd t ended s
 
 -- The task with the answers of its children, which are their evaluations.
 abbrev pub with_evaluations : TaskView → meaning.Task
@@ -117,14 +114,21 @@ pub record IsCutOn (answers : List AnswerView) (t next : TaskView) : Type 0 wher
   pub cut : next.cut ≡ ended_after (by_fault t.task.trace.fault) answers
   pub children : next.children ≡ t.children
 
-abbrev pub resumes : Bool → List AnswerView → TaskView → TaskView → Type 0
-resumes false answers t next = (next.task ≡ with_evaluations t) × (next.children ≡ t.children) × (next.cut ≡ None)
-resumes true answers t next = IsCutOn answers t next
+-- A task that took these answers, of which none is a cut, goes on with the evaluations.
+pub record IsOn (t next : TaskView) : Type 0 where
+  pub task : next.task ≡ with_evaluations t
+  pub children : next.children ≡ t.children
+  pub cut : next.cut ≡ None
+
+-- A task that took these answers.
+pub record ResumesBy (answers : List AnswerView) (t next : TaskView) : Type 0 where
+  pub whole : any_cut answers ≡ false → IsOn t next
+  pub cut : any_cut answers ≡ true → IsCutOn answers t next
 
 -- The wait is over, and the task took these answers of its children; or it is as it was, and a look has loaded a number that isn't 0.
 abbrev pub IsResumed : TaskView → Resumed → Type 0
 IsResumed t (resumed.On next) =
-    (answers : List AnswerView) × AreAnswersOf t.task.plan t.task.trace.handed answers × resumes (any_cut answers) answers t next × HasPassed t.loads next.loads
+    (answers : List AnswerView) × AreAnswersOf t.task.plan t.task.trace.handed answers × ResumesBy answers t next × HasPassed t.loads next.loads
 IsResumed t (resumed.NotYet same) = (same.task ≡ t.task) × (same.children ≡ t.children) × HasStopped t.loads same.loads × (same.cut ≡ t.cut)
 
 abbrev pub answer_tags : List AnswerView → List AnswerTag
@@ -135,10 +139,7 @@ answer_tags (answer ∷ answers) = tag answer.plan answer.origin ∷ answer_tags
 abbrev pub view_on : TaskView → TaskView
 view_on t = record t { task = with_evaluations t }
 
-abbrev pub went : Bool → List AnswerView → TaskView → TaskView → Type 0
-went false answers t next = next ≡ view_on t
-went true answers t next = IsCutOn answers t next × (next.loads ≡ t.loads)
-
--- the task once it went on with these answers of its children
-abbrev pub WentOn : List AnswerView → TaskView → TaskView → Type 0
-WentOn answers t next = went (any_cut answers) answers t next
+-- the task once it went on with these answers of its children, or ended by one that is a cut
+pub record WentOn (answers : List AnswerView) (t next : TaskView) : Type 0 where
+  pub whole : any_cut answers ≡ false → next ≡ view_on t
+  pub cut : any_cut answers ≡ true → IsCutOn answers t next × (next.loads ≡ t.loads)

@@ -51,13 +51,13 @@ stage_of plan (stage.ChildFaulted f) = meaning.Ended (Err (ChildFaulted f))
 abbrev pub work_of : PlanView → Work → meaning.Work
 work_of plan (work.Splits left) = meaning.Splits left.range
 work_of plan (work.Runs s) = meaning.Runs (stage_of plan s)
-work_of plan (work.Over v gone_on) = meaning.Over v gone_on
-work_of plan (work.Ends o) = meaning.Over (Int (pos 0)) true
+work_of plan (work.Finished v gone_on) = meaning.Finished v gone_on
+work_of plan (work.Ends o) = meaning.Finished (Int (pos 0)) true
 
 abbrev pub cut_of : Work → Option Outcome
 cut_of (work.Splits left) = None
 cut_of (work.Runs s) = None
-cut_of (work.Over v gone_on) = None
+cut_of (work.Finished v gone_on) = None
 cut_of (work.Ends o) = Some o
 
 abbrev pub is_cut_short : Option Outcome → Bool
@@ -106,7 +106,7 @@ StandsAt plan path (stage.ChildFaulted f) = Unit {0}
 abbrev pub WorksAt : PlanView → Origin → Work → Type 0
 WorksAt plan o (work.Splits left) = IsTrailOf plan o left.trail
 WorksAt plan o (work.Runs s) = StandsAt plan (path_of (own_instance o)) s
-WorksAt plan o (work.Over v gone_on) = Unit {0}
+WorksAt plan o (work.Finished v gone_on) = Unit {0}
 WorksAt plan o (work.Ends ended) = ⊥
 
 -- What holds of a task that goes on: it hasn't ended, and took no cut.
@@ -125,7 +125,7 @@ pub record IsCutShort (b : Body) (ended : Outcome) : Type 0 where
 abbrev pub Holds : Body → Work → Type 0
 Holds b (work.Splits left) = IsSound b (work.Splits left)
 Holds b (work.Runs s) = IsSound b (work.Runs s)
-Holds b (work.Over v gone_on) = IsSound b (work.Over v gone_on)
+Holds b (work.Finished v gone_on) = IsSound b (work.Finished v gone_on)
 Holds b (work.Ends ended) = IsCutShort b ended
 
 -- after a step; where it waits; where it handed out a child

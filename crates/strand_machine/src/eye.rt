@@ -1,6 +1,6 @@
 // What is seen of one pedigree in what an instance shows.
 ghost use Rattle.std.specs.Prelude.{◌≡◌, [], ◌∷◌, ◌++◌};
-ghost use Rattle.serial_meaning.specs.Open.{Happened, Opened, Closed, risen};
+ghost use Rattle.serial_meaning.specs.Open.{Happened, Opened, Closed, raised};
 ghost use Rattle.strand_meaning.specs.Strands.{ended_before, pedigree_of};
 ghost use Rattle.strand_machine.specs.Eyes.{ahead_of, new_eye, goes_to, is_none_ahead, less, eye_after};
 
@@ -121,7 +121,7 @@ fn rises_to_first(path: &Ped, at: &Pedigree) -> Option<u64>
 
 /// By how many rises the strand after this one comes to a pedigree.
 fn after(strand: &Pedigree, at: &Pedigree) -> Option<u64>
-    ensures { result ≡ ahead_of (risen strand.now) at.now }
+    ensures { result ≡ ahead_of (raised strand.now) at.now }
 {
     if strand.rank < at.rank && at.path.same(&strand.path) {
         Some(at.rank - strand.rank - 1)

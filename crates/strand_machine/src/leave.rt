@@ -81,21 +81,21 @@ fn hand_out(
     body: &mut Body,
     alloc: Global,
     child: Child,
-    place: Destination,
+    destination: Destination,
 ) -> Result<Task, Memory>
     requires known { IsOriginOf body.old.family.plan child.origin }
     requires trail { IsTrailOf body.old.family.plan child.origin child.trail }
     ensures child { IfOk result (λ task. task ≡ fresh body.old.family.plan child.origin) }
-    ensures body { OnOk result (body.new ≡ with_child body.old child.origin place) }
+    ensures body { OnOk result (body.new ≡ with_child body.old child.origin destination) }
 {
     let shared = match share_origin(alloc, &child.origin) {
         Ok(shared) => shared,
         Err(memory) => {
-            drop((child, place));
+            drop((child, destination));
             return Err(memory);
         }
     };
-    match body.trace.add_child(shared, place) {
+    match body.trace.add_child(shared, destination) {
         Ok(()) => {
             body.advanced = true;
             begin_child(&mut body.family, alloc, child)
@@ -113,17 +113,17 @@ pub(crate) fn spawn(
     parts: &mut Parts,
     alloc: Global,
     child: Child,
-    place: Destination,
+    destination: Destination,
     work: Work,
 ) -> Result<Passed, Memory>
     requires known { IsOriginOf parts.old.body.family.plan child.origin }
     requires trail { IsTrailOf parts.old.body.family.plan child.origin child.trail }
-    requires sound { IsSound (with_child parts.old.body child.origin place) work }
+    requires sound { IsSound (with_child parts.old.body child.origin destination) work }
     ensures made { let b = parts.old.body in IfOk result (λ passed. made parts.new passed
-        ≡ step.Stops (stop.Spawn (fresh b.family.plan child.origin) (view_of (with_child b child.origin place) work))) }
+        ≡ step.Stops (stop.Spawn (fresh b.family.plan child.origin) (view_of (with_child b child.origin destination) work))) }
     ensures sound { IfOk result (IsSoundMade parts.new) }
 {
-    match hand_out(&mut parts.body, alloc, child, place) {
+    match hand_out(&mut parts.body, alloc, child, destination) {
         Ok(child) => {
             set_work(&mut parts.work, work);
             Ok(Passed::Spawned(child))
@@ -144,7 +144,7 @@ pub(crate) fn returned(parts: &mut Parts, value: Value) -> Passed
     laws::steps_are_sound();
     match parts.body.family.origin() {
         Origin::Instance { .. } => Passed::Ends(Outcome::Value(value)),
-        Origin::Loop { .. } => pass(parts, Work::Over(value, false)),
+        Origin::Loop { .. } => pass(parts, Work::Finished(value, false)),
     }
 }
 

@@ -1,6 +1,6 @@
 // What the answers of children change.
 ghost use Rattle.std.specs.Prelude.{◌≡◌, ◌∷◌, ◌++◌, ◌||◌, [], Ok, IfOk, OnOk};
-ghost use Rattle.serial_meaning.specs.Eval.{first_of};
+ghost use Rattle.serial_meaning.specs.Eval.{first_value};
 ghost use Rattle.serial_meaning.specs.Plan.{PlanView};
 ghost use Rattle.strand_meaning.specs.Cuts.{or_ends};
 ghost use Rattle.strand_meaning.specs.Found.{FindsAt, functions_in};
@@ -41,7 +41,7 @@ fn is_cut(outcome: &Outcome) -> bool
 }
 
 /// The values of a loop's answer, or its fault.
-fn ending(alloc: Global, outcome: Outcome) -> Result<Result<Items<Value>, Fault>, Memory>
+fn result_of_outcome(alloc: Global, outcome: Outcome) -> Result<Result<Items<Value>, Fault>, Memory>
     ensures { IfOk result (λ ending. ending ≡ result_of_outcome outcome) }
 {
     Ok(match outcome {
@@ -53,8 +53,8 @@ fn ending(alloc: Global, outcome: Outcome) -> Result<Result<Items<Value>, Fault>
 }
 
 /// The first of an answer's values.
-fn first_of(values: Items<Value>) -> Value
-    ensures { result ≡ first_of values }
+fn first_value(values: Items<Value>) -> Value
+    ensures { result ≡ first_value values }
 {
     match values.0.into_iter().next() {
         Some(value) => value,
@@ -84,7 +84,7 @@ fn merge_spawned(
             plan,
             height,
             target.as_ref(),
-            first_of(values),
+            first_value(values),
         ),
         Outcome::Fault(fault) => instance.take_fault(height, fault),
         Outcome::Cut { by } => instance.take_fault(height, by),
@@ -92,7 +92,7 @@ fn merge_spawned(
 }
 
 /// The stage after the answer of a child that an instance spawned.
-fn spawned(
+fn spawned_stage(
     stage: &mut InstanceState,
     plan: &Plan,
     height: usize,
@@ -114,7 +114,7 @@ fn spawned(
 }
 
 /// The stage after the values of a loop of an instance.
-fn filled(
+fn fill_stage(
     stage: &mut InstanceState,
     alloc: Global,
     plan: &Plan,
@@ -149,8 +149,8 @@ fn looped(
     requires found { StageFinds plan.now (Looped target.now) (stage_of plan.now stage.old) }
     ensures { OnOk result (BecomesStage (takes (Looped target.now) (result_of_outcome outcome)) stage.old stage.new) }
 {
-    match ending(alloc, outcome)? {
-        Ok(values) => filled(stage, alloc, plan, target, &values),
+    match result_of_outcome(alloc, outcome)? {
+        Ok(values) => fill_stage(stage, alloc, plan, target, &values),
         Err(fault) => set(stage, InstanceState::ChildFaulted(fault)),
     }
     Ok(())
@@ -161,16 +161,16 @@ fn merge_stage(
     stage: &mut InstanceState,
     alloc: Global,
     plan: &Plan,
-    place: Destination,
+    destination: Destination,
     outcome: Outcome,
 ) -> Result<(), Memory>
     requires stands { Stands plan.now stage.old }
-    requires found { StageFinds plan.now (destination_of place) (stage_of plan.now stage.old) }
-    ensures { OnOk result (BecomesStage (takes (destination_of place) (result_of_outcome outcome)) stage.old stage.new) }
+    requires found { StageFinds plan.now (destination_of destination) (stage_of plan.now stage.old) }
+    ensures { OnOk result (BecomesStage (takes (destination_of destination) (result_of_outcome outcome)) stage.old stage.new) }
 {
-    match place {
+    match destination {
         Destination::Spawned(height, target) => {
-            spawned(stage, plan, height as usize, &target, outcome);
+            spawned_stage(stage, plan, height as usize, &target, outcome);
             Ok(())
         }
         Destination::Looped(target) => { looped(stage, alloc, plan, &target, outcome) }
@@ -186,28 +186,28 @@ fn merge_work(
     work: &mut Work,
     alloc: Global,
     plan: &Plan,
-    place: Destination,
+    destination: Destination,
     outcome: Outcome,
 ) -> Result<(), Memory>
     requires works { Works plan.now work.old }
-    requires found { WorkFinds plan.now (destination_of place) (work_of plan.now work.old) }
-    ensures { OnOk result (BecomesWork (with_stage (takes (destination_of place) (result_of_outcome outcome))) work.old work.new) }
+    requires found { WorkFinds plan.now (destination_of destination) (work_of plan.now work.old) }
+    ensures { OnOk result (BecomesWork (with_stage (takes (destination_of destination) (result_of_outcome outcome))) work.old work.new) }
 {
     match work {
         Work::Runs(stage) => {
-            merge_stage(stage, alloc, plan, place, outcome)?;
+            merge_stage(stage, alloc, plan, destination, outcome)?;
             Ok(())
         }
         Work::Splits(_) => {
-            drop((place, outcome));
+            drop((destination, outcome));
             Ok(())
         }
-        Work::Over(_, _) => {
-            drop((place, outcome));
+        Work::Finished(_, _) => {
+            drop((destination, outcome));
             Ok(())
         }
         Work::Ends(_) => {
-            drop((place, outcome));
+            drop((destination, outcome));
             Ok(())
         }
     }
@@ -290,18 +290,18 @@ fn merge_value(
     work: &mut Work,
     alloc: Global,
     plan: &Plan,
-    place: Destination,
+    destination: Destination,
     outcome: Outcome,
 ) -> Result<(), Memory>
     requires works { Works plan.now work.old }
-    requires found { WorkFinds plan.now (destination_of place) (work_of plan.now work.old) }
-    ensures values { OnOk result (values.new ≡ more_values (destination_of place) (result_of_outcome outcome) values.old) }
-    ensures work { OnOk result (BecomesWork (with_stage (takes (destination_of place) (result_of_outcome outcome))) work.old work.new) }
+    requires found { WorkFinds plan.now (destination_of destination) (work_of plan.now work.old) }
+    ensures values { OnOk result (values.new ≡ more_values (destination_of destination) (result_of_outcome outcome) values.old) }
+    ensures work { OnOk result (BecomesWork (with_stage (takes (destination_of destination) (result_of_outcome outcome))) work.old work.new) }
 {
-    if let Destination::Half = place {
+    if let Destination::Half = destination {
         return add(values, outcome);
     }
-    merge_work(work, alloc, plan, place, outcome)
+    merge_work(work, alloc, plan, destination, outcome)
 }
 
 /// A task that awaits no child any more takes a child's answer.
@@ -314,7 +314,7 @@ pub(crate) fn merge_answer(
 ) -> Result<(), Memory>
     requires handed { parts.old.body.trace.handed ≡ [] }
     requires works { Works parts.old.body.family.plan parts.old.work }
-    requires found { WorkFinds parts.old.body.family.plan (destination_of after.place) (work_of parts.old.body.family.plan parts.old.work) }
+    requires found { WorkFinds parts.old.body.family.plan (destination_of after.destination) (work_of parts.old.body.family.plan parts.old.work) }
     ensures takes { OnOk result (TakesAnswers (awaited_child answer.origin after ∷ []) (answer ∷ []) (merge_of parts.old heard.old) (merge_of parts.new heard.new)) }
     ensures rest { OnOk result (KeepsRest parts.old parts.new) }
 {
@@ -325,7 +325,10 @@ pub(crate) fn merge_answer(
         origin,
     } = answer;
     drop((own, origin));
-    let AfterChild { place, events } = after;
+    let AfterChild {
+        destination,
+        events,
+    } = after;
     let Parts { body, work } = parts;
     match heard.hear(&mut body.trace, out, events, &outcome) {
         Ok(()) => merge_value(
@@ -333,11 +336,11 @@ pub(crate) fn merge_answer(
             work,
             alloc,
             body.family.plan(),
-            place,
+            destination,
             outcome,
         ),
         Err(memory) => {
-            drop((place, outcome));
+            drop((destination, outcome));
             Err(memory)
         }
     }

@@ -40,7 +40,7 @@ pub struct ObservedStop {
     /// The task's own fault, if it came in this call.
     pub fault: Option<Fault>,
     /// The least fault of the children for which the task waited, if the task ended by it in this call.
-    pub joined: Option<Fault>,
+    pub child_fault: Option<Fault>,
 }
 
 /// What is observed on the way.
@@ -49,7 +49,7 @@ pub(crate) struct Observed {
     pub eye: Eye,
     pub events: Out,
     pub fault: Option<Fault>,
-    pub joined: Option<Fault>,
+    pub child_fault: Option<Fault>,
 }
 
 /// The same event. Its pedigree shares its memory.
@@ -69,13 +69,13 @@ fn share_event(event: &Event) -> Result<Event, Memory>
 impl Observed {
     /// Nothing yet.
     fn new(eye: Eye) -> Observed
-        ensures { result ≡ record { eye = eye; events = []; fault = None; joined = None } }
+        ensures { result ≡ record { eye = eye; events = []; fault = None; child_fault = None } }
     {
         Observed {
             eye,
             events: Out::new(),
             fault: None,
-            joined: None,
+            child_fault: None,
         }
     }
 
@@ -166,7 +166,7 @@ fn run_observed(
     match stage {
         InstanceState::Running(instance) => go_observed(parts, alloc, at, instance, observation),
         InstanceState::ChildFaulted(fault) => {
-            set(&mut observation.joined, Some(fault.share()?));
+            set(&mut observation.child_fault, Some(fault.share()?));
             run(parts, alloc, InstanceState::ChildFaulted(fault))
         }
         stage => run(parts, alloc, stage),
@@ -254,14 +254,14 @@ impl Task {
                         eye,
                         events,
                         fault,
-                        joined,
+                        child_fault,
                     } = observation;
                     return Ok(ObservedStop {
                         stop,
                         eye,
                         events,
                         fault,
-                        joined,
+                        child_fault,
                     });
                 }
             }

@@ -19,7 +19,7 @@ pub(crate) fn set_work(place: &mut Work, work: Work)
     ensures { place.new ≡ work }
 {
     match mem::replace(place, work) {
-        Work::Over(value, _) => drop(value),
+        Work::Finished(value, _) => drop(value),
         was => drop(was),
     }
 }

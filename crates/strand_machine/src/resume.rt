@@ -49,7 +49,7 @@ fn take_answers(
 }
 
 /// An instance at a sync goes on, or ends by the least fault of the children for which it waited.
-fn join(instance: Instance) -> Result<InstanceState, Memory>
+fn pass_sync(instance: Instance) -> Result<InstanceState, Memory>
     ensures { IfOk result (BecomesStage resumed (stage.AtSync instance)) }
 {
     let fault = match instance.faulted() {
@@ -64,7 +64,7 @@ fn go_on_stage(stage: InstanceState) -> Result<InstanceState, Memory>
     ensures { IfOk result (BecomesStage resumed stage) }
 {
     match stage {
-        InstanceState::AtSync(instance) => join(instance),
+        InstanceState::AtSync(instance) => pass_sync(instance),
         InstanceState::AtLoop(instance) => Ok(InstanceState::Running(instance)),
         stage => Ok(stage),
     }
@@ -81,7 +81,7 @@ fn go_on_work(work: &mut Work) -> Result<(), Memory>
             set(stage, go_on_stage(was)?);
             Ok(())
         }
-        Work::Over(_, gone_on) => {
+        Work::Finished(_, gone_on) => {
             *gone_on = true;
             Ok(())
         }

@@ -49,9 +49,9 @@ fn show_spawn(
         height,
         target,
     } = spawned;
-    let place = Destination::Spawned(height, target);
+    let destination = Destination::Spawned(height, target);
     let next = Work::Runs(InstanceState::Running(instance));
-    spawn(parts, alloc, child, place, next)
+    spawn(parts, alloc, child, destination, next)
 }
 
 /// What a move showed joins the trace; a child is handed out.
@@ -85,9 +85,9 @@ pub(crate) fn show(
         Effects::Looped { event, looped } => {
             parts.body.trace.emit(alloc, event)?;
             let LoopedChild { child, target } = unboxed(looped);
-            let place = Destination::Looped(target);
+            let destination = Destination::Looped(target);
             let next = Work::Runs(InstanceState::AtLoop(instance));
-            spawn(parts, alloc, child, place, next)
+            spawn(parts, alloc, child, destination, next)
         }
     }
 }

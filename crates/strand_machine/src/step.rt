@@ -62,8 +62,8 @@ fn end_loop_with(body: &mut Body, alloc: Global, value: Value) -> Result<Passed,
 
 /// A loop whose last iteration gave this value. Where it handed out a part it waits for it first.
 fn end_loop(parts: &mut Parts, alloc: Global, value: Value, gone_on: bool) -> Result<Passed, Memory>
-    requires { IsSound parts.old.body (work.Over value gone_on) }
-    ensures step { IfOk result (λ passed. IsStep (view_of parts.old.body (work.Over value gone_on)) (made parts.new passed)) }
+    requires { IsSound parts.old.body (work.Finished value gone_on) }
+    ensures step { IfOk result (λ passed. IsStep (view_of parts.old.body (work.Finished value gone_on)) (made parts.new passed)) }
     ensures sound { IfOk result (IsSoundMade parts.new) }
 {
     laws::steps_are_sound();
@@ -71,7 +71,7 @@ fn end_loop(parts: &mut Parts, alloc: Global, value: Value, gone_on: bool) -> Re
         return end_loop_with(&mut parts.body, alloc, value);
     }
     if parts.body.is_long() {
-        return Ok(wait(parts, Work::Over(value, false)));
+        return Ok(wait(parts, Work::Finished(value, false)));
     }
     end_loop_with(&mut parts.body, alloc, value)
 }
@@ -108,7 +108,7 @@ pub(crate) fn pass_with(parts: &mut Parts, alloc: Global, work: Work) -> Result<
     match work {
         Work::Splits(left) => split(parts, alloc, left),
         Work::Runs(stage) => run(parts, alloc, stage),
-        Work::Over(value, gone_on) => end_loop(parts, alloc, value, gone_on),
+        Work::Finished(value, gone_on) => end_loop(parts, alloc, value, gone_on),
         Work::Ends(_) => unreachable!(),
     }
 }
@@ -151,7 +151,7 @@ pub(crate) fn stepped(parts: Box<Parts>, passed: Passed) -> MoveOrStop
 {
     match passed {
         Passed::Goes => MoveOrStop::Passes(Task { parts }),
-        passed => MoveOrStop::Stops(stopped(parts, passed)),
+        passed => MoveOrStop::Stops(to_stop(parts, passed)),
     }
 }
 
@@ -175,7 +175,7 @@ pub(crate) fn run_on(parts: &mut Parts, alloc: Global) -> Result<Passed, Memory>
 
 /// The stop of a task that came to one.
 #[inline(always)]
-pub(crate) fn stopped(parts: Box<Parts>, passed: Passed) -> Stop
+pub(crate) fn to_stop(parts: Box<Parts>, passed: Passed) -> Stop
     requires sound { IsSoundMade parts.value passed }
     requires stops { IsStopped passed }
     ensures { MoveOrStop.Stops result ≡ made parts.value passed }

@@ -14,7 +14,7 @@ use strand_moves::EventSink;
 /// Where a child's value goes, and the task's own events after it, up to the next child.
 #[derive(Drop)]
 pub(crate) struct AfterChild {
-    pub place: Destination,
+    pub destination: Destination,
     pub events: Out,
 }
 
@@ -84,8 +84,8 @@ impl Trace {
 
     /// One more child.
     #[tactic(auto, using(crate::proofs::Moves::Handed::parts_more))]
-    pub fn add_child(&mut self, child: Origin, place: Destination) -> Result<(), Memory>
-        ensures { OnOk result (self.new ≡ add_child child (destination_of place) self.old) }
+    pub fn add_child(&mut self, child: Origin, destination: Destination) -> Result<(), Memory>
+        ensures { OnOk result (self.new ≡ add_child child (destination_of destination) self.old) }
     {
         let room = if self.after.is_empty() {
             // most tasks hand out one or two children before they wait, and a list would begin with room for four
@@ -102,13 +102,13 @@ impl Trace {
         match room {
             Ok(()) => {}
             Err(error) => {
-                drop((child, place));
+                drop((child, destination));
                 return Err(error.into());
             }
         }
         self.awaited.0.push_reserved(child);
         self.after.push_reserved(AfterChild {
-            place,
+            destination,
             events: Out::new(),
         });
         Ok(())

@@ -54,7 +54,7 @@ pub(crate) enum Work {
     /// An instance: the task's own, or the loop's last iteration.
     Runs(InstanceState),
     /// Nothing of a loop whose last iteration gave this value. It is known whether the task has gone on from the wait at its end.
-    Over(Value, bool),
+    Finished(Value, bool),
     /// Nothing of a task that has ended, or that took a cut for an answer. It ends so.
     Ends(Outcome),
 }
@@ -62,7 +62,7 @@ pub(crate) enum Work {
 impl Work {
     /// What stands in a task's parts while what remains is taken out of them.
     pub fn nothing() -> Work {
-        Work::Over(Value::Int(0), true)
+        Work::Finished(Value::Int(0), true)
     }
 
     /// Takes out an instance that goes on, where one remains.

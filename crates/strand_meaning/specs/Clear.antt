@@ -88,14 +88,14 @@ IsSimple (act.Pfor x lo hi target c) = Unit {0}
 IsSimple (act.Scope a) = ⊥
 
 -- Where these variables are pending the statements touch none that is pending before it, and at their end no others are pending than
--- those of the last list. A loop's condition and body are judged with all that is pending before one of its turns. A scope ends with a sync.
+-- those of the last list. A loop's condition and body are judged with all that is pending before one of its iterations. A scope ends with a sync.
 pub data IsClear : Names → List Stmt → Names → Type 0 where
   Nothing : {pending ends : Names} → IsWithin pending ends → IsClear pending [] ends
   Simple : {pending ends : Names} {st : Stmt} {sts : List Stmt} (a : Act-F Act Stmt) → out-Act (out-Stmt st).act ≡ a → IsSimple a →
       IsApart (touched a) pending → IsClear (pending_after a pending) sts ends → IsClear pending (st ∷ sts) ends
   Branches : {pending ends : Names} {st : Stmt} {sts : List Stmt} (e : Expr) (yes no : List Stmt) (both : Names) → out-Act (out-Stmt st).act ≡ act.If e yes no →
       IsApart (names_in e) pending → IsClear pending yes both → IsClear pending no both → IsClear both sts ends → IsClear pending (st ∷ sts) ends
-  Turns : {pending ends : Names} {st : Stmt} {sts : List Stmt} (e : Expr) (body : List Stmt) (all : Names) → out-Act (out-Stmt st).act ≡ act.While e body →
+  Repetitions : {pending ends : Names} {st : Stmt} {sts : List Stmt} (e : Expr) (body : List Stmt) (all : Names) → out-Act (out-Stmt st).act ≡ act.While e body →
       IsWithin pending all → IsApart (names_in e) all → IsClear all body all → IsClear all sts ends → IsClear pending (st ∷ sts) ends
   Levels : {pending ends : Names} {st : Stmt} {sts : List Stmt} (block : List Stmt) (left : Names) → out-Act (out-Stmt st).act ≡ act.Scope block →
       IsClear pending block left → IsClear [] sts ends → IsClear pending (st ∷ sts) ends

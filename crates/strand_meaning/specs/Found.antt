@@ -6,7 +6,7 @@ use Rattle.script_grammar.specs.declared.tree.Name.{Name}
 use Rattle.serial_meaning.specs.Functions.{function_at}
 use Rattle.serial_meaning.specs.Plan.{PlanView, functions_of}
 use Rattle.strand_meaning.specs.Machine.{Destination, Spawned, Looped, Half, Machine}
-use Rattle.strand_meaning.specs.Task.{InstanceState, Running, AtSync, AtLoop, Ended, Work, Splits, Runs, Over}
+use Rattle.strand_meaning.specs.Task.{InstanceState, Running, AtSync, AtLoop, Ended, Work, Splits, Runs, Finished}
 use Rattle.strand_meaning.specs.Trace.{AwaitedChild}
 
 -- the numbers of the functions of a machine's frames, the innermost first
@@ -23,7 +23,7 @@ functions_at (Ended ended) = []
 abbrev pub functions_left : Work → List ℕ
 functions_left (Splits left) = []
 functions_left (Runs stage) = functions_at stage
-functions_left (Over v gone_on) = []
+functions_left (Finished v gone_on) = []
 
 abbrev pub variables_in : Option Function → List (List ℕ)
 variables_in None = []
@@ -51,7 +51,7 @@ FindsDestination plan functions Half = Unit {0}
 
 abbrev pub FindsTargets : PlanView → List ℕ → List AwaitedChild → Type 0
 FindsTargets plan functions [] = Unit {0}
-FindsTargets plan functions (p ∷ ps) = FindsDestination plan functions p.place × FindsTargets plan functions ps
+FindsTargets plan functions (p ∷ ps) = FindsDestination plan functions p.destination × FindsTargets plan functions ps
 
 -- the plan's tables have all that its functions name
 abbrev pub IsFoundPlan : PlanView → Type 0

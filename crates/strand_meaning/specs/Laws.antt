@@ -74,7 +74,7 @@ changed_run change r = record { items = r.items; ending = on_reached change r.en
 abbrev pub MovesLeaveUnfilledAlone : Type 0
 MovesLeaveUnfilledAlone =
     (plan : PlanView) (path : List ℕ) (parts : List AwaitedChild) (m : Machine) (p : AwaitedChild) (owner : ℕ) (target : Option Name) (ended : Result (List Value) Fault) →
-    IsSoundStage plan parts (Running m) → Contains parts p → p.place ≡ Spawned owner target →
+    IsSoundStage plan parts (Running m) → Contains parts p → p.destination ≡ Spawned owner target →
     move plan path (changed owner (frame_with_answer target ended) m) ≡ changed_run (changed owner (frame_with_answer target ended)) (move plan path m)
 
 -- The unfilled variables of each frame of a task are in the set by which validity judges the statement at which it stands; at an implied sync,
@@ -133,11 +133,11 @@ Fits plan (Loop function rest first path range) = length path + 2 ≤ plan.limit
 abbrev pub OriginsFit : Type 0
 OriginsFit = (plan : PlanView) (o : Origin) → 1 ≤ plan.limits.depth → IsOriginOf plan o → Fits plan o
 
--- Of a task that wasn't advanced nothing is to be noted.
+-- Of a task that wasn't advanced nothing is to be observed.
 abbrev pub ObservationBegins : Type 0
 ObservationBegins = (plan : PlanView) (o : Origin) → IsInstance o → IsOnWay no_observation (start plan o)
 
--- With what is noted up to a stop all is noted of the task there, and at the end its whole node.
+-- With what is observed up to a stop all is observed of the task there, and at the end its whole node.
 abbrev pub ObservationGoesOn : Type 0
 ObservationGoesOn = (t : Task) (observation later : Observation) (stop : Stop) → IsTask t → IsInstance t.origin → IsOnWay observation t → Shows t later stop → OnWay (also observation later) t stop
 

@@ -9,7 +9,7 @@ use Rattle.serial_meaning.specs.declared.event.Event.TheVariants as event
 use Rattle.serial_meaning.specs.declared.origin.Origin.{Origin}
 use Rattle.strand_meaning.specs.Machine.{Frame, Machine}
 use Rattle.strand_meaning.specs.Trace.{AwaitedChild}
-use Rattle.strand_meaning.specs.Task.{InstanceState, Running, AtSync, AtLoop, Ended, Work, Splits, Runs, Over, Task, begins_last, own_instance}
+use Rattle.strand_meaning.specs.Task.{InstanceState, Running, AtSync, AtLoop, Ended, Work, Splits, Runs, Finished, Task, begins_last, own_instance}
 use Rattle.strand_meaning.specs.Rest.{children_of, rest_open}
 
 abbrev pub event_stops : Event → ℕ
@@ -49,13 +49,13 @@ module _ (plan : PlanView) (child : Origin → Evaluation) (path : List ℕ) (wa
 abbrev pub work_stops : PlanView → Origin → Bool → List AwaitedChild → Work → ℕ
 work_stops plan o waiting parts (Splits left) = 1
 work_stops plan o waiting parts (Runs stage) = 2 + stage_stops plan (children_of plan (own_instance o)) (path_of (own_instance o)) waiting parts stage
-work_stops plan o waiting parts (Over v false) = at_wait waiting + 1
-work_stops plan o waiting parts (Over v true) = 1
+work_stops plan o waiting parts (Finished v false) = at_wait waiting + 1
+work_stops plan o waiting parts (Finished v true) = 1
 
 abbrev pub stops_of : PlanView → Origin → Bool → List AwaitedChild → Work → ℕ
 stops_of plan o waiting parts (Splits left) = (left.hi - left.lo) + work_stops plan o false [] (begins_last plan o)
 stops_of plan o waiting parts (Runs stage) = work_stops plan o waiting parts (Runs stage)
-stops_of plan o waiting parts (Over v gone_on) = work_stops plan o waiting parts (Over v gone_on)
+stops_of plan o waiting parts (Finished v gone_on) = work_stops plan o waiting parts (Finished v gone_on)
 
 abbrev pub stops_left : Task → ℕ
 stops_left t = stops_of t.plan t.origin t.waiting t.trace.handed t.work
@@ -84,7 +84,7 @@ stage_moves (Ended e) = 1
 abbrev pub work_moves : PlanView → Work → ℕ
 work_moves plan (Splits left) = 3 + 3 * plan.limits.budget
 work_moves plan (Runs stage) = stage_moves stage
-work_moves plan (Over v gone_on) = 0
+work_moves plan (Finished v gone_on) = 0
 
 abbrev pub moves_left : Task → ℕ
 moves_left t = work_moves t.plan t.work

@@ -1,5 +1,5 @@
 -- An instance as a machine: a stack of frames that does one thing at a time. What a statement does is the text of the serial
--- elision and of the open tree, in a third manner: children are handed out, and what stands inside a block, a turn or a callee is what
+-- elision and of the open tree, in a third manner: children are handed out, and what stands inside a block, an iteration or a callee is what
 -- the machine does next.
 use Rattle.std.specs.Prelude.{ℕ, Bool, true, false, List, [], ◌∷◌, ◌++◌, Option, Some, None, Result, Ok, Err, length}
 use Rattle.std.specs.Prelude.{pos}
@@ -16,7 +16,7 @@ use Rattle.serial_meaning.specs.Runs.{Run, done, run_ends_by, happens}
 use Rattle.serial_meaning.specs.Values.{Env, value_of}
 use Rattle.serial_meaning.specs.Functions.{number_of, function_at}
 use Rattle.serial_meaning.specs.Plan.{PlanView, functions_of}
-use Rattle.serial_meaning.specs.Exec.{State, Manner, BlockMeaning, with_slot, bound, unless_fault, paid, implied, join_at, goes_out, statement}
+use Rattle.serial_meaning.specs.Exec.{State, Manner, BlockMeaning, with_slot, bound, unless_fault, paid, implied, sync_at, goes_out, statement}
 use Rattle.serial_meaning.specs.Open.{filler, is_empty_loop}
 use Rattle.serial_meaning.specs.declared.value.Value.{Value}
 use Rattle.serial_meaning.specs.declared.value.Value.TheVariants.{Int}
@@ -51,8 +51,8 @@ pub data Exit : Type 0 where
   Inside : List ℕ → ℕ → List Stmt → State Bool → Exit
 
 abbrev pub loop_effects : Bool → Origin → Destination → List Effect
-loop_effects true o place = []
-loop_effects false o place = Handed o place ∷ Loops ∷ []
+loop_effects true o destination = []
+loop_effects false o destination = Handed o destination ∷ Loops ∷ []
 
 abbrev pub sync_effects : Bool → List Effect
 sync_effects true = Syncs ∷ []
@@ -61,14 +61,14 @@ sync_effects false = []
 -- Children are handed out, and a filler stands for a spawned child's value. A loop's values aren't put in yet. It is known whether
 -- there was a spawn since the last sync, and a sync waits only then.
 abbrev pub handing : PlanView → Destination → Manner Effect Exit Bool
-handing plan place = record {
+handing plan destination = record {
   event = Emitted;
   opens = λ j. Opens j ∷ [];
   closes = λ j. Closes j ∷ [];
   own = Faulted;
   none = false;
-  spawn = λ o k. happens (Handed o place) (filler plan o, true);
-  loop = λ o. record { items = loop_effects (is_empty_loop o) o place; ending = Ok [] };
+  spawn = λ o k. happens (Handed o destination) (filler plan o, true);
+  loop = λ o. record { items = loop_effects (is_empty_loop o) o destination; ending = Ok [] };
   sync = λ k. record { items = sync_effects k; ending = Ok false };
 }
 
@@ -186,7 +186,7 @@ module _ (plan : PlanView) where
     below = record m.top { left = left } ∷ m.below;
   }
 
-  -- what a statement goes inside to: a callee's body, the turn of a loop, which then stands again, a scope, or a block
+  -- what a statement goes inside to: a callee's body, the body of a loop, which then stands again, a scope, or a block
   abbrev pub machine_inside : Stmt → Act-F Act Stmt → List Stmt → Machine → List Stmt → State Bool → Machine
   machine_inside st (act.Let x (right.Call at c)) left m inner s = calling (Some x) c left m inner s
   machine_inside st (act.Set x (right.Call at c)) left m inner s = calling (Some x) c left m inner s
@@ -233,7 +233,7 @@ module _ (plan : PlanView) where
     abbrev pub level_move : Machine → Level → List Level → Bool → Run Effect Fault Reached
     level_move m l ls false =
         let how = handing plan (Spawned (length m.below) None) in
-        let r = join_at how plan (present path m.below) (here_of path m) (state_of m) in
+        let r = sync_at how plan (present path m.below) (here_of path m) (state_of m) in
         record { items = r.items; ending = reached (with_leaving m) (λ inner s. m) r.ending }
     level_move m l ls true =
         let how = handing plan (Spawned (length m.below) None) in

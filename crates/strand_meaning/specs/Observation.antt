@@ -9,9 +9,9 @@ use Rattle.serial_meaning.specs.declared.origin.Origin.{Origin}
 use Rattle.serial_meaning.specs.declared.origin.Origin.TheVariants.{Instance, Loop}
 use Rattle.strand_meaning.specs.Machine.{Effect, Opens, Closes, Emitted, Handed, Syncs, Loops, Reached, move}
 use Rattle.strand_meaning.specs.Trace.{AwaitedChild}
-use Rattle.strand_meaning.specs.Task.{InstanceState, Running, AtSync, AtLoop, Ended, Work, Splits, Runs, Over, Task, own_instance, Passes, Stops, Stop, Spawn, Wait, End, step}
+use Rattle.strand_meaning.specs.Task.{InstanceState, Running, AtSync, AtLoop, Ended, Work, Splits, Runs, Finished, Task, own_instance, Passes, Stops, Stop, Spawn, Wait, End, step}
 use Rattle.strand_meaning.specs.Rest.{children_of, rest_open}
-use Rattle.strand_meaning.specs.Strands.{joined_fault}
+use Rattle.strand_meaning.specs.Strands.{fault_of_child}
 
 -- The node
 
@@ -24,37 +24,37 @@ IsInstance (Loop function rest first path range) = ⊥
 abbrev pub work_left : PlanView → Origin → List AwaitedChild → Work → Node
 work_left plan o parts (Splits left) = done []
 work_left plan o parts (Runs stage) = rest_open plan (children_of plan o) (path_of o) parts stage then λ v. done (v ∷ [])
-work_left plan o parts (Over v gone_on) = done []
+work_left plan o parts (Finished v gone_on) = done []
 
 abbrev pub node_left : Task → Node
 node_left t = work_left t.plan t.origin t.trace.handed t.work
 
--- Notes
+-- Observations
 
--- What is noted of a task: the items of the open tree that it showed, the instance's own fault, where that came, and the fault of a child by
+-- What is observed of a task: the items of the open tree that it showed, the instance's own fault, where that came, and the fault of a child by
 -- which it ended, where it did.
 pub record Observation : Type 0 where
   pub items : List Item
   pub fault : Option Fault
-  pub joined : Option Fault
+  pub child_fault : Option Fault
 
 abbrev pub no_observation : Observation
-no_observation = record { items = []; fault = None; joined = None }
+no_observation = record { items = []; fault = None; child_fault = None }
 
 abbrev pub newest : Option Fault → Option Fault → Option Fault
 newest old None = old
 newest old (Some f) = Some f
 
--- notes, and later ones
+-- observations, and later ones
 abbrev pub also : Observation → Observation → Observation
-also observation later = record { items = observation.items ++ later.items; fault = newest observation.fault later.fault; joined = newest observation.joined later.joined }
+also observation later = record { items = observation.items ++ later.items; fault = newest observation.fault later.fault; child_fault = newest observation.child_fault later.child_fault }
 
 abbrev pub effect_items : List Effect → List Item
 effect_items [] = []
 effect_items (Opens j ∷ ts) = Opened j ∷ effect_items ts
 effect_items (Closes j ∷ ts) = Closed j ∷ effect_items ts
 effect_items (Emitted e ∷ ts) = Happened e ∷ effect_items ts
-effect_items (Handed o place ∷ ts) = Child o ∷ effect_items ts
+effect_items (Handed o destination ∷ ts) = Child o ∷ effect_items ts
 effect_items (Syncs ∷ ts) = effect_items ts
 effect_items (Loops ∷ ts) = effect_items ts
 
@@ -64,36 +64,36 @@ move_fault (Err f) = Some f
 
 -- what one move or stop shows: a move its effects and the instance's own fault, and an end the fault of a child
 abbrev pub stage_observation : PlanView → List ℕ → InstanceState → Observation
-stage_observation plan path (Running m) = let r = move plan path m in record { items = effect_items r.items; fault = move_fault r.ending; joined = None }
+stage_observation plan path (Running m) = let r = move plan path m in record { items = effect_items r.items; fault = move_fault r.ending; child_fault = None }
 stage_observation plan path (AtSync m) = no_observation
 stage_observation plan path (AtLoop m) = no_observation
 stage_observation plan path (Ended (Ok v)) = no_observation
 stage_observation plan path (Ended (Err (Own f))) = no_observation
-stage_observation plan path (Ended (Err (ChildFaulted f))) = record { items = []; fault = None; joined = Some f }
+stage_observation plan path (Ended (Err (ChildFaulted f))) = record { items = []; fault = None; child_fault = Some f }
 
 abbrev pub work_observation : PlanView → List ℕ → Work → Observation
 work_observation plan path (Splits left) = no_observation
 work_observation plan path (Runs stage) = stage_observation plan path stage
-work_observation plan path (Over v gone_on) = no_observation
+work_observation plan path (Finished v gone_on) = no_observation
 
 abbrev pub step_observation : Task → Observation
 step_observation t = work_observation t.plan (path_of (own_instance t.origin)) t.work
 
--- the stop that a task comes to, at once or after moves, with what is noted on the way
+-- the stop that a task comes to, at once or after moves, with what is observed on the way
 pub data Shows : Task → Observation → Stop → Type 0 where
   Now : {t : Task} {observation : Observation} {stop : Stop} → step t ≡ Stops stop → observation ≡ step_observation t → Shows t observation stop
   Later : {t : Task} {observation : Observation} {stop : Stop} (next : Task) (later : Observation) → step t ≡ Passes next → Shows next later stop → observation ≡ also (step_observation t) later → Shows t observation stop
 
--- What notes say of the instance's strands
+-- What observations say of the instance's strands
 
 abbrev pub places_unless : Option Fault → List (List ℕ) → List (List ℕ)
 places_unless None js = js
 places_unless (Some f) js = without_last js
 
--- The pedigrees to which an instance with this path came by what is noted. While it waits for children it is already at the one after the
+-- The pedigrees to which an instance with this path came by what is observed. While it waits for children it is already at the one after the
 -- wait; where it ends by the fault of a child it never came there.
 abbrev pub places_observed : List ℕ → Observation → List (List ℕ)
-places_observed path observation = places_unless observation.joined ((path ++ 0 ∷ []) ∷ led_to (path ++ 0 ∷ []) observation.items)
+places_observed path observation = places_unless observation.child_fault ((path ++ 0 ∷ []) ∷ led_to (path ++ 0 ∷ []) observation.items)
 
 -- A task on its way
 
@@ -112,19 +112,19 @@ stage_fault (Ended e) = own_fault_of e
 abbrev pub work_fault : Work → Option Fault
 work_fault (Splits left) = None
 work_fault (Runs stage) = stage_fault stage
-work_fault (Over v gone_on) = None
+work_fault (Finished v gone_on) = None
 
--- All that a task of an instance showed since it began is noted: its node is that, and then the node of what is left.
+-- All that a task of an instance showed since it began is observed: its node is that, and then the node of what is left.
 pub record IsOnWay (observation : Observation) (t : Task) : Type 0 where
   pub node : opened t.plan t.origin ≡ after_items observation.items (node_left t)
   pub fault : observation.fault ≡ work_fault t.work
-  pub joined : observation.joined ≡ None
+  pub child_fault : observation.child_fault ≡ None
 
--- All that an instance showed is noted: its node has these items and ends by these faults.
+-- All that an instance showed is observed: its node has these items and ends by these faults.
 pub record IsAllObserved (plan : PlanView) (o : Origin) (observation : Observation) : Type 0 where
   pub items : (opened plan o).items ≡ observation.items
   pub fault : own_fault_of (opened plan o).ending ≡ observation.fault
-  pub joined : joined_fault (opened plan o).ending ≡ observation.joined
+  pub child_fault : fault_of_child (opened plan o).ending ≡ observation.child_fault
 
 abbrev pub OnWay : Observation → Task → Stop → Type 0
 OnWay observation t (Spawn child rest) = IsOnWay observation rest

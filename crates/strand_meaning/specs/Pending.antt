@@ -40,15 +40,15 @@ pub data FrameStandsAt (body : List Stmt) : List Level → List Stmt → check.N
   InScope : {level : Level} {levels : List Level} {st : Stmt} {block left : List Stmt} {before now : check.NameSet} →
       FrameStandsAt body levels (st ∷ level.left) before → act_of st ≡ act.Scope block → ComesTo before block left now → FrameStandsAt body (level ∷ levels) left now
 
--- the set by which a statement is judged: a `while` by all that is pending before one of its turns
+-- the set by which a statement is judged: a `while` by all that is pending before one of its iterations
 abbrev pub judged_by : Act-F Act Stmt → check.NameSet → check.NameSet
 judged_by (act.While e body) now = union now (after body now)
 judged_by _ now = now
 
 -- the set by which the first of these statements is judged, or the one at their end
-abbrev pub set_at : List Stmt → check.NameSet → check.NameSet
-set_at [] now = now
-set_at (st ∷ sts) now = judged_by (act_of st) now
+abbrev pub judging_set : List Stmt → check.NameSet → check.NameSet
+judging_set [] now = now
+judging_set (st ∷ sts) now = judged_by (act_of st) now
 
 -- The frame stands where these statements are left of its function, and each of the variables is in the set that validity has there.
 pub record ArePending (plan : PlanView) (names : Names) (a : Frame) (left : List Stmt) : Type 0 where
@@ -56,7 +56,7 @@ pub record ArePending (plan : PlanView) (names : Names) (a : Frame) (left : List
   pub of_plan : function_at (functions_of plan) a.function ≡ Some function
   pub now : check.NameSet
   pub stands : FrameStandsAt function.body a.levels left now
-  pub pending : (name : List ℕ) → Contains names name → set_at left now name ≡ true
+  pub pending : (name : List ℕ) → Contains names name → judging_set left now name ≡ true
 
 -- the frame stands still at the statement before those that are left to it
 pub record ArePendingStill (plan : PlanView) (names : Names) (a : Frame) (IsSuch : Act-F Act Stmt → Type 0) : Type 0 where

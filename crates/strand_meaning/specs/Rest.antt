@@ -8,7 +8,7 @@ use Rattle.serial_meaning.specs.Values.{value_of}
 use Rattle.serial_meaning.specs.Functions.{function_at}
 use Rattle.serial_meaning.specs.Plan.{PlanView, functions_of}
 use Rattle.serial_meaning.specs.Exec.{State, unless_fault, paid, implied, goes_out, leaves, exec}
-use Rattle.serial_meaning.specs.Eval.{Evaluation, path_of, turns, eval_below, eval, depth_left}
+use Rattle.serial_meaning.specs.Eval.{Evaluation, path_of, loop_evaluation, eval_below, eval, depth_left}
 use Rattle.serial_meaning.specs.Open.{Item, Happened, Child, Opened, Closed, NodeFault, Own, ChildFaulted, put_off_all}
 use Rattle.serial_meaning.specs.declared.value.Value.{Value}
 use Rattle.serial_meaning.specs.declared.value.Value.TheVariants.{Int}
@@ -20,7 +20,7 @@ use Rattle.loop_range.specs.Range.{Range}
 use Rattle.script_check.specs.Spawns.{spawns_in}
 use Rattle.strand_meaning.specs.Machine.{Level, Frame, Machine, inside_of, present, with_scalar}
 use Rattle.strand_meaning.specs.Trace.{AwaitedChild, Trace}
-use Rattle.strand_meaning.specs.Task.{InstanceState, Running, AtSync, AtLoop, Ended, Work, Splits, Runs, Over, Task, own_instance, takes_all, resumed, more_values}
+use Rattle.strand_meaning.specs.Task.{InstanceState, Running, AtSync, AtLoop, Ended, Work, Splits, Runs, Finished, Task, own_instance, takes_all, resumed, more_values}
 
 -- what an origin's children give: their evaluations
 abbrev pub children_of : PlanView → Origin → Origin → Evaluation
@@ -131,12 +131,12 @@ module _ (child : Origin → Evaluation) where
   -- the children's evaluations and the events after them, with the values of a loop's parts after those that were taken
   abbrev pub parts_run : List AwaitedChild → List Value → Run Event Fault (List Value)
   parts_run [] values = done values
-  parts_run (p ∷ ps) values = child p.child then λ vs. after_items p.after (parts_run ps (more_values p.place (Ok vs) values))
+  parts_run (p ∷ ps) values = child p.child then λ vs. after_items p.after (parts_run ps (more_values p.destination (Ok vs) values))
 
   -- the iterations of a loop that nobody has begun
-  abbrev pub turns_left : Origin → Range → Evaluation
-  turns_left (Instance function args path) left = done []
-  turns_left (Loop function rest first path range) left = turns child function rest first path left.lo (left.hi - left.lo)
+  abbrev pub iterations_left : Origin → Range → Evaluation
+  iterations_left (Instance function args path) left = done []
+  iterations_left (Loop function rest first path range) left = loop_evaluation child function rest first path left.lo (left.hi - left.lo)
 
 -- an instance's value by itself, or after those of a loop's other iterations
 abbrev pub all_with : Origin → List Value → Value → List Value
@@ -145,12 +145,12 @@ all_with (Loop function rest first path range) values v = values ++ v ∷ []
 
 -- what remains
 abbrev pub work_run : PlanView → Origin → List AwaitedChild → Work → List Value → Evaluation
-work_run plan o parts (Splits left) values = turns_left (eval plan) o left then λ vs. done (values ++ vs)
+work_run plan o parts (Splits left) values = iterations_left (eval plan) o left then λ vs. done (values ++ vs)
 work_run plan o parts (Runs stage) values =
     let child = children_of plan (own_instance o) in
     closed_run child (rest_open plan child (path_of (own_instance o)) parts stage) then λ v. done (all_with o values v)
-work_run plan o parts (Over v gone_on) values = done (values ++ v ∷ [])
+work_run plan o parts (Finished v gone_on) values = done (values ++ v ∷ [])
 
--- Pieces with each child's evaluation in its place, and then what remains, up to the first fault.
+-- A trace with each child's evaluation in its place, and then what remains, up to the first fault.
 abbrev pub finish : Task → Evaluation
 finish t = prefix_run t.trace then λ u. parts_run (eval t.plan) t.trace.handed t.values then work_run t.plan t.origin t.trace.handed t.work

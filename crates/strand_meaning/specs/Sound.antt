@@ -8,7 +8,7 @@ use Rattle.serial_meaning.specs.Functions.{function_at, any_spawns}
 use Rattle.serial_meaning.specs.Plan.{PlanView, functions_of}
 use Rattle.serial_meaning.specs.Eval.{path_of, eval}
 use Rattle.serial_meaning.specs.Open.{Item, Own, ChildFaulted, opened}
-use Rattle.serial_meaning.specs.Laws.{IsOriginOf, places}
+use Rattle.serial_meaning.specs.Laws.{IsOriginOf, raising_pedigrees}
 use Rattle.serial_meaning.specs.declared.event.Event.{Event}
 use Rattle.serial_meaning.specs.declared.event.Fault.{Fault}
 use Rattle.serial_meaning.specs.declared.origin.Origin.{Origin}
@@ -19,7 +19,7 @@ use Rattle.strand_meaning.specs.Machine.{Destination, Spawned, Looped, Half, Lev
 use Rattle.strand_meaning.specs.Trace.{AwaitedChild}
 use Rattle.strand_meaning.specs.Found.{FindsTargets, IsFoundPlan, functions_left}
 use Rattle.strand_meaning.specs.Pending.{ArePending, ArePendingStill, IsCall, IsSync, IsPfor}
-use Rattle.strand_meaning.specs.Task.{InstanceState, Running, AtSync, AtLoop, Ended, Work, Splits, Runs, Over, Task, own_instance}
+use Rattle.strand_meaning.specs.Task.{InstanceState, Running, AtSync, AtLoop, Ended, Work, Splits, Runs, Finished, Task, own_instance}
 use Rattle.strand_meaning.specs.Rest.{GaveValues, children_of, rest_open, finish}
 
 -- Unfilled variables
@@ -32,7 +32,7 @@ unfilled_by height Half = []
 
 abbrev pub unfilled : ℕ → List AwaitedChild → Names
 unfilled height [] = []
-unfilled height (p ∷ ps) = unfilled_by height p.place ++ unfilled height ps
+unfilled height (p ∷ ps) = unfilled_by height p.destination ++ unfilled height ps
 
 -- whether the frame with so many below it spawned a child of these
 abbrev pub is_by : ℕ → Destination → Bool
@@ -42,7 +42,7 @@ is_by height Half = false
 
 abbrev pub any_by : ℕ → List AwaitedChild → Bool
 any_by height [] = false
-any_by height (p ∷ ps) = is_by height p.place || any_by height ps
+any_by height (p ∷ ps) = is_by height p.destination || any_by height ps
 
 -- Frames
 
@@ -80,7 +80,7 @@ IsDestination height Half = Unit {0}
 
 abbrev pub AreDestinations : ℕ → List AwaitedChild → Type 0
 AreDestinations height [] = Unit {0}
-AreDestinations height (p ∷ ps) = IsDestination height p.place × AreDestinations height ps
+AreDestinations height (p ∷ ps) = IsDestination height p.destination × AreDestinations height ps
 
 abbrev pub IsHalf : Destination → Type 0
 IsHalf (Spawned owner target) = ⊥
@@ -89,7 +89,7 @@ IsHalf Half = Unit {0}
 
 abbrev pub AreHalves : List AwaitedChild → Type 0
 AreHalves [] = Unit {0}
-AreHalves (p ∷ ps) = IsHalf p.place × AreHalves ps
+AreHalves (p ∷ ps) = IsHalf p.destination × AreHalves ps
 
 -- A frame at a sync has nothing unfilled once it goes on, and knows of no fault.
 abbrev pub after_sync : Frame → Frame
@@ -131,7 +131,7 @@ UnfilledArePending plan parts (Ended ended) = Unit {0}
 abbrev pub UnfilledArePendingIn : PlanView → List AwaitedChild → Work → Type 0
 UnfilledArePendingIn plan parts (Splits left) = Unit {0}
 UnfilledArePendingIn plan parts (Runs stage) = UnfilledArePending plan parts stage
-UnfilledArePendingIn plan parts (Over v gone_on) = Unit {0}
+UnfilledArePendingIn plan parts (Finished v gone_on) = Unit {0}
 
 -- Work
 
@@ -158,8 +158,8 @@ FitsOrigin o Half = IsLongLoop o
 -- A child is an origin of the plan. Where it is one of the instance under way, what the open tree takes of it is its evaluation.
 pub record IsPart (plan : PlanView) (o : Origin) (p : AwaitedChild) : Type 0 where
   pub known : IsOriginOf plan p.child
-  pub fits : FitsOrigin o p.place
-  pub same : IsHalf p.place ⊎ (children_of plan (own_instance o) p.child ≡ eval plan p.child)
+  pub fits : FitsOrigin o p.destination
+  pub same : IsHalf p.destination ⊎ (children_of plan (own_instance o) p.child ≡ eval plan p.child)
 
 abbrev pub AreParts : PlanView → Origin → List AwaitedChild → Type 0
 AreParts plan o [] = Unit {0}
@@ -172,8 +172,8 @@ IsInstanceOrLoop (Loop function rest first path range) = range.lo < range.hi
 abbrev pub IsSoundWork : PlanView → Origin → List AwaitedChild → Work → Type 0
 IsSoundWork plan o parts (Splits left) = IsEndOf o left × AreHalves parts
 IsSoundWork plan o parts (Runs stage) = IsInstanceOrLoop o × IsSoFar plan (own_instance o) parts stage × IsSoundStage plan parts stage
-IsSoundWork plan o parts (Over v true) = IsLoop o × (parts ≡ [])
-IsSoundWork plan o parts (Over v false) = IsLoop o × AreHalves parts
+IsSoundWork plan o parts (Finished v true) = IsLoop o × (parts ≡ [])
+IsSoundWork plan o parts (Finished v false) = IsLoop o × AreHalves parts
 
 -- Children as they were handed out
 
@@ -197,7 +197,7 @@ pub record IsBegunBy (o : Origin) (events : List Event) (child : Origin) : Type 
   pub more : List ℕ
   pub at : path_of child ≡ path_of (own_instance o) ++ rank ∷ more
   pub whole : IsUndivided child
-  pub event : Contains (places events) (path_of child)
+  pub event : Contains (raising_pedigrees events) (path_of child)
 
 abbrev pub IsShownAs : Destination → PlanView → Origin → List AwaitedChild → List Event → Origin → Type 0
 IsShownAs (Spawned owner target) plan o front events child = IsBegunBy o events child
@@ -207,7 +207,7 @@ IsShownAs Half plan o front events child = IsPartAfter plan o front child
 -- After these children, the first is shown by these events, and each other by those between it and the child before it.
 abbrev pub AreShownBy : PlanView → Origin → List AwaitedChild → List Event → List AwaitedChild → Type 0
 AreShownBy plan o front events [] = Unit {0}
-AreShownBy plan o front events (p ∷ ps) = IsShownAs p.place plan o front events p.child × AreShownBy plan o (front ++ p ∷ []) p.after ps
+AreShownBy plan o front events (p ∷ ps) = IsShownAs p.destination plan o front events p.child × AreShownBy plan o (front ++ p ∷ []) p.after ps
 
 -- The invariant: to finish a task gives the evaluation of its origin; what is unfilled of it is pending, where it stands; and the variables to
 -- which its children's values go are found, where the plan's functions are.

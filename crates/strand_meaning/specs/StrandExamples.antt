@@ -9,7 +9,7 @@ use Rattle.serial_meaning.specs.Examples.{plan_of, with_depth, bad, plan_of_chil
 use Rattle.serial_meaning.specs.declared.value.Value.TheVariants.{Int}
 use Rattle.serial_meaning.specs.declared.event.FaultKind.TheVariants as fault
 use Rattle.serial_meaning.specs.declared.event.Event.TheVariants as event
-use Rattle.strand_meaning.specs.Strands.{Reached, Missing, Blocked, strand_at}
+use Rattle.strand_meaning.specs.Strands.{FoundStrand, Missing, Blocked, strand_at}
 
 -- with two steps for each instance
 abbrev pub spending : PlanView
@@ -18,15 +18,15 @@ spending = plan_of (bad ∷ function (codes "main") [] (stated (act.Print (numbe
 -- A strand has the events of its own rank, and no child's.
 abbrev pub FirstStrandPrintsAndSpawns : Type 0
 FirstStrandPrintsAndSpawns =
-    strand_at spending (0 ∷ []) ≡ Reached (record { events = event.Print (0 ∷ []) (Int (pos 7)) ∷ event.Spawn (0 ∷ []) ∷ []; fault = None })
+    strand_at spending (0 ∷ []) ≡ FoundStrand (record { events = event.Print (0 ∷ []) (Int (pos 7)) ∷ event.Spawn (0 ∷ []) ∷ []; fault = None })
 
 -- It has a fault that is its own.
 abbrev pub ChildsStrandHasItsFault : Type 0
-ChildsStrandHasItsFault = strand_at spending (0 ∷ 0 ∷ []) ≡ Reached (record { events = []; fault = Some (record { kind = fault.Divide; at = 0 ∷ 0 ∷ [] }) })
+ChildsStrandHasItsFault = strand_at spending (0 ∷ 0 ∷ []) ≡ FoundStrand (record { events = []; fault = Some (record { kind = fault.Divide; at = 0 ∷ 0 ∷ [] }) })
 
 -- The elision doesn't reach the strand after the child that faults.
 abbrev pub ParentGoesOnToItsFault : Type 0
-ParentGoesOnToItsFault = strand_at spending (1 ∷ []) ≡ Reached (record { events = []; fault = Some (record { kind = fault.Budget; at = 1 ∷ [] }) })
+ParentGoesOnToItsFault = strand_at spending (1 ∷ []) ≡ FoundStrand (record { events = []; fault = Some (record { kind = fault.Budget; at = 1 ∷ [] }) })
 
 abbrev pub NoStrandAfterAFault : Type 0
 NoStrandAfterAFault = strand_at spending (7 ∷ []) ≡ Missing
@@ -37,7 +37,7 @@ joining =
 
 -- A sync is a strand's event also where the instance ends there by a child's fault, and it blocks what stands after.
 abbrev pub SyncStandsWhereAChildFaulted : Type 0
-SyncStandsWhereAChildFaulted = strand_at joining (1 ∷ []) ≡ Reached (record { events = event.Sync (1 ∷ []) ∷ []; fault = None })
+SyncStandsWhereAChildFaulted = strand_at joining (1 ∷ []) ≡ FoundStrand (record { events = event.Sync (1 ∷ []) ∷ []; fault = None })
 
 abbrev pub ChildsFaultBlocks : Type 0
 ChildsFaultBlocks = strand_at joining (2 ∷ []) ≡ Blocked (record { kind = fault.Divide; at = 0 ∷ 0 ∷ [] })
@@ -53,10 +53,10 @@ rolling =
 
 -- An iteration has ranks of its own after its number.
 abbrev pub IterationsHaveStrands : Type 0
-IterationsHaveStrands = strand_at rolling (0 ∷ 3 ∷ 0 ∷ []) ≡ Reached (record { events = event.Draw (0 ∷ 3 ∷ 0 ∷ []) 2628 ∷ []; fault = None })
+IterationsHaveStrands = strand_at rolling (0 ∷ 3 ∷ 0 ∷ []) ≡ FoundStrand (record { events = event.Draw (0 ∷ 3 ∷ 0 ∷ []) 2628 ∷ []; fault = None })
 
 abbrev pub LoopIsAStrandsEvent : Type 0
-LoopIsAStrandsEvent = strand_at rolling (0 ∷ []) ≡ Reached (record { events = event.Loop (0 ∷ []) ∷ []; fault = None })
+LoopIsAStrandsEvent = strand_at rolling (0 ∷ []) ≡ FoundStrand (record { events = event.Loop (0 ∷ []) ∷ []; fault = None })
 
 -- The path of an iteration names no strand.
 abbrev pub IterationsPathIsNoStrand : Type 0
@@ -67,18 +67,18 @@ NoStrandBelowAMissingIteration = strand_at rolling (0 ∷ 5 ∷ 0 ∷ []) ≡ Mi
 
 -- A child is spawned in the scope's first strand, and the sync at the scope's end stands in its second.
 abbrev pub ScopesFirstStrandSpawns : Type 0
-ScopesFirstStrandSpawns = strand_at (plan_of_child 20) (0 ∷ 0 ∷ []) ≡ Reached (record { events = event.Spawn (0 ∷ 0 ∷ []) ∷ []; fault = None })
+ScopesFirstStrandSpawns = strand_at (plan_of_child 20) (0 ∷ 0 ∷ []) ≡ FoundStrand (record { events = event.Spawn (0 ∷ 0 ∷ []) ∷ []; fault = None })
 
 abbrev pub ScopesSecondStrandSyncs : Type 0
-ScopesSecondStrandSyncs = strand_at (plan_of_child 20) (0 ∷ 1 ∷ []) ≡ Reached (record { events = event.Sync (0 ∷ 1 ∷ []) ∷ []; fault = None })
+ScopesSecondStrandSyncs = strand_at (plan_of_child 20) (0 ∷ 1 ∷ []) ≡ FoundStrand (record { events = event.Sync (0 ∷ 1 ∷ []) ∷ []; fault = None })
 
 -- The strand after that sync has no event, and it is there.
 abbrev pub ScopesLastStrandIsThere : Type 0
-ScopesLastStrandIsThere = strand_at (plan_of_child 20) (0 ∷ 2 ∷ []) ≡ Reached (record { events = []; fault = None })
+ScopesLastStrandIsThere = strand_at (plan_of_child 20) (0 ∷ 2 ∷ []) ≡ FoundStrand (record { events = []; fault = None })
 
 abbrev pub NoStrandAfterAScopesLast : Type 0
 NoStrandAfterAScopesLast = strand_at (plan_of_child 20) (0 ∷ 3 ∷ []) ≡ Missing
 
 -- The strand after the scope.
 abbrev pub StrandAfterAScopePrints : Type 0
-StrandAfterAScopePrints = strand_at (plan_of_child 20) (1 ∷ []) ≡ Reached (record { events = event.Print (1 ∷ []) (Int (pos 21)) ∷ event.Sync (1 ∷ []) ∷ []; fault = None })
+StrandAfterAScopePrints = strand_at (plan_of_child 20) (1 ∷ []) ≡ FoundStrand (record { events = event.Print (1 ∷ []) (Int (pos 21)) ∷ event.Sync (1 ∷ []) ∷ []; fault = None })

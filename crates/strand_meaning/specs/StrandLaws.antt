@@ -6,7 +6,7 @@ use Rattle.serial_meaning.specs.Plan.{PlanView}
 use Rattle.serial_meaning.specs.Eval.{Evaluation, elision}
 use Rattle.serial_meaning.specs.declared.value.Value.{Value}
 use Rattle.serial_meaning.specs.declared.event.Fault.{Fault}
-use Rattle.strand_meaning.specs.Strands.{events_at, Strand, Reached, strand_at}
+use Rattle.strand_meaning.specs.Strands.{events_at, Strand, FoundStrand, strand_at}
 
 -- No fault ended it before this pedigree: it has none, or its fault is there or after it.
 abbrev pub IsWholeUpTo : List ℕ → Result (List Value) Fault → Type 0
@@ -25,5 +25,5 @@ strand_in j r = record { events = events_at j r.items; fault = fault_at j r.endi
 -- Where no fault ends the elision before a pedigree, the strand there, if there is one, is what the elision has of that pedigree.
 abbrev pub StrandsAreTheElisions : Type 0
 StrandsAreTheElisions =
-    (plan : PlanView) (j : List ℕ) (strand : Strand) → IsWholeUpTo j (elision plan).ending → strand_at plan j ≡ Reached strand →
+    (plan : PlanView) (j : List ℕ) (strand : Strand) → IsWholeUpTo j (elision plan).ending → strand_at plan j ≡ FoundStrand strand →
     strand ≡ strand_in j (elision plan)

@@ -5,7 +5,7 @@ use Rattle.std.specs.Ordering.{nat_cmp, is_lt}
 use Rattle.std.specs.Cmp.Lexicographic.{slice_cmp}
 use Rattle.std.specs.Str.{bytes_eq}
 use Rattle.serial_meaning.specs.Eval.{path_of, iteration, main_origin}
-use Rattle.serial_meaning.specs.Open.{Item, Happened, Child, Opened, Closed, NodeFault, Own, ChildFaulted, Node, opened, places_of}
+use Rattle.serial_meaning.specs.Open.{Item, Happened, Child, Opened, Closed, NodeFault, Own, ChildFaulted, Node, opened, strand_pedigrees}
 use Rattle.serial_meaning.specs.Plan.{PlanView}
 use Rattle.serial_meaning.specs.declared.value.Value.{Value}
 use Rattle.serial_meaning.specs.declared.event.Fault.{Fault}
@@ -42,15 +42,15 @@ own_events (Opened j ∷ items) = own_events items
 own_events (Closed j ∷ items) = own_events items
 
 -- the pedigree of the last event, where an instance ended that ended by the fault of a child
-abbrev pub last_place : List ℕ → List Event → List ℕ
-last_place j [] = j
-last_place j (e ∷ es) = last_place (pedigree_of e) es
+abbrev pub last_pedigree : List ℕ → List Event → List ℕ
+last_pedigree j [] = j
+last_pedigree j (e ∷ es) = last_pedigree (pedigree_of e) es
 
 -- the fault of a child by which it ended
-abbrev pub joined_fault : Result (List Value) NodeFault → Option Fault
-joined_fault (Ok vs) = None
-joined_fault (Err (Own f)) = None
-joined_fault (Err (ChildFaulted f)) = Some f
+abbrev pub fault_of_child : Result (List Value) NodeFault → Option Fault
+fault_of_child (Ok vs) = None
+fault_of_child (Err (Own f)) = None
+fault_of_child (Err (ChildFaulted f)) = Some f
 
 -- its own fault, where that is at this pedigree
 abbrev pub own_fault_at : List ℕ → Result (List Value) NodeFault → Option Fault
@@ -78,7 +78,7 @@ Strand = answer.Strand
 
 -- what stands at a pedigree: a strand; none; or none is known, since an instance on the way ended by the fault of a child before
 pub data Found : Type 0 where
-  Reached : Strand → Found
+  FoundStrand : Strand → Found
   Missing : Found
   Blocked : Fault → Found
 
@@ -89,25 +89,25 @@ is_one_of j (k ∷ ks) = bytes_eq k j || is_one_of j ks
 -- the strand of a pedigree, where the instance reached it
 abbrev pub strand_of : Origin → Node → List ℕ → Option Strand
 strand_of o n j =
-    if is_one_of j (places_of o n) then Some (record { events = events_at j (own_events n.items); fault = own_fault_at j n.ending }) else None
+    if is_one_of j (strand_pedigrees o n) then Some (record { events = events_at j (own_events n.items); fault = own_fault_at j n.ending }) else None
 
--- whether the instance ended at this place before it could come to a pedigree, which doesn't begin with that place
+-- whether the instance, whose last event is at this pedigree, ended before it could come to another, which doesn't begin with that
 abbrev pub ended_before : List ℕ → List ℕ → Bool
-ended_before place j = is_lt (slice_cmp nat_cmp place j) && not (bytes_eq (take (length place) j) place)
+ended_before last j = is_lt (slice_cmp nat_cmp last j) && not (bytes_eq (take (length last) j) last)
 
 -- the fault of a child by which an instance ended before a pedigree
-abbrev pub blocks_by : List ℕ → List ℕ → Result (List Value) NodeFault → Option Fault
-blocks_by place j (Ok vs) = None
-blocks_by place j (Err (Own f)) = None
-blocks_by place j (Err (ChildFaulted f)) = if ended_before place j then Some f else None
+abbrev pub blocking_at : List ℕ → List ℕ → Result (List Value) NodeFault → Option Fault
+blocking_at last j (Ok vs) = None
+blocking_at last j (Err (Own f)) = None
+blocking_at last j (Err (ChildFaulted f)) = if ended_before last j then Some f else None
 
-abbrev pub blocks : Node → List ℕ → Option Fault
-blocks n j = blocks_by (last_place [] (own_events n.items)) j n.ending
+abbrev pub blocking_fault : Node → List ℕ → Option Fault
+blocking_fault n j = blocking_at (last_pedigree [] (own_events n.items)) j n.ending
 
 -- what stands at a pedigree in the last instance on the way to it
 abbrev pub last_step : Option Fault → Option Strand → Found
 last_step (Some f) strand = Blocked f
-last_step None (Some strand) = Reached strand
+last_step None (Some strand) = FoundStrand strand
 last_step None None = Missing
 
 -- the iteration of a loop that a pedigree names after the loop's path, where ranks follow
@@ -134,7 +134,7 @@ by_child (Some o) j here go = next_step (entered_child j o) go
 abbrev pub walk_in : PlanView → ℕ → List ℕ → Origin → Found
 walk_in plan zero j o = Missing
 walk_in plan (suc steps) j o =
-    let n = opened plan o in by_child (child_on_way j n.items) j (last_step (blocks n j) (strand_of o n j)) (walk_in plan steps j)
+    let n = opened plan o in by_child (child_on_way j n.items) j (last_step (blocking_fault n j) (strand_of o n j)) (walk_in plan steps j)
 
 abbrev pub walk : PlanView → List ℕ → Origin → Found
 walk plan j o = walk_in plan (length j) j o

@@ -5,8 +5,8 @@ use Rattle.loop_range.specs.Range.{Range, lower_half, upper_half}
 use Rattle.script_grammar.specs.declared.tree.Name.{Name}
 use Rattle.serial_meaning.specs.Values.{Env}
 use Rattle.serial_meaning.specs.Plan.{PlanView}
-use Rattle.serial_meaning.specs.Exec.{filled}
-use Rattle.serial_meaning.specs.Eval.{Evaluation, first_of, iteration, path_of}
+use Rattle.serial_meaning.specs.Exec.{with_loop_values}
+use Rattle.serial_meaning.specs.Eval.{Evaluation, first_value, iteration, path_of}
 use Rattle.serial_meaning.specs.Open.{NodeFault, Own, ChildFaulted, least}
 use Rattle.serial_meaning.specs.declared.value.Value.{Value}
 use Rattle.serial_meaning.specs.declared.environment.Slot.{Slot}
@@ -33,7 +33,7 @@ pub data InstanceState : Type 0 where
 pub data Work : Type 0 where
   Splits : Range → Work
   Runs : InstanceState → Work
-  Over : Value → Bool → Work
+  Finished : Value → Bool → Work
 
 -- Beside its trace and what remains: the values of those iterations of a loop whose answers were taken, in order; whether the task
 -- stands in a wait; and whether it was advanced.
@@ -82,7 +82,7 @@ stage_after [] m = Running m
 stage_after (Opens j ∷ ts) m = stage_after ts m
 stage_after (Closes j ∷ ts) m = stage_after ts m
 stage_after (Emitted e ∷ ts) m = stage_after ts m
-stage_after (Handed o place ∷ ts) m = stage_after ts m
+stage_after (Handed o destination ∷ ts) m = stage_after ts m
 stage_after (Syncs ∷ ts) m = AtSync m
 stage_after (Loops ∷ ts) m = AtLoop m
 
@@ -91,7 +91,7 @@ child_in [] = None
 child_in (Opens j ∷ ts) = child_in ts
 child_in (Closes j ∷ ts) = child_in ts
 child_in (Emitted e ∷ ts) = child_in ts
-child_in (Handed o place ∷ ts) = Some o
+child_in (Handed o destination ∷ ts) = Some o
 child_in (Syncs ∷ ts) = child_in ts
 child_in (Loops ∷ ts) = child_in ts
 
@@ -126,7 +126,7 @@ faults_after (p ∷ ps) t f = waits t
 -- the instance that the task ran ended well
 abbrev pub gave : Task → Origin → Value → MoveOrStop
 gave t (Instance function args path) v = ends t (outcome.Value v)
-gave t (Loop function rest first path range) v = Passes (record t { work = Over v false; advanced = true })
+gave t (Loop function rest first path range) v = Passes (record t { work = Finished v false; advanced = true })
 
 abbrev pub stage_step : Task → InstanceState → MoveOrStop
 stage_step t (Running m) = let r = move t.plan (path_of (own_instance t.origin)) m in moved t r.items r.ending
@@ -163,8 +163,8 @@ over_step t v (Loop function rest first path range) = by_size (range.hi - range.
 abbrev pub work_step : Task → Work → MoveOrStop
 work_step t (Splits left) = split_step t left (left.hi - left.lo)
 work_step t (Runs stage) = stage_step t stage
-work_step t (Over v true) = ends t (outcome.Values (t.values ++ v ∷ []))
-work_step t (Over v false) = over_step t v t.origin
+work_step t (Finished v true) = ends t (outcome.Values (t.values ++ v ∷ []))
+work_step t (Finished v false) = over_step t v t.origin
 
 -- One move, or a stop.
 abbrev pub step : Task → MoveOrStop
@@ -197,7 +197,7 @@ with_answer (Some x) v env = replaced env x.bytes (Scalar v)
 
 -- a frame that takes the answer of a child that it spawned
 abbrev pub frame_with_answer : Option Name → Result (List Value) Fault → Frame → Frame
-frame_with_answer target (Ok vs) a = record a { env = with_answer target (first_of vs) a.env }
+frame_with_answer target (Ok vs) a = record a { env = with_answer target (first_value vs) a.env }
 frame_with_answer target (Err f) a = record a { faulted = Some (least a.faulted f) }
 
 abbrev pub in_machine : (Machine → Machine) → InstanceState → InstanceState
@@ -207,7 +207,7 @@ in_machine change (AtLoop m) = AtLoop (change m)
 in_machine change (Ended e) = Ended e
 
 abbrev pub with_values : Option Name → List Value → Machine → Machine
-with_values target vs m = record m { top = record m.top { env = filled target vs m.top.env } }
+with_values target vs m = record m { top = record m.top { env = with_loop_values target vs m.top.env } }
 
 abbrev pub takes : Destination → Result (List Value) Fault → InstanceState → InstanceState
 takes (Spawned height target) ended stage = in_machine (changed height (frame_with_answer target ended)) stage
@@ -229,12 +229,12 @@ resumed (Ended e) = Ended e
 abbrev pub takes_all : List AwaitedChild → List Evaluation → InstanceState → InstanceState
 takes_all [] answers stage = stage
 takes_all (p ∷ ps) [] stage = stage
-takes_all (p ∷ ps) (answer ∷ answers) stage = takes_all ps answers (takes p.place answer.ending stage)
+takes_all (p ∷ ps) (answer ∷ answers) stage = takes_all ps answers (takes p.destination answer.ending stage)
 
 abbrev pub resumed_work : List AwaitedChild → List Evaluation → Work → Work
 resumed_work parts answers (Splits left) = Splits left
 resumed_work parts answers (Runs stage) = Runs (resumed (takes_all parts answers stage))
-resumed_work parts answers (Over v gone_on) = Over v true
+resumed_work parts answers (Finished v gone_on) = Finished v true
 
 abbrev pub more_values : Destination → Result (List Value) Fault → List Value → List Value
 more_values (Spawned height target) ended values = values
@@ -245,7 +245,7 @@ more_values Half (Err f) values = values
 abbrev pub all_values : List AwaitedChild → List Evaluation → List Value → List Value
 all_values [] answers values = values
 all_values (p ∷ ps) [] values = values
-all_values (p ∷ ps) (answer ∷ answers) values = all_values ps answers (more_values p.place answer.ending values)
+all_values (p ∷ ps) (answer ∷ answers) values = all_values ps answers (more_values p.destination answer.ending values)
 
 -- The task once its wait is over, with the answers of the children that it handed out, in order.
 abbrev pub on : List Evaluation → Task → Task

@@ -11,7 +11,7 @@ use Rattle.strand_meaning.specs.Machine.{Destination, Effect, Opens, Closes, Emi
 -- child
 pub record AwaitedChild : Type 0 where
   pub child : Origin
-  pub place : Destination
+  pub destination : Destination
   pub after : List Event
 
 -- The events before the first child whose answer isn't taken, up to the first fault among these, and that fault, after which
@@ -43,7 +43,7 @@ emit e trace = emit_at trace.handed e trace
 
 -- a child more
 abbrev pub add_child : Origin → Destination → Trace → Trace
-add_child o place trace = record trace { handed = trace.handed ++ record { child = o; place = place; after = [] } ∷ [] }
+add_child o destination trace = record trace { handed = trace.handed ++ record { child = o; destination = destination; after = [] } ∷ [] }
 
 -- what a move shows
 abbrev pub with_effects : List Effect → Trace → Trace
@@ -51,7 +51,7 @@ with_effects [] trace = trace
 with_effects (Opens j ∷ ts) trace = with_effects ts trace
 with_effects (Closes j ∷ ts) trace = with_effects ts trace
 with_effects (Emitted e ∷ ts) trace = with_effects ts (emit e trace)
-with_effects (Handed o place ∷ ts) trace = with_effects ts (add_child o place trace)
+with_effects (Handed o destination ∷ ts) trace = with_effects ts (add_child o destination trace)
 with_effects (Syncs ∷ ts) trace = with_effects ts trace
 with_effects (Loops ∷ ts) trace = with_effects ts trace
 

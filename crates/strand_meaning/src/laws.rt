@@ -86,22 +86,22 @@ pub fn strands_are_the_elisions()
     ensures { StrandsAreTheElisions }
 {}
 
-/// Of a task that wasn't advanced nothing is to be noted: its node is what is left.
+/// Of a task that wasn't advanced nothing is to be observed: its node is what is left.
 pub fn observation_begins()
     ensures { ObservationBegins }
 {}
 
-/// What a task shows up to its next stop joins what is noted of it, and at its end that is its whole node: the items and the ending.
+/// What a task shows up to its next stop joins what is observed of it, and at its end that is its whole node: the items and the ending.
 pub fn observation_goes_on()
     ensures { ObservationGoesOn }
 {}
 
-/// Answers that a task takes change nothing of what is noted: they are known to its node.
+/// Answers that a task takes change nothing of what is observed: they are known to its node.
 pub fn answers_show_nothing()
     ensures { AnswersShowNothing }
 {}
 
-/// What a task shows up to its next stop can be noted.
+/// What a task shows up to its next stop can be observed.
 pub fn stops_are_shown()
     ensures { StopsAreShown }
 {}

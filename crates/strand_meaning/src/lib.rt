@@ -3,6 +3,6 @@
 //! The definitions stand in `specs/`, and docs/LANGUAGE.md says what they are of. The crate has no code that runs.
 #![tactic(auto)]
 
-pub mod examples;
+mod examples;
 pub mod laws;
-pub mod strands;
+mod strands;

@@ -26,7 +26,7 @@ use Rattle.strand_moves.specs.contracts.effects.SpawnedChild as spawned
 use Rattle.strand_moves.specs.contracts.frame.Frame as frame
 use Rattle.strand_moves.specs.contracts.frame.Level as level
 use Rattle.strand_moves.specs.contracts.instance.Instance as instance
-use Rattle.strand_moves.specs.contracts.running.Running as running
+use Rattle.strand_moves.specs.contracts.instance_parts.InstanceParts as instance_parts
 
 -- to another thread
 
@@ -82,11 +82,11 @@ frame_sends : IsSend frame.the_row
 frame_sends = declared_send frame.the_type
     (number_sends, (bool_sends, (bool_sends, (Vec-send level.the_row level_shared.the_send, (cursor_shared.the_send, (environment_sends, (fault_sends, (maybe_target_sends, tt))))))))
 
-running_sends : IsSend running.the_row
-running_sends = declared_send running.the_type (trail_shared.the_send, (word_sends, (word_sends, (bool_sends, (frame_sends, (Vec-send frame.the_row frame_sends, tt))))))
+parts_send : IsSend instance_parts.the_row
+parts_send = declared_send instance_parts.the_type (trail_shared.the_send, (word_sends, (word_sends, (bool_sends, (frame_sends, (Vec-send frame.the_row frame_sends, tt))))))
 
 pub instance_sends : IsSend instance.the_row
-instance_sends = declared_send instance.the_type (Box-send running.the_row running_sends, tt)
+instance_sends = declared_send instance.the_type (Box-send instance_parts.the_row parts_send, tt)
 
 -- read by several
 
@@ -142,8 +142,8 @@ frame_syncs : IsSync frame.the_row
 frame_syncs = declared_sync frame.the_type
     (number_syncs, (bool_syncs, (bool_syncs, (Vec-sync level.the_row level_shared.the_sync, (cursor_shared.the_sync, (environment_syncs, (fault_syncs, (maybe_target_syncs, tt))))))))
 
-running_syncs : IsSync running.the_row
-running_syncs = declared_sync running.the_type (trail_shared.the_sync, (word_syncs, (word_syncs, (bool_syncs, (frame_syncs, (Vec-sync frame.the_row frame_syncs, tt))))))
+parts_sync : IsSync instance_parts.the_row
+parts_sync = declared_sync instance_parts.the_type (trail_shared.the_sync, (word_syncs, (word_syncs, (bool_syncs, (frame_syncs, (Vec-sync frame.the_row frame_syncs, tt))))))
 
 pub instance_syncs : IsSync instance.the_row
-instance_syncs = declared_sync instance.the_type (Box-sync running.the_row running_syncs, tt)
+instance_syncs = declared_sync instance.the_type (Box-sync instance_parts.the_row parts_sync, tt)

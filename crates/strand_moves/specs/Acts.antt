@@ -18,40 +18,40 @@ use Rattle.strand_values.specs.Environments.{EnvironmentView}
 use Rattle.strand_values.specs.declared.halt.Halt as values
 use Rattle.strand_values.specs.declared.halt.Halt.TheVariants as halt
 use Rattle.strand_moves.specs.declared.frame.Frame.{Frame}
-use Rattle.strand_moves.specs.declared.running.Running.{Running}
+use Rattle.strand_moves.specs.declared.instance_parts.InstanceParts.{InstanceParts}
 use Rattle.strand_moves.specs.declared.effects.MoveResult.{MoveResult}
 use Rattle.strand_moves.specs.Cursors.{left_of}
-use Rattle.strand_moves.specs.Running.{IsInstance, machine_of, open_scopes, path_of, present_of}
+use Rattle.strand_moves.specs.InstanceParts.{IsInstance, machine_of, open_scopes, path_of, present_of}
 use Rattle.strand_moves.specs.Moves.{acted, Makes, present_pedigree}
 
 -- the call shows and leaves what this act does, and a fault is one of this strand
-abbrev pub Acts : PlanView → Stmt → Act-F Act Stmt → Running → Running → Result MoveResult values.Halt → Type 0
+abbrev pub Acts : PlanView → Stmt → Act-F Act Stmt → InstanceParts → InstanceParts → Result MoveResult values.Halt → Type 0
 Acts plan st a old new result =
     Makes (acted plan (present_of old) (machine_of plan old) st a) (present_pedigree (present_of old) (machine_of plan old)) (machine_of plan new) result
 
 -- the step, the rank, and whether it may still be a rank
-abbrev pub Costs : Running → Running → Type 0
+abbrev pub Costs : InstanceParts → InstanceParts → Type 0
 Costs old new = new.rank + new.steps < old.rank + old.steps + 2
 
 -- the present path and the open scopes stay
-pub record Stays (old new : Running) : Type 0 where
+pub record Stays (old new : InstanceParts) : Type 0 where
   pub trail : new.trail ≡ old.trail
   pub scopes : open_scopes new ≡ open_scopes old
   pub leaving : new.leaving ≡ old.leaving
 
 -- one frame more stands there at most, and no step is paid
-pub record BeginsOne (old new : Running) : Type 0 where
+pub record BeginsOne (old new : InstanceParts) : Type 0 where
   pub steps : new.steps ≡ old.steps
   pub frames : length new.below.items ≤ length old.below.items + 1
 
 -- Where there was memory for it, they stay.
-abbrev pub StaysUnlessMemory : Running → Running → Result MoveResult values.Halt → Type 0
+abbrev pub StaysUnlessMemory : InstanceParts → InstanceParts → Result MoveResult values.Halt → Type 0
 StaysUnlessMemory old new (Ok moved) = Stays old new
 StaysUnlessMemory old new (Err (halt.Fault kind)) = Stays old new
 StaysUnlessMemory old new (Err halt.Memory) = Unit {0}
 
 -- one scope more is open, in which it goes on
-pub record GoesIn (plan : PlanView) (old new : Running) : Type 0 where
+pub record GoesIn (plan : PlanView) (old new : InstanceParts) : Type 0 where
   pub fits : FitsGamma plan.gamma new.trail
   pub path : new.trail.path ≡ old.trail.path ++ old.rank ∷ []
   pub within : length new.trail.path < length plan.gamma
@@ -60,12 +60,12 @@ pub record GoesIn (plan : PlanView) (old new : Running) : Type 0 where
   pub steps : new.steps ≡ old.steps
   pub leaving : new.leaving ≡ old.leaving
 
-pub record IsKept (plan : PlanView) (old new : Running) : Type 0 where
+pub record IsKept (plan : PlanView) (old new : InstanceParts) : Type 0 where
   pub instance : IsInstance plan new
   pub path : path_of new ≡ path_of old
 
 -- A move keeps an instance and its path, and one that is a fault keeps the present path too. Want of memory keeps nothing.
-abbrev pub Keeps : PlanView → Running → Running → Result MoveResult values.Halt → Type 0
+abbrev pub Keeps : PlanView → InstanceParts → InstanceParts → Result MoveResult values.Halt → Type 0
 Keeps plan old new (Ok moved) = IsKept plan old new
 Keeps plan old new (Err (halt.Fault kind)) = IsKept plan old new × (new.trail ≡ old.trail)
 Keeps plan old new (Err halt.Memory) = Unit {0}
@@ -75,14 +75,16 @@ abbrev pub loop_fits : PlanView → List ℕ → ℕ → Bool
 loop_fits plan path zero = true
 loop_fits plan path (suc n) = nat_lt (length path + 2) plan.limits.depth
 
+-- the fault of the first of these conditions that doesn't hold
+abbrev pub first_fault : List (Bool × FaultKind) → Result (Unit {0}) FaultKind
+first_fault [] = Ok tt
+first_fault (condition ∷ others) = if condition.0 then first_fault others else Err condition.1
+
 -- A loop of so many iterations begins where there are steps for them, its target has room, and its pedigrees are within the depth. The first
 -- of these that fails is its fault.
 abbrev pub loop_begins : PlanView → List ℕ → ℕ → Option Name → Env → ℕ → Result (Unit {0}) FaultKind
 loop_begins plan path n target env steps =
-    if not (nat_lt n (steps + 1)) then Err Budget
-    else if not (has_room target n env) then Err Index
-    else if not (loop_fits plan path n) then Err Depth
-    else Ok tt
+    first_fault ((nat_lt n (steps + 1), Budget) ∷ (has_room target n env, Index) ∷ (loop_fits plan path n, Depth) ∷ [])
 
 -- a frame that a call of this function begins with these variables
 pub record IsCallee (number : ℕ) (variables : EnvironmentView) (to : Option Name) (a : Frame) : Type 0 where

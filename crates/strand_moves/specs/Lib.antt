@@ -5,5 +5,5 @@ pub mod Machines
 pub mod Moves
 pub mod Quick
 pub mod Rows
-pub mod Running
+pub mod InstanceParts
 pub mod Spawns

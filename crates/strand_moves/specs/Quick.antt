@@ -13,7 +13,7 @@ use Rattle.serial_meaning.specs.declared.event.Fault.{Fault}
 use Rattle.strand_meaning.specs.Machine.{Effect, Reached, move}
 use Rattle.strand_values.specs.declared.halt.Halt as values
 use Rattle.strand_values.specs.declared.halt.Halt.TheVariants as halt
-use Rattle.strand_moves.specs.declared.running.Running.{Running}
+use Rattle.strand_moves.specs.declared.instance_parts.InstanceParts.{InstanceParts}
 use Rattle.strand_moves.specs.declared.effects.MoveResult.{MoveResult}
 use Rattle.strand_moves.specs.declared.effects.MoveResult.TheVariants as moved
 use Rattle.strand_moves.specs.declared.effects.Effects.TheVariants as effect
@@ -21,7 +21,7 @@ use Rattle.strand_moves.specs.declared.quick.Form.{Form}
 use Rattle.strand_moves.specs.declared.quick.Form.TheVariants as form
 use Rattle.strand_moves.specs.Acts.{BeginsOne, Costs, Stays}
 use Rattle.strand_moves.specs.Cursors.{IsAfterStatement}
-use Rattle.strand_moves.specs.Running.{IsInstance, machine_of, path_of, present_of, statements_of}
+use Rattle.strand_moves.specs.InstanceParts.{IsInstance, machine_of, path_of, present_of, statements_of}
 use Rattle.strand_moves.specs.Moves.{acted, run_of}
 
 -- what was done without showing anything, as a move
@@ -80,12 +80,12 @@ abbrev pub ByFault : Run Effect Fault Reached → Type 0
 ByFault run = (f : Fault) × (run ≡ record { items = []; ending = Err f })
 
 -- What a statement does was done and showed nothing. Or nothing changed, and a plain one meets a fault.
-abbrev pub IsDone : Stmt → Act-F Act Stmt → Running → Running → Bool → Type 0
+abbrev pub IsDone : Stmt → Act-F Act Stmt → InstanceParts → InstanceParts → Bool → Type 0
 IsDone st a old new true = (plan : PlanView) → acted plan (present_of old) (machine_of plan old) st a ≡ run_of (moved.Went effect.Nothing) (machine_of plan new)
 IsDone st a old new false = (new ≡ old) × ((plan : PlanView) → is_plain a ≡ true → ByFault (acted plan (present_of old) (machine_of plan old) st a))
 
 -- The same of the statement after which the cursor stands, and whose step is paid.
-abbrev pub IsQuiet : Stmt → Running → Running → Bool → Type 0
+abbrev pub IsQuiet : Stmt → InstanceParts → InstanceParts → Bool → Type 0
 IsQuiet st old new true =
     (plan : PlanView) → IsAfterStatement (statements_of plan old.top) old.top.cursor st →
     acted plan (present_of old) (machine_of plan old) st (out-Act (out-Stmt st).act) ≡ run_of (moved.Went effect.Nothing) (machine_of plan new)
@@ -117,20 +117,20 @@ is_emitting (act.Pfor x lo hi target c) = false
 is_emitting (act.Scope a) = false
 
 -- What a statement does was done, and the sink took the event that it showed. Or nothing changed, and an emitting one meets a fault.
-abbrev pub HasEmitted : {S : Type 0} → (Event → S → S) → PlanView → Stmt → Act-F Act Stmt → Running → S → Running → S → Bool → Type 0
+abbrev pub HasEmitted : {S : Type 0} → (Event → S → S) → PlanView → Stmt → Act-F Act Stmt → InstanceParts → S → InstanceParts → S → Bool → Type 0
 HasEmitted after plan st a old from new to true =
     (e : Event) × (to ≡ after e from) × (acted plan (present_of old) (machine_of plan old) st a ≡ run_of (moved.Went (effect.Emitted e)) (machine_of plan new))
 HasEmitted after plan st a old from new to false =
     (new ≡ old) × (to ≡ from) × (is_emitting a ≡ true → ByFault (acted plan (present_of old) (machine_of plan old) st a))
 
 -- A call was begun, or what there isn't was skipped. Or nothing changed.
-abbrev pub HasCalled : PlanView → Stmt → Act-F Act Stmt → Running → Running → Bool → Type 0
+abbrev pub HasCalled : PlanView → Stmt → Act-F Act Stmt → InstanceParts → InstanceParts → Bool → Type 0
 HasCalled plan st a old new true =
     (acted plan (present_of old) (machine_of plan old) st a ≡ run_of (moved.Went effect.Nothing) (machine_of plan new)) × Stays old new × BeginsOne old new
 HasCalled plan st a old new false = new ≡ old
 
 -- the innermost frame is of the same function, in the same scopes, over the same frames, and no step is paid
-pub record StaysThere (old new : Running) : Type 0 where
+pub record StaysThere (old new : InstanceParts) : Type 0 where
   pub below : new.below.items ≡ old.below.items
   pub function : new.top.function ≡ old.top.function
   pub levels : new.top.levels.items ≡ old.top.levels.items
@@ -139,30 +139,30 @@ pub record StaysThere (old new : Running) : Type 0 where
   pub steps : new.steps ≡ old.steps
 
 -- the innermost frame stands where it stood, and no step is paid
-pub record IsThere (old new : Running) : Type 0 where
+pub record IsThere (old new : InstanceParts) : Type 0 where
   pub there : StaysThere old new
   pub cursor : new.top.cursor ≡ old.top.cursor
   pub stays : Stays old new
   pub few : Costs old new
 
 -- A statement whose step is paid was done by the call of this form. Or its step was taken back, and nothing else changed.
-abbrev pub HasGone : {S : Type 0} → (Event → S → S) → PlanView → Stmt → Running → S → Running → S → Form → Type 0
+abbrev pub HasGone : {S : Type 0} → (Event → S → S) → PlanView → Stmt → InstanceParts → S → InstanceParts → S → Form → Type 0
 HasGone after plan st old from new to form.Emitting = HasEmitted after plan st (out-Act (out-Stmt st).act) old from new to true × IsThere old new
 HasGone after plan st old from new to form.Calling = HasCalled plan st (out-Act (out-Stmt st).act) old new true × (to ≡ from) × Costs old new
 HasGone after plan st old from new to form.Other = (new ≡ record old { steps = old.steps + 1 }) × (to ≡ from)
 
 -- A move that showed nothing, or an event, which the sink took.
-abbrev pub IsSentMove : {S : Type 0} → (Event → S → S) → PlanView → Running → S → Running → S → Type 0
+abbrev pub IsSentMove : {S : Type 0} → (Event → S → S) → PlanView → InstanceParts → S → InstanceParts → S → Type 0
 IsSentMove after plan old from new to =
     ((move plan (path_of old) (machine_of plan old) ≡ run_of (moved.Went effect.Nothing) (machine_of plan new)) × (to ≡ from))
     ⊎ ((e : Event) × (move plan (path_of old) (machine_of plan old) ≡ run_of (moved.Went (effect.Emitted e)) (machine_of plan new)) × (to ≡ after e from))
 
 -- One step less is left at least, or one frame.
-abbrev pub Shortens : Running → Running → Type 0
+abbrev pub Shortens : InstanceParts → InstanceParts → Type 0
 Shortens old new = 2 * new.steps + length new.below.items < 2 * old.steps + length old.below.items
 
 -- A frame made a move of its end, after which the instance goes on. Or nothing changed.
-abbrev pub EndsFrame : {S : Type 0} → (Event → S → S) → PlanView → Running → S → Running → S → Bool → Type 0
+abbrev pub EndsFrame : {S : Type 0} → (Event → S → S) → PlanView → InstanceParts → S → InstanceParts → S → Bool → Type 0
 EndsFrame after plan old from new to true = IsSentMove after plan old from new to × IsInstance plan new × (path_of new ≡ path_of old) × Shortens old new
 EndsFrame after plan old from new to false = (new ≡ old) × (to ≡ from)
 

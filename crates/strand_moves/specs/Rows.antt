@@ -5,25 +5,25 @@ use Rattle.serial_meaning.specs.Plan.{PlanView}
 use Rattle.serial_meaning.specs.declared.event.Event.{Event}
 use Rattle.strand_meaning.specs.Machine.{Machine, move}
 use Rattle.strand_moves.specs.declared.cursor.Cursor.{Cursor}
-use Rattle.strand_moves.specs.declared.running.Running.{Running}
+use Rattle.strand_moves.specs.declared.instance_parts.InstanceParts.{InstanceParts}
 use Rattle.strand_moves.specs.declared.effects.MoveResult.{MoveResult}
 use Rattle.strand_moves.specs.declared.effects.MoveResult.TheVariants as moved
 use Rattle.strand_moves.specs.declared.effects.Effects.TheVariants as effect
 use Rattle.strand_moves.specs.Cursors.{IsAfterStatement, left_of, PassesStatement}
 use Rattle.strand_moves.specs.Moves.{run_of}
-use Rattle.strand_moves.specs.Running.{IsInstance, machine_of, path_of, statements_of}
+use Rattle.strand_moves.specs.InstanceParts.{IsInstance, machine_of, path_of, statements_of}
 
 -- They lead from the first of these instances to the other. A sink takes the events that they show.
-pub data Row {S : Type 0} (after : Event → S → S) (plan : PlanView) (first : Running) (start : S) : Running → S → Type 0 where
-  Still : (now : Running) (sent : S) → now ≡ first → sent ≡ start → Row after plan first start now sent
-  More : (before now : Running) (sent : S) → Row after plan first start before sent → move plan (path_of before) (machine_of plan before) ≡ run_of (moved.Went effect.Nothing) (machine_of plan now) → path_of now ≡ path_of before →
+pub data Row {S : Type 0} (after : Event → S → S) (plan : PlanView) (first : InstanceParts) (start : S) : InstanceParts → S → Type 0 where
+  Still : (now : InstanceParts) (sent : S) → now ≡ first → sent ≡ start → Row after plan first start now sent
+  More : (before now : InstanceParts) (sent : S) → Row after plan first start before sent → move plan (path_of before) (machine_of plan before) ≡ run_of (moved.Went effect.Nothing) (machine_of plan now) → path_of now ≡ path_of before →
       IsInstance plan now → Row after plan first start now sent
-  Emits : (before now : Running) (earlier sent : S) (e : Event) → Row after plan first start before earlier → move plan (path_of before) (machine_of plan before) ≡ run_of (moved.Went (effect.Emitted e)) (machine_of plan now) →
+  Emits : (before now : InstanceParts) (earlier sent : S) (e : Event) → Row after plan first start before earlier → move plan (path_of before) (machine_of plan before) ≡ run_of (moved.Went (effect.Emitted e)) (machine_of plan now) →
       sent ≡ after e earlier → path_of now ≡ path_of before → IsInstance plan now → Row after plan first start now sent
 
 -- They lead to an instance that makes one move more, and that one was made.
-pub record RunsOn {S : Type 0} (after : Event → S → S) (plan : PlanView) (first : Running) (start : S) (m : MoveResult) (now : Running) (sent : S) : Type 0 where
-  pub before : Running
+pub record RunsOn {S : Type 0} (after : Event → S → S) (plan : PlanView) (first : InstanceParts) (start : S) (m : MoveResult) (now : InstanceParts) (sent : S) : Type 0 where
+  pub before : InstanceParts
   pub row : Row after plan first start before sent
   pub last : move plan (path_of before) (machine_of plan before) ≡ run_of m (machine_of plan now)
 
@@ -33,7 +33,7 @@ IsNextStatement body old new None = (left_of body old ≡ []) × (left_of body n
 IsNextStatement body old new (Some st) = PassesStatement body old new st
 
 -- What holds where the cursor has just passed this statement, or where none was left.
-abbrev pub HasPassedStatement : PlanView → Running → Option Stmt → Type 0
+abbrev pub HasPassedStatement : PlanView → InstanceParts → Option Stmt → Type 0
 HasPassedStatement plan i None = left_of (statements_of plan i.top) i.top.cursor ≡ []
 HasPassedStatement plan i (Some st) = (i.leaving ≡ false) × IsAfterStatement (statements_of plan i.top) i.top.cursor st
 
@@ -42,12 +42,12 @@ with_next None left = []
 with_next (Some st) left = st ∷ left
 
 -- the machine before its cursor passed
-abbrev pub unpassed : PlanView → Running → Option Stmt → Machine
+abbrev pub unpassed : PlanView → InstanceParts → Option Stmt → Machine
 unpassed plan i next = let m = machine_of plan i in record m { top = record m.top { left = with_next next m.top.left } }
 
 -- They lead to an instance whose cursor then passed its next statement, if one was left.
-pub record ComesToStatement {S : Type 0} (after : Event → S → S) (plan : PlanView) (first : Running) (start : S) (now : Running) (sent : S) (next : Option Stmt) : Type 0 where
-  pub before : Running
+pub record ComesToStatement {S : Type 0} (after : Event → S → S) (plan : PlanView) (first : InstanceParts) (start : S) (now : InstanceParts) (sent : S) (next : Option Stmt) : Type 0 where
+  pub before : InstanceParts
   pub row : Row after plan first start before sent
   pub sound : IsInstance plan before
   pub path : path_of before ≡ path_of first

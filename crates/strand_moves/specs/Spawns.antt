@@ -8,14 +8,14 @@ use Rattle.serial_meaning.specs.Plan.{PlanView}
 use Rattle.strand_meaning.specs.Machine.{Machine, move}
 use Rattle.strand_values.specs.declared.halt.Halt as values
 use Rattle.strand_values.specs.declared.halt.Halt.TheVariants as halt
-use Rattle.strand_moves.specs.declared.running.Running.{Running}
+use Rattle.strand_moves.specs.declared.instance_parts.InstanceParts.{InstanceParts}
 use Rattle.strand_moves.specs.declared.effects.MoveResult.{MoveResult}
 use Rattle.strand_moves.specs.declared.effects.MoveResult.TheVariants as moved
 use Rattle.strand_moves.specs.declared.effects.Effects.TheVariants as effect
 use Rattle.strand_moves.specs.declared.effects.Spawning.{Spawning}
 use Rattle.strand_moves.specs.Moves.{IsTrailOf, acted, run_of, spawn_to}
 use Rattle.strand_moves.specs.Rows.{unpassed}
-use Rattle.strand_moves.specs.Running.{machine_of, path_of}
+use Rattle.strand_moves.specs.InstanceParts.{machine_of, path_of}
 
 -- a spawn, as a move
 abbrev pub spawn_as_move : Result Spawning values.Halt → Result MoveResult values.Halt
@@ -31,7 +31,7 @@ abbrev pub DoesAs : Stmt → Option Name → CallText → Type 0
 DoesAs st to c = (plan : PlanView) (here : List ℕ) (m : Machine) → acted plan here m st (out-Act (out-Stmt st).act) ≡ acted plan here m st (spawn_to to c)
 
 -- The spawn was done that the instance made after its cursor passed. Or nothing changed.
-abbrev pub HasSpawned : PlanView → Running → Option Stmt → Running → Option Spawning → Type 0
+abbrev pub HasSpawned : PlanView → InstanceParts → Option Stmt → InstanceParts → Option Spawning → Type 0
 HasSpawned plan old next new None = new ≡ old
 HasSpawned plan old next new (Some s) = move plan (path_of old) (unpassed plan old next) ≡ run_of (moved.Went (effect.Spawned s.event s.spawned)) (machine_of plan new)
 

@@ -8,15 +8,15 @@ ghost use Rattle.strand_meaning.specs.Found.{FindsAt, FindsInnermost, functions_
 ghost use Rattle.strand_meaning.specs.Task.{frame_with_answer, changed, with_answer, with_values};
 ghost use Rattle.strand_values.specs.Environments.{with_variables};
 ghost use Rattle.strand_moves.specs.Found.{FindsTarget};
-ghost use Rattle.strand_moves.specs.Running.{IsInstance, machine_of, path_of};
+ghost use Rattle.strand_moves.specs.InstanceParts.{IsInstance, machine_of, path_of};
 
 use crate::frame::Frame;
-use crate::running::Running;
+use crate::instance_parts::InstanceParts;
 use serial_meaning::{Fault, Plan, Value};
 use std::alloc::Global;
 use strand_values::Target;
 
-impl Running {
+impl InstanceParts {
     /// Takes the fault of a child of the frame with `height` others below it.
     pub fn take_fault(&mut self, height: usize, fault: Fault)
         ensures machine { (plan : PlanView) (target : _) → machine_of plan self.new ≡ changed height (frame_with_answer target (Err fault)) (machine_of plan self.old) }

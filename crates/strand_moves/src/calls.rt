@@ -13,15 +13,15 @@ ghost use Rattle.strand_values.specs.Gives.{Gives};
 ghost use Rattle.strand_values.specs.Environments.{FindsArguments, with_variables};
 ghost use Rattle.strand_moves.specs.Found.{ArePlaces, FindsCallee, FindsTarget};
 ghost use Rattle.strand_moves.specs.Acts.{Acts, BeginsOne, Costs, IsCallee, StaysUnlessMemory, result_of};
-ghost use Rattle.strand_moves.specs.Running.{AreNamed, IsNamed, IsStrand, KeepsNames, machine_of, path_of, present_of};
+ghost use Rattle.strand_moves.specs.InstanceParts.{AreNamed, IsNamed, IsStrand, KeepsNames, machine_of, path_of, present_of};
 ghost use Rattle.strand_moves.specs.Moves.{Makes, MovesTrail, call_to, present_pedigree};
 ghost use Rattle.strand_moves.specs.Quick.{StaysThere, quiet, emitted_if_any};
 
 use crate::effects::{Effects, MoveResult};
 use crate::frame::{Frame, target_of};
+use crate::instance_parts::InstanceParts;
 use crate::memory::Memory;
 use crate::quick::{emitted_if_any, quiet};
-use crate::running::Running;
 use script_grammar::{CallText, Function, Name};
 use serial_meaning::{Event, FaultKind, Plan, Value};
 use std::alloc::Global;
@@ -31,7 +31,7 @@ use strand_values::{Environment, Halt, Target};
 /// How many calls may be open in an instance.
 const MOST_CALLS: usize = 256;
 
-impl Running {
+impl InstanceParts {
     /// A call, whose value goes to a variable, if any.
     pub(crate) fn call(
         &mut self,

@@ -7,7 +7,7 @@ ghost use Rattle.script_grammar.specs.declared.tree.Act.TheOpen as act;
 ghost use Rattle.script_check.specs.Places.{every_in_statement};
 ghost use Rattle.script_grammar.specs.declared.tree.Name.{Name};
 ghost use Rattle.script_grammar.specs.declared.tree.Stmt.{Stmt};
-ghost use Rattle.serial_meaning.specs.Exec.{filled};
+ghost use Rattle.serial_meaning.specs.Exec.{with_loop_values};
 ghost use Rattle.serial_meaning.specs.Functions.{function_at};
 ghost use Rattle.serial_meaning.specs.Open.{answer_filler};
 ghost use Rattle.serial_meaning.specs.Plan.{PlanView, functions_of};
@@ -16,7 +16,7 @@ ghost use Rattle.strand_meaning.specs.Machine.{Emitted, sync_effects, with_scala
 ghost use Rattle.strand_values.specs.Environments.{with_variables};
 ghost use Rattle.strand_moves.specs.Found.{EveryInSpawn, FindsLoop, FindsSpawn, FindsTarget};
 ghost use Rattle.strand_moves.specs.Acts.{Acts, Costs, Stays, loop_begins};
-ghost use Rattle.strand_moves.specs.Running.{IsInstance, IsStrand, KeepsNames, path_of, present_of};
+ghost use Rattle.strand_moves.specs.InstanceParts.{IsInstance, IsStrand, KeepsNames, path_of, present_of};
 ghost use Rattle.strand_values.specs.declared.halt.Halt.TheVariants as halt;
 ghost use Rattle.serial_meaning.specs.declared.event.FaultKind.{FaultKind};
 ghost use Rattle.strand_values.specs.declared.halt.Halt.TheVariants.{Fault};
@@ -28,9 +28,9 @@ ghost use Rattle.strand_moves.specs.declared.effects.Effects.TheVariants as effe
 use crate::calls::function_in;
 use crate::effects::{Child, Effects, LoopedChild, MoveResult, SpawnedChild, Spawning};
 use crate::frame::target_of;
+use crate::instance_parts::InstanceParts;
 use crate::memory::Memory;
 use crate::narrow::narrowed;
-use crate::running::Running;
 use dotmix::Trail;
 use loop_range::IterRange;
 use ped_path::{Ped, Pedigree};
@@ -39,7 +39,7 @@ use serial_meaning::{Event, FaultKind, Origin, Plan, Value};
 use std::alloc::Global;
 use strand_values::{Halt, Target, iterations, number};
 
-impl Running {
+impl InstanceParts {
     /// A spawn, whose child's value is to go to a variable, if any.
     #[inline(always)]
     pub(crate) fn spawn(
@@ -214,7 +214,7 @@ impl Running {
         requires rank { self.old.rank < 2 ^ 32 }
         requires target { FindsTarget places.now self.old.top.env target.now }
         ensures shown { IfOk result (λ s. s ≡ effect.Emitted (event.Loop (present_of self.old ++ self.old.rank ∷ []))) }
-        ensures passed { OnOk result (self.new ≡ record self.old { rank = self.old.rank + 1; top = record self.old.top { env = with_variables self.old.top.env (filled target.now [] self.old.top.env.variables) } }) }
+        ensures passed { OnOk result (self.new ≡ record self.old { rank = self.old.rank + 1; top = record self.old.top { env = with_variables self.old.top.env (with_loop_values target.now [] self.old.top.env.variables) } }) }
         ensures stays { Stays self.old self.new }
         ensures few { Costs self.old self.new }
         ensures named { (plan : PlanView) → KeepsNames plan self.old self.new }
@@ -236,7 +236,7 @@ impl Running {
         requires rank { self.old.rank < 2 ^ 32 }
         requires target { FindsTarget places.now self.old.top.env target.now }
         ensures shown { IfOk result (λ s. s ≡ effect.Looped (event.Loop (present_of self.old ++ self.old.rank ∷ [])) (record { child = child; target = target.now })) }
-        ensures passed { OnOk result (self.new ≡ record self.old { rank = self.old.rank + 1; top = record self.old.top { env = with_variables self.old.top.env (filled target.now [] self.old.top.env.variables) } }) }
+        ensures passed { OnOk result (self.new ≡ record self.old { rank = self.old.rank + 1; top = record self.old.top { env = with_variables self.old.top.env (with_loop_values target.now [] self.old.top.env.variables) } }) }
         ensures stays { Stays self.old self.new }
         ensures few { Costs self.old self.new }
         ensures named { (plan : PlanView) → KeepsNames plan self.old self.new }

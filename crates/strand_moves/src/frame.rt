@@ -3,7 +3,7 @@
 ghost use Rattle.std.specs.Prelude.{◌≡◌, [], List, false, None, reverse};
 ghost use Rattle.std.specs.Option.{option_copied};
 ghost use Rattle.script_grammar.specs.declared.tree.Stmt.{Stmt};
-ghost use Rattle.strand_moves.specs.Running.{block_inside, body_of, statements_of};
+ghost use Rattle.strand_moves.specs.InstanceParts.{block_inside, body_of, statements_of};
 
 use crate::cursor::Cursor;
 use dotmix::Trail;

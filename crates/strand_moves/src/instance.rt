@@ -11,8 +11,8 @@ ghost use Rattle.strand_meaning.specs.Task.{frame_with_answer, changed, with_val
 use crate::effects::{MoveResult, Spawning};
 use crate::event_sink::EventSink;
 use crate::frame::Frame;
+use crate::instance_parts::InstanceParts;
 use crate::memory::Memory;
-use crate::running::Running;
 use dotmix::Trail;
 use script_grammar::Stmt;
 use serial_meaning::{Fault, Plan, Value};
@@ -22,7 +22,7 @@ use strand_values::Target;
 /// An instance that is running. It stands in a box, since the tasks above are moved again and again.
 #[derive(Drop)]
 pub struct Instance {
-    running: Box<Running>,
+    parts: Box<InstanceParts>,
 }
 
 impl Instance {
@@ -46,8 +46,8 @@ impl Instance {
         ensures path { IfOk result (λ i. path_of i ≡ trail.path) }
         ensures sound { IfOk result (IsInstance plan.now) }
     {
-        let running = Running::new(alloc, plan, function, args, trail)?;
-        Ok(Instance { running })
+        let parts = InstanceParts::new(alloc, plan, function, args, trail)?;
+        Ok(Instance { parts })
     }
 
     /// One move. Where there was no memory for it the instance is of no more use.
@@ -58,7 +58,7 @@ impl Instance {
         ensures path { IfOk result (λ _. path_of self.new ≡ path_of self.old) }
         ensures sound { IfOk result (λ _. IsInstance plan.now self.new) }
     {
-        self.running.make_move(alloc, plan)
+        self.parts.make_move(alloc, plan)
     }
 
     /// Moves in a row that show nothing or an event, which the sink takes. The answer is the statement whose move is next, if one is left, for
@@ -72,7 +72,7 @@ impl Instance {
         requires { IsInstance plan.now self.old }
         ensures { IfOk result (λ next. ComesToStatement S.after plan.now self.old sink.old self.new sink.new (option_copied next)) }
     {
-        self.running.row(alloc, plan, sink)
+        self.parts.row(alloc, plan, sink)
     }
 
     /// The move that is next, where it is the spawn of a child. Otherwise, or where it meets a fault, nothing changes.
@@ -89,7 +89,7 @@ impl Instance {
         ensures path { IfOk result (λ _. path_of self.new ≡ path_of self.old) }
         ensures sound { IfOk result (λ _. IsInstance plan.now self.new) }
     {
-        self.running.spawn_statement(alloc, plan, statement)
+        self.parts.spawn_statement(alloc, plan, statement)
     }
 
     /// The move that is next. Where there was no memory for it the instance is of no more use.
@@ -106,18 +106,18 @@ impl Instance {
         ensures path { IfOk result (λ _. path_of self.new ≡ path_of self.old) }
         ensures sound { IfOk result (λ _. IsInstance plan.now self.new) }
     {
-        self.running.make(alloc, plan, next)
+        self.parts.make(alloc, plan, next)
     }
 
     /// It has ended. It is taken apart here, since to drop it by its box copies its frame twice.
     #[inline(always)]
     pub fn discard(self) {
-        let Running {
+        let InstanceParts {
             trail,
             top,
             below,
             ..
-        } = Box::into_inner(self.running);
+        } = Box::into_inner(self.parts);
         let Frame {
             levels,
             cursor,
@@ -136,7 +136,7 @@ impl Instance {
         ensures path { path_of self.new ≡ path_of self.old }
         ensures sound { (plan : PlanView) → IsInstance plan self.old → IsInstance plan self.new }
     {
-        self.running.take_fault(height, fault);
+        self.parts.take_fault(height, fault);
     }
 
     /// Takes the value of a child of the frame with `height` others below it. A variable that isn't there doesn't come to be.
@@ -147,7 +147,7 @@ impl Instance {
         ensures path { path_of self.new ≡ path_of self.old }
         ensures sound { (p : PlanView) → IsInstance p self.old → IsInstance p self.new }
     {
-        self.running.take_value(plan, height, target, value);
+        self.parts.take_value(plan, height, target, value);
     }
 
     /// Takes the values of a loop of the innermost frame.
@@ -164,13 +164,13 @@ impl Instance {
         ensures path { path_of self.new ≡ path_of self.old }
         ensures sound { (p : PlanView) → IsInstance p self.old → IsInstance p self.new }
     {
-        self.running.take_values(alloc, plan, target, values);
+        self.parts.take_values(alloc, plan, target, values);
     }
 
     /// The least fault among the answers that the innermost frame took since its last sync.
     pub fn faulted(&self) -> Option<&Fault>
         ensures { (plan : PlanView) → option_copied result ≡ (machine_of plan self.now).top.faulted }
     {
-        self.running.faulted()
+        self.parts.faulted()
     }
 }

@@ -12,11 +12,11 @@ mod effects;
 mod event_sink;
 mod frame;
 mod instance;
+mod instance_parts;
 mod memory;
 mod narrow;
 mod quick;
 mod right;
-mod running;
 mod scopes;
 mod statement;
 

@@ -10,14 +10,14 @@ ghost use Rattle.strand_values.specs.Environments.{FindsName};
 ghost use Rattle.strand_moves.specs.Found.{ArePlaces, FindsRight, FindsRightVariables, FindsStatement, FindsVariables};
 ghost use Rattle.strand_moves.specs.Acts.{Costs, Stays};
 ghost use Rattle.strand_moves.specs.Cursors.{left_of};
-ghost use Rattle.strand_moves.specs.Running.{IsInstance, IsStrand, KeepsNames, statements_of};
+ghost use Rattle.strand_moves.specs.InstanceParts.{IsInstance, IsStrand, KeepsNames, statements_of};
 ghost use Rattle.strand_moves.specs.Quick.{HasCalled, HasEmitted, EndsFrame, HasGone, IsDone, IsQuiet, IsEmittedTo, IsWent, StaysThere, emitted, is_fork, quiet, emitted_if_any};
 ghost use Rattle.strand_moves.specs.Rows.{ComesToStatement};
 
 use crate::effects::{Effects, MoveResult};
 use crate::event_sink::EventSink;
+use crate::instance_parts::InstanceParts;
 use crate::memory::Memory;
-use crate::running::Running;
 use script_grammar::{Act, Name, Right, Stmt};
 use serial_meaning::{Event, Plan};
 use std::alloc::Global;
@@ -113,7 +113,7 @@ fn form_of_right(r: &Right) -> Form {
     }
 }
 
-impl Running {
+impl InstanceParts {
     /// Moves in a row, as far as they are plain or emitting statements, calls, or ends of frames after which the instance goes on: the first
     /// two give a variable a value, make an array, store an item, print, or are an `if` or a `while`. The text is found once and where another
     /// frame goes on, and a block again only where one is entered or left. The cursor passes the first statement that is none of these, or

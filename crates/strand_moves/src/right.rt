@@ -10,20 +10,20 @@ ghost use Rattle.strand_values.specs.declared.halt.Halt.TheVariants.{Fault};
 ghost use Rattle.strand_values.specs.Environments.{FindsExpression, FindsName};
 ghost use Rattle.strand_moves.specs.Found.{ArePlaces, FindsRight};
 ghost use Rattle.strand_moves.specs.Acts.{Acts, Costs, StaysUnlessMemory, Stays};
-ghost use Rattle.strand_moves.specs.Running.{IsStrand, KeepsNames};
+ghost use Rattle.strand_moves.specs.InstanceParts.{IsStrand, KeepsNames};
 ghost use Rattle.strand_moves.specs.Moves.{MovesTrail};
 ghost use Rattle.strand_moves.specs.Quick.{StaysThere, emitted, quiet};
 
 use crate::children::handed;
 use crate::effects::MoveResult;
+use crate::instance_parts::InstanceParts;
 use crate::quick::{emitted, quiet};
-use crate::running::Running;
 use script_grammar::{Expr, Name, Right};
 use serial_meaning::{Event, Plan, Value};
 use std::alloc::Global;
 use strand_values::Halt;
 
-impl Running {
+impl InstanceParts {
     /// `let x = R` or `x = R`.
     pub(crate) fn assign(
         &mut self,

@@ -12,15 +12,15 @@ ghost use Rattle.strand_values.specs.declared.halt.Halt.TheVariants as halt;
 ghost use Rattle.strand_values.specs.declared.halt.Halt.TheVariants.{Fault};
 ghost use Rattle.strand_moves.specs.Acts.{Acts, GoesIn, Keeps};
 ghost use Rattle.strand_moves.specs.Cursors.{IsAfterStatement, left_of};
-ghost use Rattle.strand_moves.specs.Running.{IsInstance, IsStrand, KeepsNames, machine_of, path_of, present_of, statements_of};
+ghost use Rattle.strand_moves.specs.InstanceParts.{IsInstance, IsStrand, KeepsNames, machine_of, path_of, present_of, statements_of};
 ghost use Rattle.strand_moves.specs.Moves.{Makes, MovesTrail, Shows, present_pedigree};
 ghost use Rattle.strand_moves.specs.declared.effects.Effects.TheVariants as effect;
 
 use crate::cursor::Cursor;
 use crate::effects::{Effects, MoveResult};
 use crate::frame::Level;
+use crate::instance_parts::InstanceParts;
 use crate::memory::Memory;
-use crate::running::Running;
 use dotmix::Trail;
 use ped_path::Pedigree;
 use serial_meaning::{FaultKind, Plan};
@@ -28,7 +28,7 @@ use std::alloc::Global;
 use std::mem;
 use strand_values::Halt;
 
-impl Running {
+impl InstanceParts {
     /// A scope, after which the cursor stands: its block stands one level further, at rank 0.
     pub(crate) fn scope(&mut self, alloc: Global, plan: &Plan) -> Result<MoveResult, Halt>
         requires { IsStrand plan.now self.old }

@@ -12,20 +12,20 @@ ghost use Rattle.strand_values.specs.Environments.{FindsExpression, FindsName};
 ghost use Rattle.strand_moves.specs.Found.{ArePlaces, FindsStatement};
 ghost use Rattle.strand_moves.specs.Acts.{Acts, Costs, Keeps, Stays};
 ghost use Rattle.strand_moves.specs.Cursors.{IsAfterStatement};
-ghost use Rattle.strand_moves.specs.Running.{IsInstance, KeepsNames, machine_of, path_of, present_of, statements_of};
+ghost use Rattle.strand_moves.specs.InstanceParts.{IsInstance, KeepsNames, machine_of, path_of, present_of, statements_of};
 ghost use Rattle.strand_moves.specs.Moves.{Makes, MovesTrail, present_pedigree};
 ghost use Rattle.strand_moves.specs.Quick.{StaysThere, emitted, quiet};
 
 use crate::children::handed;
 use crate::effects::MoveResult;
+use crate::instance_parts::InstanceParts;
 use crate::quick::{emitted, quiet};
-use crate::running::Running;
 use script_grammar::{Act, Expr, Name, Number, Stmt};
 use serial_meaning::{Event, FaultKind, Plan};
 use std::alloc::Global;
 use strand_values::{Halt, count};
 
-impl Running {
+impl InstanceParts {
     /// A statement, after which the cursor stands: its step, and then what it does.
     pub(crate) fn statement(
         &mut self,

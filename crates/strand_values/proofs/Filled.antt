@@ -262,18 +262,18 @@ module _ (names : List (List ℕ)) (entries : List Entry) (filled : List ℕ) (i
         ∙ sym (slot_held names name place at_place entries filled is)
         ∙ ap (λ (w : EnvironmentView). slot_of w.variables name) view_is
 
-    module _ (e : Entry) (read : e ≡ get_or entries place e) (now : List ℕ) (noted : now ≡ with_filled filled place (held e)) (put : Entry) (s : Slot) (holds : held put ≡ Some s) where
-      noted_there : now ≡ with_filled filled place (held_at entries place)
-      noted_there = noted ∙ ap (λ (o : Option Slot). with_filled filled place o) (ap held (get_or_read entries place e entry_there read entry.Vacant))
+    module _ (e : Entry) (read : e ≡ get_or entries place e) (now : List ℕ) (listed_now : now ≡ with_filled filled place (held e)) (put : Entry) (s : Slot) (holds : held put ≡ Some s) where
+      listed_there : now ≡ with_filled filled place (held_at entries place)
+      listed_there = listed_now ∙ ap (λ (o : Option Slot). with_filled filled place o) (ap held (get_or_read entries place e entry_there read entry.Vacant))
 
       pub entry_put : IsEnvironment names (slice_set entries place put) now
       entry_put =
           let kept = put_stays names name place at_place entries filled is put s holds in
-          rw noted_there kept
+          rw listed_there kept
 
       pub seen_put : seen_as names (slice_set entries place put) now ≡ with_variables env (with_slot env.variables name s)
       seen_put =
-          ap (λ (l : List ℕ). seen_as names (slice_set entries place put) l) noted_there
+          ap (λ (l : List ℕ). seen_as names (slice_set entries place put) l) listed_there
           ∙ ap (λ (vs : Env). let w : EnvironmentView = record { names = names; variables = vs } in w) (put_shown names name place at_place entries filled is put s holds)
           ∙ ap (λ (w : EnvironmentView). with_variables w (with_slot w.variables name s)) view_is
 

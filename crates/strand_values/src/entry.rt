@@ -52,7 +52,7 @@ impl Entry {
     }
 
     /// Writes an item of an array that is there.
-    pub fn set_at(&mut self, i: usize, number: i64)
+    pub fn put_item(&mut self, i: usize, number: i64)
         requires { i < length (items_of (held self.old)) }
         ensures { held self.new ≡ Some (Array (with_item (items_of (held self.old)) i number)) }
     {

@@ -3,7 +3,7 @@ ghost use Rattle.std.specs.Option.{option_copied};
 ghost use Rattle.script_check.specs.Places.{every_in_target, has_place, place_in, stand_from};
 ghost use Rattle.serial_meaning.specs.declared.environment.Slot.TheVariants.{Scalar, Array};
 ghost use Rattle.serial_meaning.specs.Values.{value_of, values_of, slot_of, items_of, at_index};
-ghost use Rattle.serial_meaning.specs.Exec.{bound, with_slot, zeros, set_item, has_room, filled};
+ghost use Rattle.serial_meaning.specs.Exec.{bound, with_slot, zeros, set_item, has_room, with_loop_values};
 ghost use Rattle.serial_meaning.specs.declared.event.FaultKind.{FaultKind};
 ghost use Rattle.serial_meaning.specs.declared.value.Value.TheVariants.{Int};
 ghost use Rattle.strand_values.specs.declared.halt.Halt.TheVariants.{Fault};
@@ -18,7 +18,7 @@ use crate::plain;
 use crate::scalar::number;
 use crate::target::Target;
 use crate::value::{self, is_integer};
-use meet_block::Log;
+use meet_block::KnownList;
 use script_grammar::{Expr, Items, Name, NameText, Param};
 use serial_meaning::Value;
 use std::alloc::Global;
@@ -34,7 +34,7 @@ pub struct Environment {
     /// The names of its function's variables. Only contracts look there, so they take no memory.
     names: Snapshot<Items<NameText>>,
     /// The places in the order in which they were filled, alike.
-    filled: Log<usize>,
+    filled: KnownList<usize>,
 }
 
 impl Model for Environment {
@@ -60,7 +60,7 @@ impl Environment {
         Ok(Environment {
             entries,
             names: Snapshot::of(names),
-            filled: Log::none(),
+            filled: KnownList::none(),
         })
     }
 
@@ -179,7 +179,7 @@ impl Environment {
     {
         let place = places[name.at as usize] as usize;
         self.filled = with_filled(
-            mem::replace(&mut self.filled, Log::none()),
+            mem::replace(&mut self.filled, KnownList::none()),
             &self.entries[place],
             place,
         );
@@ -242,7 +242,7 @@ impl Environment {
         requires there { IsSome (at_index (items_of (slot_of self.old.variables name.now.bytes)) index) }
         ensures { self.new ≡ with_variables self.old (with_slot self.old.variables name.now.bytes (Array (set_item (items_of (slot_of self.old.variables name.now.bytes)) index value.now))) }
     {
-        self.entries[places[name.at as usize] as usize].set_at(index as usize, number(value));
+        self.entries[places[name.at as usize] as usize].put_item(index as usize, number(value));
     }
 
     /// Whether a loop's target, if there is one, has at least `n` items.
@@ -259,7 +259,7 @@ impl Environment {
     /// Writes no values over a loop's target, if there is one: what is no array becomes one of no items.
     pub fn clear(&mut self, alloc: Global, places: &[u16], target: Option<&Name>)
         requires { every_in_target (has_place places.now self.old.names) (option_copied target) ≡ true }
-        ensures { self.new ≡ with_variables self.old (filled (option_copied target.entry) [] self.old.variables) }
+        ensures { self.new ≡ with_variables self.old (with_loop_values (option_copied target.entry) [] self.old.variables) }
     {
         if let Some(name) = target {
             self.fill_entry(alloc, places[name.at as usize] as usize, &[]);
@@ -269,7 +269,7 @@ impl Environment {
     /// Writes a loop's values over the first items of its target, if there is one. What is no array becomes one of no items.
     pub fn fill(&mut self, alloc: Global, places: &[u16], target: Option<&Target>, values: &[Value])
         requires { every_in_target (has_place places.now self.old.names) (option_copied target) ≡ true }
-        ensures { self.new ≡ with_variables self.old (filled (option_copied target.entry) values.now self.old.variables) }
+        ensures { self.new ≡ with_variables self.old (with_loop_values (option_copied target.entry) values.now self.old.variables) }
     {
         if let Some(target) = target {
             self.fill_entry(alloc, places[target.at() as usize] as usize, values);
@@ -279,10 +279,10 @@ impl Environment {
     /// Writes values over the first items of an array in the entry of a place. What is no array becomes one of no items.
     fn fill_entry(&mut self, alloc: Global, place: usize, values: &[Value])
         requires { IsOwnPlace self.old.names place }
-        ensures { (name : List ℕ) → place_in self.old.names name ≡ Some place → self.new ≡ with_variables self.old (filled (Some (record { bytes = name; at = 0 })) values.now self.old.variables) }
+        ensures { (name : List ℕ) → place_in self.old.names name ≡ Some place → self.new ≡ with_variables self.old (with_loop_values (Some (record { bytes = name; at = 0 })) values.now self.old.variables) }
     {
         self.filled = with_filled(
-            mem::replace(&mut self.filled, Log::none()),
+            mem::replace(&mut self.filled, KnownList::none()),
             &self.entries[place],
             place,
         );
@@ -297,7 +297,7 @@ impl Environment {
         ensures { (name : List ℕ) → place_in self.old.names name ≡ Some place → self.new ≡ with_variables self.old (with_what self.old.variables name (held entry)) }
     {
         self.filled = with_filled(
-            mem::replace(&mut self.filled, Log::none()),
+            mem::replace(&mut self.filled, KnownList::none()),
             &self.entries[place],
             place,
         );
@@ -307,7 +307,7 @@ impl Environment {
 
 /// The places in the order in which they were filled, once there is something in this entry.
 #[inline(always)]
-fn with_filled(filled: Log<usize>, entry: &Entry, place: usize) -> Log<usize>
+fn with_filled(filled: KnownList<usize>, entry: &Entry, place: usize) -> KnownList<usize>
     ensures { result.items ≡ with_filled filled.items place (held entry.now) }
 {
     if entry.is_vacant() {

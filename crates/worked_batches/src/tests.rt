@@ -227,7 +227,7 @@ fn another_hand_steals_the_last_root(rt: HostRuntime) -> Result<(), Fail> {
     Ok(())
 }
 
-// Holds the first root that begins until another one has, for so many turns of a loop.
+// Holds the first root that begins until another one has, for so many rounds of a loop.
 const MOST_TURNS: u32 = 50000000;
 
 #[derive(Drop)]

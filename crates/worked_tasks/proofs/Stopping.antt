@@ -13,7 +13,7 @@ use Rattle.strand_meaning.proofs.SoundSteps.Ends.{tasks_begin}
 use Rattle.strand_meaning.proofs.NextStops.Fewer.{stops_fall}
 use Rattle.strand_meaning.proofs.NextStops.Stops.{stops_are_sound, stops_keep_origins}
 use Rattle.strand_machine.specs.Family.{tag, tags}
-use Rattle.strand_machine.specs.Stops.{IsStop, Advances, advances, answer_tags}
+use Rattle.strand_machine.specs.Stops.{IsStop, Advances, answer_tags}
 use Rattle.strand_machine.specs.Tasks.{TaskView, fresh}
 use Rattle.strand_machine.specs.declared.stop.Stop as stop_type
 use Rattle.strand_machine.specs.declared.stop.Stop.TheVariants as stop
@@ -47,7 +47,7 @@ stops t (stop.Done answer give) is at =
     (at.keeps.0, ap (λ (p : PlanView). tag p answer.origin) at.keeps.0 ∙ ap (tag t.task.plan) at.keeps.1 ∙ sym at.keeps.2)
 
 pub stopped : (t : TaskView) (s : stop_type.Stop) → IsIdle t → Advances t s → StopsAt t s
-stopped t s is at = stops t s is (subst (λ (c : Option Outcome). advances c t s) is.goes_on at)
+stopped t s is at = stops t s is (at.goes_on is.goes_on)
 
 -- two origins are all that is awaited
 pub pair : {A : Type 0} (l : List A) (x y : A) → length l ≡ 2 → x ≡ get_or l 0 x → y ≡ get_or l 1 y → l ≡ x ∷ y ∷ []

@@ -11,7 +11,7 @@ use Rattle.strand_meaning.specs.Task.{End}
 use Rattle.strand_machine.specs.Stops.{IsStop}
 use Rattle.strand_machine.specs.Parts.{awaited}
 use Rattle.strand_machine.specs.declared.stop.Stop.TheVariants as stop
-use Rattle.sched_meaning.specs.Steps.{after_stop, noted}
+use Rattle.sched_meaning.specs.Steps.{after_stop, recorded}
 use Rattle.sched_meaning.specs.declared.event.CoreEvent.TheVariants.{Run}
 use Rattle.sched_meaning.proofs.KeptByEvents.Cores as cores
 use Rattle.sched_meaning.proofs.KeptByEvents.Good.{IsLeft, stop-leaves}
@@ -119,7 +119,7 @@ module _ (s next : CoreState) (t : IsConsistent s) (none : s.root ≡ None) (w :
     said = ap (answer_of (plan_of s)) stops.keeps.1 ∙ (λ i. record { plan = sym left.0 i; origin = (task_in j).origin; out = sym left.1.events i; outcome = sym left.1.ends i })
 
     core-is : origins_of next.nodes.items ≡ origins_of s.nodes.items →
-        core_of false next ≡ noted (task_in j) (End a.out a.outcome) (record (core_of false s) { workers = slice_set (map worker_of s.workers.items) w (after_stop (End a.out a.outcome) (worker_of v)) })
+        core_of false next ≡ recorded (task_in j) (End a.out a.outcome) (record (core_of false s) { workers = slice_set (map worker_of s.workers.items) w (after_stop (End a.out a.outcome) (worker_of v)) })
     core-is same = λ i. record { plan = arc_value (p.plan i); workers = workers i; begun = same i; answers = answers i; runs = p.runs i; spent = false }
       where
         workers : map worker_of next.workers.items ≡ slice_set (map worker_of s.workers.items) w (after_stop (End a.out a.outcome) (worker_of v))

@@ -7,7 +7,7 @@ use Rattle.strand_machine.specs.Parts.{awaited}
 use Rattle.strand_machine.specs.Stops.{IsStop}
 use Rattle.strand_machine.specs.Tasks.{TaskView}
 use Rattle.strand_machine.specs.declared.stop.Stop.TheVariants as stop
-use Rattle.sched_meaning.specs.Steps.{Step, after_stop, noted}
+use Rattle.sched_meaning.specs.Steps.{Step, after_stop, recorded}
 use Rattle.sched_meaning.specs.declared.event.CoreEvent.TheVariants.{Run}
 use Rattle.sched_meaning.proofs.BegunOnce.Begun.{is-it, is_it}
 use Rattle.sched_meaning.proofs.BegunOnce.Changing.{total}
@@ -110,7 +110,7 @@ module _ (s next : CoreState) (t : IsConsistent s) (none : s.root ≡ None) (w :
     after-is : worker_of (record v { current = Some child; deque = v.deque ++ rest ∷ [] }) ≡ after_stop (Spawn (task_in child).origin (task_in rest)) (worker_of v)
     after-is = λ i. record { current = Some (child-is i); deque = map-end v.deque rest i; stalled = map task_in v.stalled }
 
-    core-is : core_of false next ≡ noted (task_in j) (Spawn (task_in child).origin (task_in rest)) (record (core_of false s) { workers = slice_set (map worker_of s.workers.items) w (after_stop (Spawn (task_in child).origin (task_in rest)) (worker_of v)) })
+    core-is : core_of false next ≡ recorded (task_in j) (Spawn (task_in child).origin (task_in rest)) (record (core_of false s) { workers = slice_set (map worker_of s.workers.items) w (after_stop (Spawn (task_in child).origin (task_in rest)) (worker_of v)) })
     core-is = λ i. record {
       plan = arc_value (p.plan i);
       workers = workers i;

@@ -4,7 +4,7 @@ use Rattle.std.proofs.Common.{◌≡◌, ℕ, ◌+◌, ◌≤◌, true, false, [
 use Rattle.strand_meaning.proofs.TakenAnswers.AnswersKeepTasks.{none-handed}
 use Rattle.strand_machine.specs.Family.{tags}
 use Rattle.strand_machine.specs.Parts.{awaited}
-use Rattle.strand_machine.specs.Stops.{WentOn, answer_tags, view_on, went}
+use Rattle.strand_machine.specs.Stops.{WentOn, answer_tags, view_on}
 use Rattle.strand_machine.specs.Tasks.{TaskView}
 use Rattle.sched_meaning.specs.Core as machine
 use Rattle.sched_meaning.specs.Core.{current_tasks, gone_on}
@@ -62,8 +62,7 @@ module _ (s : CoreState) (t : IsConsistent s) (w place : ℕ) (v : WorkerView) (
     -- it went on by the answers, of which none is a cut
     pub went-is : (next : Job) → WentOn (answers_in node.children) j.task next.task → next.task ≡ view_on j.task
     went-is next h =
-        subst (λ b. went b (answers_in node.children) j.task next.task)
-        (none-cut (plan_of s) s.given (origins_of s.nodes.items) node.children (awaited (task_in j).trace.handed) awaits (heard (plan_of s) s.given s.nodes.items t.nodes j.number node found)) h
+        h.whole (none-cut (plan_of s) s.given (origins_of s.nodes.items) node.children (awaited (task_in j).trace.handed) awaits (heard (plan_of s) s.given s.nodes.items t.nodes j.number node found))
 
 -- what the state is after the look
 pub record HasResumed (w place : ℕ) (j next_job : Job) (node : SpawnNode) (v : WorkerView) (s next : CoreState) : Type 0 where

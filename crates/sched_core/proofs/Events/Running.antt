@@ -8,7 +8,7 @@ use Rattle.strand_machine.specs.Stops.{IsStop}
 use Rattle.strand_machine.specs.declared.stop.Stop.TheVariants as stop
 use Rattle.sched_meaning.specs.Core as machine
 use Rattle.sched_meaning.specs.Core.{current_tasks}
-use Rattle.sched_meaning.specs.Steps.{Happens, Step, after_stop, noted}
+use Rattle.sched_meaning.specs.Steps.{Happens, Step, after_stop, recorded}
 use Rattle.sched_meaning.specs.Steps as steps
 use Rattle.sched_meaning.specs.declared.event.CoreEvent.TheVariants.{Run}
 use Rattle.sched_meaning.proofs.BegunOnce.Begun.{is-it, is_it}
@@ -75,7 +75,7 @@ module _ (s next : CoreState) (t : IsConsistent s) (none : s.root ≡ None) (w :
   abbrev pub moved : machine.Core
   moved = record (core_of false s) { workers = slice_set (map worker_of s.workers.items) w (after_stop stop (worker_of v)) }
 
-  runs : core_of false next ≡ noted (task_in j) stop moved → steps.Runs w (core_of false s) (core_of false next)
+  runs : core_of false next ≡ recorded (task_in j) stop moved → steps.Runs w (core_of false s) (core_of false next)
   runs e = record {
     task = task_in j;
     stop = stop;
@@ -90,7 +90,7 @@ module _ (s next : CoreState) (t : IsConsistent s) (none : s.root ≡ None) (w :
     next_is = e;
   }
 
-  pub run-step : core_of false next ≡ noted (task_in j) stop moved → Step (Run w) (core_of false s) (core_of false next)
+  pub run-step : core_of false next ≡ recorded (task_in j) stop moved → Step (Run w) (core_of false s) (core_of false next)
   run-step e = record { unanswered = unanswered s t none; happens = runs e }
 
   pub workers-moved : worker_of after ≡ after_stop stop (worker_of v) → map worker_of (slice_set s.workers.items w after) ≡ slice_set (map worker_of s.workers.items) w (after_stop stop (worker_of v))
@@ -129,7 +129,7 @@ module _ (s next : CoreState) (t : IsConsistent s) (none : s.root ≡ None) (w :
         let old : AreJobs s.nodes.items v = t.workers w v there in
         record { current = tt; deque = old.deque; stalled = everywhere-end (IsJob s.nodes.items) v.stalled rest old.stalled rest-job }
 
-    core-is : core_of false next ≡ noted (task_in j) (Wait (task_in rest)) (record (core_of false s) { workers = slice_set (map worker_of s.workers.items) w (after_stop (Wait (task_in rest)) (worker_of v)) })
+    core-is : core_of false next ≡ recorded (task_in j) (Wait (task_in rest)) (record (core_of false s) { workers = slice_set (map worker_of s.workers.items) w (after_stop (Wait (task_in rest)) (worker_of v)) })
     core-is = λ i. record {
       plan = arc_value (p.plan i);
       workers = workers i;

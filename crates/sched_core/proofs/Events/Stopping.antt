@@ -2,7 +2,7 @@
 use Rattle.std.proofs.Common.{◌≡◌, ℕ, zero, suc, ◌+◌, ◌≤◌, ◌<◌, List, [], ◌∷◌, ◌++◌, Option, Some, None, Contains, slice_get, slice_set, length, refl, sym, ap, ◌∙◌, subst, arith}
 use Rattle.std.proofs.lemmas.Option.{slice_get_within}
 use Rattle.serial_meaning.specs.Answer.{AnswerView}
-use Rattle.strand_machine.specs.Stops.{Advances, IsStop, advances}
+use Rattle.strand_machine.specs.Stops.{Advances, IsStop}
 use Rattle.strand_machine.specs.Tasks.{TaskView}
 use Rattle.strand_machine.specs.declared.stop.Stop.{Stop}
 use Rattle.strand_machine.specs.declared.stop.Stop.TheVariants as stop
@@ -79,7 +79,7 @@ module _ (s mid : CoreState) (t : IsConsistent s) (w : ℕ) (j : Job) (lets : Wo
   }
 
   stops-so : (to : Stop) → Advances j.task to → IsStop j.task to
-  stops-so to a = subst (λ o. advances o j.task to) own.uncut a
+  stops-so to a = a.goes_on own.uncut
 
   -- The stop
 

@@ -2,7 +2,7 @@
 use Rattle.std.proofs.Common.{◌≡◌, ℕ, inl, inr, length, refl, sym, ap, ◌∙◌, subst}
 use Rattle.strand_meaning.specs.Task.{Task, Stop, Spawn, Wait, End}
 use Rattle.sched_meaning.specs.Core.{Core, Worker}
-use Rattle.sched_meaning.specs.Steps.{Changes, Happens, noted}
+use Rattle.sched_meaning.specs.Steps.{Changes, Happens, recorded}
 use Rattle.sched_meaning.specs.declared.event.CoreEvent.{CoreEvent}
 use Rattle.sched_meaning.specs.declared.event.CoreEvent.TheVariants.{Run, Pop, Steal, Look, Idle}
 use Rattle.sched_core.proofs.Worked.Lists.{length-set}
@@ -24,14 +24,14 @@ module _ (n : ℕ) (R : Worker → Worker → Type 0) (c next : Core) (p : Chang
 both-stay : (a b c : Core) → Stays a b → Stays b c → Stays a c
 both-stay a b c p q = record { plan = q.plan ∙ p.plan; workers = q.workers ∙ p.workers }
 
-noted-stays : (t : Task) (stop : Stop) (c : Core) → Stays c (noted t stop c)
-noted-stays t (Spawn child rest) c = record { plan = refl; workers = refl }
-noted-stays t (Wait rest) c = record { plan = refl; workers = refl }
-noted-stays t (End out ended) c = record { plan = refl; workers = refl }
+recorded-stays : (t : Task) (stop : Stop) (c : Core) → Stays c (recorded t stop c)
+recorded-stays t (Spawn child rest) c = record { plan = refl; workers = refl }
+recorded-stays t (Wait rest) c = record { plan = refl; workers = refl }
+recorded-stays t (End out ended) c = record { plan = refl; workers = refl }
 
 pub happens-stays : (e : CoreEvent) (c next : Core) → Happens e c next → Stays c next
 happens-stays (Run w) c next h =
-    subst (λ (d : Core). Stays c d) (sym h.next_is) (both-stay c h.moved (noted h.task h.stop h.moved) (changed-stays w _ c h.moved h.runs) (noted-stays h.task h.stop h.moved))
+    subst (λ (d : Core). Stays c d) (sym h.next_is) (both-stay c h.moved (recorded h.task h.stop h.moved) (changed-stays w _ c h.moved h.runs) (recorded-stays h.task h.stop h.moved))
 happens-stays (Pop w) c next h = changed-stays w _ c next h.pops
 happens-stays (Steal thief victim) c next h = both-stay c h.without next (changed-stays victim _ c h.without h.gives) (changed-stays thief _ h.without next h.takes)
 happens-stays (Look w place) c next (inl h) = changed-stays w _ c next h.resumes

@@ -15,7 +15,7 @@ use Rattle.serial_meaning.specs.Runs.{Run, done, goes_on, ◌then◌}
 use Rattle.serial_meaning.specs.Values.{value_of, values_of, slot_of, items_of, as_integer, is_true, at_index}
 use Rattle.serial_meaning.specs.Functions.{number_of, function_at}
 use Rattle.serial_meaning.specs.Plan.{PlanView, functions_of}
-use Rattle.serial_meaning.specs.Exec.{State, Manner, strand, unless_fault, paid_from, tested, has_room, fits_depth, spawn, join_at, implied, frame, called, right_side, found, looped, does, count_of}
+use Rattle.serial_meaning.specs.Exec.{State, Manner, strand, unless_fault, paid_from, tested, has_room, fits_depth, spawn, sync_at, implied, frame, called, right_side, found, looped, does, count_of}
 use Rattle.serial_meaning.specs.Eval.{path_of}
 use Rattle.serial_meaning.specs.Open.{is_empty_loop}
 use Rattle.serial_meaning.specs.declared.value.Value.{Value}
@@ -137,7 +137,7 @@ handed [] = 0
 handed (Opens j ∷ ts) = handed ts
 handed (Closes j ∷ ts) = handed ts
 handed (Emitted e ∷ ts) = handed ts
-handed (Handed o place ∷ ts) = suc (handed ts)
+handed (Handed o destination ∷ ts) = suc (handed ts)
 handed (Syncs ∷ ts) = handed ts
 handed (Loops ∷ ts) = handed ts
 
@@ -146,7 +146,7 @@ child-handed [] o h = absurd (cc)
 child-handed (Opens j ∷ ts) o h = child-handed ts o h
 child-handed (Closes j ∷ ts) o h = child-handed ts o h
 child-handed (Emitted e ∷ ts) o h = child-handed ts o h
-child-handed (Handed c place ∷ ts) o h = omega arith
+child-handed (Handed c destination ∷ ts) o h = omega arith
 child-handed (Syncs ∷ ts) o h = child-handed ts o h
 child-handed (Loops ∷ ts) o h = child-handed ts o h
 
@@ -162,7 +162,7 @@ module _ (plan : PlanView) (path : List ℕ) (k : ℕ) (In : ℕ → Type 0) (st
   Rises rank r = RankEnd rank r.items r.ending
 
   abbrev what : Destination → Manner Effect Exit Bool
-  what place = handing plan place
+  what destination = handing plan destination
 
   abbrev of-state : State Bool → ℕ
   of-state s = s.rank
@@ -170,17 +170,17 @@ module _ (plan : PlanView) (path : List ℕ) (k : ℕ) (In : ℕ → Type 0) (st
   abbrev of-value : Value × State Bool → ℕ
   of-value p = p.1.rank
 
-  rises-given : {A B : Type 0} (rank : B → ℕ) (place : Destination) (o : Result A FaultKind) (s : State Bool) (f : A → Run Effect Exit B) → ((a : A) → Rises rank (f a)) → Rises rank (unless_fault (what place) plan path o s f)
-  rises-given rank place (Ok a) s f h = h a
-  rises-given rank place (Err kind) s f h = tt
+  rises-given : {A B : Type 0} (rank : B → ℕ) (destination : Destination) (o : Result A FaultKind) (s : State Bool) (f : A → Run Effect Exit B) → ((a : A) → Rises rank (f a)) → Rises rank (unless_fault (what destination) plan path o s f)
+  rises-given rank destination (Ok a) s f h = h a
+  rises-given rank destination (Err kind) s f h = tt
 
-  rises-tested : {B : Type 0} (rank : B → ℕ) (place : Destination) (b : Bool) (kind : FaultKind) (s : State Bool) (f : Run Effect Exit B) → Rises rank f → Rises rank (tested (what place) plan path b kind s f)
-  rises-tested rank place true kind s f h = h
-  rises-tested rank place false kind s f h = tt
+  rises-tested : {B : Type 0} (rank : B → ℕ) (destination : Destination) (b : Bool) (kind : FaultKind) (s : State Bool) (f : Run Effect Exit B) → Rises rank f → Rises rank (tested (what destination) plan path b kind s f)
+  rises-tested rank destination true kind s f h = h
+  rises-tested rank destination false kind s f h = tt
 
-  rises-paid : {B : Type 0} (rank : B → ℕ) (place : Destination) (n : ℕ) (s : State Bool) → s.rank ≡ k → (f : State Bool → Run Effect Exit B) → ((s : State Bool) → s.rank ≡ k → Rises rank (f s)) → Rises rank (paid_from (what place) plan path n s f)
-  rises-paid rank place zero s e f h = tt
-  rises-paid rank place (suc n) s e f h = h (record s { steps = n }) e
+  rises-paid : {B : Type 0} (rank : B → ℕ) (destination : Destination) (n : ℕ) (s : State Bool) → s.rank ≡ k → (f : State Bool → Run Effect Exit B) → ((s : State Bool) → s.rank ≡ k → Rises rank (f s)) → Rises rank (paid_from (what destination) plan path n s f)
+  rises-paid rank destination zero s e f h = tt
+  rises-paid rank destination (suc n) s e f h = h (record s { steps = n }) e
 
   rises-then : {A B : Type 0} (rank : A → ℕ) (last : B → ℕ) (r : Run Effect Exit A) (g : A → B) → ((a : A) → last (g a) ≡ rank a) → Rises rank r → Rises last (r then λ a. done (g a))
   rises-then {A} {B} rank last r g same h = from r.items r.ending h
@@ -190,51 +190,51 @@ module _ (plan : PlanView) (path : List ℕ) (k : ℕ) (In : ℕ → Type 0) (st
       from ts (Err (Faulted f)) h = tt
       from ts (Err (Inside here calls sts s)) h = h
 
-  rises-sync : (place : Destination) (here : List ℕ) (s : State Bool) → s.rank ≡ k → Rises of-state (join_at (what place) plan path here s)
-  rises-sync place here s e = from s.spawned
+  rises-sync : (destination : Destination) (here : List ℕ) (s : State Bool) → s.rank ≡ k → Rises of-state (sync_at (what destination) plan path here s)
+  rises-sync destination here s e = from s.spawned
     where
       from : (b : Bool) → k + handed (Emitted (event.Sync (strand here s)) ∷ (sync_effects b ++ [])) ≤ s.rank + 1
       from true = omega arith
       from false = omega arith
 
-  rises-spawn : (place : Destination) (c : CallText) (s : State Bool) → s.rank ≡ k → Rises of-value (spawn (what place) plan path c s)
-  rises-spawn place c s e =
-      rises-given of-value place (values_of c.args s.env) s _ (λ vs. rises-tested of-value place (nat_lt (length path + 1) plan.limits.depth) Depth s _ after)
+  rises-spawn : (destination : Destination) (c : CallText) (s : State Bool) → s.rank ≡ k → Rises of-value (spawn (what destination) plan path c s)
+  rises-spawn destination c s e =
+      rises-given of-value destination (values_of c.args s.env) s _ (λ vs. rises-tested of-value destination (nat_lt (length path + 1) plan.limits.depth) Depth s _ after)
     where
       after : k + 1 ≤ s.rank + 1
       after = omega arith
 
-  rises-called : (place : Destination) (calls : ℕ) (c : CallText) (s : State Bool) → s.rank ≡ k → Rises of-value (called (what place) plan path inside calls c s)
-  rises-called place calls c s e =
-      rises-given of-value place (values_of c.args s.env) s _ (λ vs. rises-tested of-value place (nat_lt calls 256) Calls s _
-      (rises-then of-value of-value (frame (what place) plan path inside (calls + 1) (function_at (functions_of plan) (number_of (functions_of plan) c.name.bytes)) vs s) (λ r. (r.0, record s { rank = r.1.rank; steps = r.1.steps })) (λ r. refl)
+  rises-called : (destination : Destination) (calls : ℕ) (c : CallText) (s : State Bool) → s.rank ≡ k → Rises of-value (called (what destination) plan path inside calls c s)
+  rises-called destination calls c s e =
+      rises-given of-value destination (values_of c.args s.env) s _ (λ vs. rises-tested of-value destination (nat_lt calls 256) Calls s _
+      (rises-then of-value of-value (frame (what destination) plan path inside (calls + 1) (function_at (functions_of plan) (number_of (functions_of plan) c.name.bytes)) vs s) (λ r. (r.0, record s { rank = r.1.rank; steps = r.1.steps })) (λ r. refl)
       (by_function vs (function_at (functions_of plan) (number_of (functions_of plan) c.name.bytes)))))
     where
-      by_function : (vs : List Value) (o : Option Function) → Rises of-value (frame (what place) plan path inside (calls + 1) o vs s)
+      by_function : (vs : List Value) (o : Option Function) → Rises of-value (frame (what destination) plan path inside (calls + 1) o vs s)
       by_function vs None = omega arith
       by_function vs (Some f) = (refl, subst In (sym e) stays)
 
-  rises-right : (place : Destination) (calls : ℕ) (r : Right) (s : State Bool) → s.rank ≡ k → Rises of-value (right_side (what place) plan path inside calls r s)
-  rises-right place calls (right.Value x) s e = rises-given of-value place (value_of x s.env) s _ (λ v. same)
+  rises-right : (destination : Destination) (calls : ℕ) (r : Right) (s : State Bool) → s.rank ≡ k → Rises of-value (right_side (what destination) plan path inside calls r s)
+  rises-right destination calls (right.Value x) s e = rises-given of-value destination (value_of x s.env) s _ (λ v. same)
     where
       same : k + 0 ≤ s.rank
       same = omega arith
-  rises-right place calls (right.Draw a) s e = omega arith
-  rises-right place calls (right.New a) s e = omega arith
-  rises-right place calls (right.Call a c) s e = rises-called place calls c s e
-  rises-right place calls (right.Spawn a c) s e = rises-spawn place c s e
+  rises-right destination calls (right.Draw a) s e = omega arith
+  rises-right destination calls (right.New a) s e = omega arith
+  rises-right destination calls (right.Call a c) s e = rises-called destination calls c s e
+  rises-right destination calls (right.Spawn a c) s e = rises-spawn destination c s e
 
   rises-loop : (target : Option Name) (c : CallText) (lo : ℤ) (hi : ℕ) (vs : List Value) (s : State Bool) → s.rank ≡ k → Rises of-state (looped (what (Looped target)) plan path lo hi vs target c s)
   rises-loop target c lo hi vs s e =
-      rises-tested of-state place (nat_lt hi (s.steps + 1)) Budget s _ (rises-tested of-state place (has_room target hi s.env) Index _ _ (rises-tested of-state place (fits_depth (what place) plan path hi) Depth _ _ (from (is_empty_loop o))))
+      rises-tested of-state destination (nat_lt hi (s.steps + 1)) Budget s _ (rises-tested of-state destination (has_room target hi s.env) Index _ _ (rises-tested of-state destination (fits_depth (what destination) plan path hi) Depth _ _ (from (is_empty_loop o))))
     where
-      place : Destination
-      place = Looped target
+      destination : Destination
+      destination = Looped target
 
       o : Origin
       o = origin.Loop (number_of (functions_of plan) c.name.bytes) vs lo (path ++ s.rank ∷ []) (record { lo = 0; hi = hi })
 
-      from : (b : Bool) → k + handed (Emitted (event.Loop (path ++ s.rank ∷ [])) ∷ (loop_effects b o place ++ [])) ≤ s.rank + 1
+      from : (b : Bool) → k + handed (Emitted (event.Loop (path ++ s.rank ∷ [])) ∷ (loop_effects b o destination ++ [])) ≤ s.rank + 1
       from true = omega arith
       from false = omega arith
 
@@ -280,26 +280,26 @@ module _ (plan : PlanView) (path : List ℕ) (k : ℕ) where
   rises-does : (height : ℕ) (st : Stmt) (a : Act-F Act Stmt) (s : State Bool) → s.rank ≡ k →
       Rises plan path k (Enters k a) (enters-here k a) state_rank (does (handing plan (destination_of height a)) plan path inside height st a s)
   rises-does height st (act.Let x r) s e =
-      let place = Spawned height (Some x) in rises-then plan path k Same refl value_rank state_rank (right_side (handing plan place) plan path inside height r s) _ (λ p. refl) (rises-right plan path k Same refl place height r s e)
+      let destination = Spawned height (Some x) in rises-then plan path k Same refl value_rank state_rank (right_side (handing plan destination) plan path inside height r s) _ (λ p. refl) (rises-right plan path k Same refl destination height r s e)
   rises-does height st (act.Array x n) s e = omega arith
   rises-does height st (act.Set x r) s e =
-      let place = Spawned height (Some x) in rises-then plan path k Same refl value_rank state_rank (right_side (handing plan place) plan path inside height r s) _ (λ p. refl) (rises-right plan path k Same refl place height r s e)
+      let destination = Spawned height (Some x) in rises-then plan path k Same refl value_rank state_rank (right_side (handing plan destination) plan path inside height r s) _ (λ p. refl) (rises-right plan path k Same refl destination height r s e)
   rises-does height st (act.Store x i v) s e =
-      rises-given plan path k Same refl state_rank place (value_of i s.env) s _ (λ n. by_item (at_index (items_of (slot_of s.env x.bytes)) (as_integer n)) _ (rises-given plan path k Same refl state_rank place (value_of v s.env) s _ (λ w. same)))
+      rises-given plan path k Same refl state_rank destination (value_of i s.env) s _ (λ n. by_item (at_index (items_of (slot_of s.env x.bytes)) (as_integer n)) _ (rises-given plan path k Same refl state_rank destination (value_of v s.env) s _ (λ w. same)))
     where
-      place : Destination
-      place = Spawned height None
+      destination : Destination
+      destination = Spawned height None
 
       same : k + 0 ≤ s.rank
       same = omega arith
 
-      by_item : (o : Option ℤ) (r : Run Effect Exit (State Bool)) → Rises plan path k Same refl state_rank r → Rises plan path k Same refl state_rank (found (handing plan place) plan path o s r)
+      by_item : (o : Option ℤ) (r : Run Effect Exit (State Bool)) → Rises plan path k Same refl state_rank r → Rises plan path k Same refl state_rank (found (handing plan destination) plan path o s r)
       by_item None r h = tt
       by_item (Some old) r h = h
   rises-does height st (act.Spawn c) s e =
-      let place = Spawned height None in rises-then plan path k Same refl value_rank state_rank (spawn (handing plan place) plan path c s) _ (λ p. refl) (rises-spawn plan path k Same refl place c s e)
+      let destination = Spawned height None in rises-then plan path k Same refl value_rank state_rank (spawn (handing plan destination) plan path c s) _ (λ p. refl) (rises-spawn plan path k Same refl destination c s e)
   rises-does height st (act.Call c) s e =
-      let place = Spawned height None in rises-then plan path k Same refl value_rank state_rank (called (handing plan place) plan path inside height c s) _ (λ p. refl) (rises-called plan path k Same refl place height c s e)
+      let destination = Spawned height None in rises-then plan path k Same refl value_rank state_rank (called (handing plan destination) plan path inside height c s) _ (λ p. refl) (rises-called plan path k Same refl destination height c s e)
   rises-does height st act.Sync s e = rises-sync plan path k Same refl (Spawned height None) path s e
   rises-does height st (act.Print x) s e = rises-given plan path k Same refl state_rank (Spawned height None) (value_of x s.env) s _ (λ v. same)
     where
@@ -411,13 +411,13 @@ module _ (plan : PlanView) (path : List ℕ) (m : Machine) where
   return-on : m.top.levels ≡ [] → (b : Bool) → MovesOn path m (return_move plan path m b).items (return_move plan path m b).ending
   return-on flat false =
       reached-on Here refl (with_returning m) (λ sts s. m) rises-on no-inside (return_run plan path m).items (return_run plan path m).ending
-      (rises-paid plan (here_of path m) m.rank Here refl (λ s. s.rank) place m.steps (state_of m) refl _ (λ s e. by_text (spawns_in (function_at (functions_of plan) m.top.function)) s e))
+      (rises-paid plan (here_of path m) m.rank Here refl (λ s. s.rank) destination m.steps (state_of m) refl _ (λ s e. by_text (spawns_in (function_at (functions_of plan) m.top.function)) s e))
     where
-      place : Destination
-      place = Spawned (length m.below) None
+      destination : Destination
+      destination = Spawned (length m.below) None
 
-      by_text : (b : Bool) (s : State Bool) → s.rank ≡ m.rank → Rises plan (here_of path m) m.rank Here refl (λ s. s.rank) (implied (handing plan place) plan (here_of path m) b s)
-      by_text true s e = rises-sync plan (here_of path m) m.rank Here refl place (here_of path m) s e
+      by_text : (b : Bool) (s : State Bool) → s.rank ≡ m.rank → Rises plan (here_of path m) m.rank Here refl (λ s. s.rank) (implied (handing plan destination) plan (here_of path m) b s)
+      by_text true s e = rises-sync plan (here_of path m) m.rank Here refl destination (here_of path m) s e
       by_text false s e = omega arith
   return-on flat true = by_function (function_at (functions_of plan) m.top.function)
     where
@@ -432,7 +432,7 @@ module _ (plan : PlanView) (path : List ℕ) (m : Machine) where
 
   level-on : (l : Level) (ls : List Level) → m.top.levels ≡ l ∷ ls → (b : Bool) → MovesOn path m (level_move plan path m l ls b).items (level_move plan path m l ls b).ending
   level-on l ls at false =
-      let r = join_at (handing plan (Spawned (length m.below) None)) plan (present path m.below) (here_of path m) (state_of m) in
+      let r = sync_at (handing plan (Spawned (length m.below) None)) plan (present path m.below) (here_of path m) (state_of m) in
       reached-on Here refl (with_leaving m) (λ sts s. m) rises-on no-inside r.items r.ending (rises-sync plan (present path m.below) m.rank Here refl (Spawned (length m.below) None) (here_of path m) (state_of m) refl)
   level-on l ls at true = λ q x. subst (λ (levels : List Level). OnwardAt path levels m.below (m.rank + 0) q) (sym at) (outer q x)
     where

@@ -13,7 +13,7 @@ use Rattle.serial_meaning.specs.declared.origin.Origin.TheVariants.{Instance, Lo
 use Rattle.serial_meaning.specs.declared.answer.Outcome.{Outcome}
 use Rattle.strand_meaning.specs.Machine.{Destination, Spawned, Looped, Half, Level, Frame, Effect, Opens, Closes, Emitted, Handed, Syncs, Loops, Machine, Reached, Stands, Gives, inside_of, present, here_of, begun, move}
 use Rattle.strand_meaning.specs.Trace.{AwaitedChild, add_child}
-use Rattle.strand_meaning.specs.Task.{InstanceState, Running, AtSync, AtLoop, Ended, Work, Splits, Runs, Over, Task, start, begun_stage, own_instance, begins_last, MoveOrStop, Passes, Stops, Stop, Spawn, Wait, End, IsNext, Now, Later, stage_after, child_in, stops_at, passing, moved, waits, ends_unless, faults_after, gave, stage_step, first_half, split_step, over_step, work_step, step, changed, changed_at, frame_with_answer, takes, joins, resumed, takes_all, resumed_work}
+use Rattle.strand_meaning.specs.Task.{InstanceState, Running, AtSync, AtLoop, Ended, Work, Splits, Runs, Finished, Task, start, begun_stage, own_instance, begins_last, MoveOrStop, Passes, Stops, Stop, Spawn, Wait, End, IsNext, Now, Later, stage_after, child_in, stops_at, passing, moved, waits, ends_unless, faults_after, gave, stage_step, first_half, split_step, over_step, work_step, step, changed, changed_at, frame_with_answer, takes, joins, resumed, takes_all, resumed_work}
 use Rattle.strand_meaning.specs.Rest.{evaluations}
 use Rattle.strand_meaning.specs.Sound.{IsEndOf, IsSoundWork, IsTask}
 use Rattle.strand_meaning.specs.Laws.{IsSoundStep}
@@ -57,7 +57,7 @@ StageRegion w (Ended e) q = ⊥
 abbrev pub WorkRegion : Origin → Work → Origin → Type 0
 WorkRegion o (Splits left) q = IsShorter (path_of o) left q ⊎ Between (path_of o) left q
 WorkRegion o (Runs stage) q = StageRegion (path_of (own_instance o)) stage q
-WorkRegion o (Over v gone_on) q = ⊥
+WorkRegion o (Finished v gone_on) q = ⊥
 
 abbrev pub Region : Task → Origin → Type 0
 Region t q = WorkRegion t.origin t.work q
@@ -102,7 +102,7 @@ after-region w [] m q h = h
 after-region w (Opens j ∷ ts) m q h = after-region w ts m q h
 after-region w (Closes j ∷ ts) m q h = after-region w ts m q h
 after-region w (Emitted e ∷ ts) m q h = after-region w ts m q h
-after-region w (Handed o place ∷ ts) m q h = after-region w ts m q h
+after-region w (Handed o destination ∷ ts) m q h = after-region w ts m q h
 after-region w (Syncs ∷ ts) m q h = h
 after-region w (Loops ∷ ts) m q h = h
 
@@ -246,20 +246,20 @@ module _ (t : Task) (is : IsTask t) where
   region-split left (suc (suc n)) at is e =
       halves t.plan t.origin left n is e (record t { trace = add_child (first_half t.origin left) Half t.trace; work = Splits (upper_half left); advanced = true }) refl refl refl
 
-  region-over : (v : Value) (origin : Origin) → t.work ≡ Over v false → StepRegion t.origin (Over v false) (over_step t v origin)
-  region-over v (Instance function args path) at = region-ends (Over v false) t.trace.fault _
+  region-over : (v : Value) (origin : Origin) → t.work ≡ Finished v false → StepRegion t.origin (Finished v false) (over_step t v origin)
+  region-over v (Instance function args path) at = region-ends (Finished v false) t.trace.fault _
   region-over v (Loop function rest first path range) at = by_size (range.hi - range.lo) refl
     where
-      by_size : (n : ℕ) → range.hi - range.lo ≡ n → StepRegion t.origin (Over v false) (over_step t v (Loop function rest first path range))
-      by_size zero g = rw g (region-ends (Over v false) t.trace.fault _)
-      by_size (suc zero) g = rw g (region-ends (Over v false) t.trace.fault _)
-      by_size (suc (suc n)) g = rw g (region-waits (Over v false) at)
+      by_size : (n : ℕ) → range.hi - range.lo ≡ n → StepRegion t.origin (Finished v false) (over_step t v (Loop function rest first path range))
+      by_size zero g = rw g (region-ends (Finished v false) t.trace.fault _)
+      by_size (suc zero) g = rw g (region-ends (Finished v false) t.trace.fault _)
+      by_size (suc (suc n)) g = rw g (region-waits (Finished v false) at)
 
   region-work : (work : Work) → t.work ≡ work → IsSoundWork t.plan t.origin t.trace.handed work → StepRegion t.origin work (work_step t work)
   region-work (Splits left) at is = region-split left (left.hi - left.lo) at is.0 refl
   region-work (Runs stage) at is = region-stage stage at
-  region-work (Over v true) at is = region-ends (Over v true) t.trace.fault _
-  region-work (Over v false) at is = region-over v t.origin at
+  region-work (Finished v true) at is = region-ends (Finished v true) t.trace.fault _
+  region-work (Finished v false) at is = region-over v t.origin at
 
   region-step : StepRegion t.origin t.work (step t)
   region-step = region-work t.work refl is.work
@@ -321,7 +321,7 @@ same-levels target (Ok vs) a = refl
 same-levels target (Err f) a = refl
 
 module _ (w : List ℕ) (q : Origin) where
-  takes-region : (place : Destination) (ended : Result (List Value) Fault) (stage : InstanceState) → StageRegion w (takes place ended stage) q → StageRegion w stage q
+  takes-region : (destination : Destination) (ended : Result (List Value) Fault) (stage : InstanceState) → StageRegion w (takes destination ended stage) q → StageRegion w stage q
   takes-region (Spawned height target) ended (Running m) h = changed-onward (frame_with_answer target ended) (same-levels target ended) w q height m h
   takes-region (Spawned height target) ended (AtSync m) h = changed-onward (frame_with_answer target ended) (same-levels target ended) w q height m h
   takes-region (Spawned height target) ended (AtLoop m) h = changed-onward (frame_with_answer target ended) (same-levels target ended) w q height m h
@@ -336,7 +336,7 @@ module _ (w : List ℕ) (q : Origin) where
   all-region : (ps : List AwaitedChild) (answers : List Evaluation) (stage : InstanceState) → StageRegion w (takes_all ps answers stage) q → StageRegion w stage q
   all-region [] answers stage h = h
   all-region (p ∷ ps) [] stage h = h
-  all-region (p ∷ ps) (answer ∷ answers) stage h = takes-region p.place answer.ending stage (all-region ps answers (takes p.place answer.ending stage) h)
+  all-region (p ∷ ps) (answer ∷ answers) stage h = takes-region p.destination answer.ending stage (all-region ps answers (takes p.destination answer.ending stage) h)
 
   joins-region : (f : Option Fault) (m : Machine) → StageRegion w (joins f m) q → Onward w m m.rank q
   joins-region None m h = h
@@ -355,4 +355,4 @@ on-region t q h = by_work t.work h
     by_work (Splits left) h = h
     by_work (Runs stage) h =
         let w = path_of (own_instance t.origin) in all-region w q t.trace.handed (evaluations (eval t.plan) t.trace.handed) stage (resumed-region w q (takes_all t.trace.handed (evaluations (eval t.plan) t.trace.handed) stage) h)
-    by_work (Over v gone) h = absurd h
+    by_work (Finished v gone) h = absurd h

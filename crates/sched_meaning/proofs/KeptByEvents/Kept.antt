@@ -9,7 +9,7 @@ use Rattle.strand_meaning.specs.Clear.{IsClearPlan}
 use Rattle.strand_meaning.specs.Task.{Task, start, Stop, Spawn, Wait, End, IsNext}
 use Rattle.strand_meaning.proofs.SoundSteps.Ends.{tasks_begin}
 use Rattle.sched_meaning.specs.Core.{Worker, Core, free_worker, new_core, gone_on, answered}
-use Rattle.sched_meaning.specs.Steps.{after_stop, WorkerRuns, WorkerPops, WorkerGives, WorkerTakes, WorkerResumes, WorkerPasses, Changes, noted, Happens, Step, Leads}
+use Rattle.sched_meaning.specs.Steps.{after_stop, WorkerRuns, WorkerPops, WorkerGives, WorkerTakes, WorkerResumes, WorkerPasses, Changes, recorded, Happens, Step, Leads}
 use Rattle.sched_meaning.specs.Steps as steps
 use Rattle.sched_meaning.specs.declared.event.CoreEvent.{CoreEvent}
 use Rattle.sched_meaning.specs.declared.event.CoreEvent.TheVariants.{Run, Pop, Steal, Look, Idle}
@@ -72,7 +72,7 @@ module _ (plan : PlanView) where
       two : (a x y r : ℕ) → r ≡ 0 → a * 0 + ((x + 0) + (((y + 0) + (0 + 0) + r) + 0)) ≡ x + y
       two a x y r e = let z : a * 0 ≡ 0 = omega arith in omega arith
 
-  -- A step by which one worker changes and nothing is noted
+  -- A step by which one worker changes and nothing is recorded
 
   changed-kept : (n : ℕ) (R : Worker → Worker → Type 0) (c next : Core) (p : Changes n R c next) (out after : List Task) → IsKept plan out c →
       IsGood plan c.begun p.after → Each (IsRunning plan c.begun) after → ((f : Task → ℕ) → load f p.after + total f after ≡ load f p.worker + total f out) → IsKept plan after next
@@ -157,7 +157,7 @@ module _ (plan : PlanView) where
     abbrev all : ℕ → (Origin → ℕ) → ℕ
     all a h = h (main_origin plan) + weight a h (start plan (main_origin plan))
 
-    run-kept : (stop : Stop) → IsNext t stop → IsLeft plan c.begun t stop → IsKept plan [] (noted t stop (record c { workers = slice_set c.workers w (after_stop stop worker) }))
+    run-kept : (stop : Stop) → IsNext t stop → IsLeft plan c.begun t stop → IsKept plan [] (recorded t stop (record c { workers = slice_set c.workers w (after_stop stop worker) }))
     run-kept (Spawn child rest) n l = record {
       plan_is = is.plan_is;
       workers = each-set (IsGood plan (c.begun ++ child ∷ [])) c.workers w (after_stop (Spawn child rest) worker) (good-runs plan c.begun worker t (Spawn child rest) good l)
@@ -220,7 +220,7 @@ module _ (plan : PlanView) where
       let g : IsRunning plan c.begun s.task = current-good plan c.begun p.worker s.task (worker-good w _ c s.moved p [] is) p.does.current in
       let k = run-kept w c p.worker s.task p.there p.does.current is s.stop p.does.comes (stop-leaves plan c.begun s.task s.stop g p.does.comes) in
       let e : s.moved ≡ record c { workers = slice_set c.workers w (after_stop s.stop p.worker) } = p.next_is ∙ ap (λ v. record c { workers = slice_set c.workers w v }) p.does.after in
-      subst (λ (d : Core). IsKept plan [] d) (sym (s.next_is ∙ ap (λ (d : Core). noted s.task s.stop d) e)) k
+      subst (λ (d : Core). IsKept plan [] d) (sym (s.next_is ∙ ap (λ (d : Core). recorded s.task s.stop d) e)) k
 
   pub step-keeps : (e : CoreEvent) (c next : Core) → Step e c next → IsKept plan [] c → IsKept plan [] next
   step-keeps e c next s is = by_event e s.happens

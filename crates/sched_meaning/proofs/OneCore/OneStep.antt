@@ -3,7 +3,7 @@ use Rattle.std.proofs.Common.{◌≡◌, ℕ, List, [], ◌∷◌, ◌++◌, Som
 use Rattle.strand_meaning.specs.Task.{Task, Stop, IsNext}
 use Rattle.strand_meaning.proofs.NextStops.Stops.{stops_are_one}
 use Rattle.sched_meaning.specs.Core.{Worker, Core, gone_on, IsReady}
-use Rattle.sched_meaning.specs.Steps.{after_stop, WorkerRuns, WorkerPops, WorkerGives, WorkerTakes, WorkerResumes, WorkerPasses, Changes, noted, Runs, Steals, Resumes, StaysStalled, Happens, Step}
+use Rattle.sched_meaning.specs.Steps.{after_stop, WorkerRuns, WorkerPops, WorkerGives, WorkerTakes, WorkerResumes, WorkerPasses, Changes, recorded, Runs, Steals, Resumes, StaysStalled, Happens, Step}
 use Rattle.sched_meaning.specs.declared.event.CoreEvent.{CoreEvent}
 use Rattle.sched_meaning.specs.declared.event.CoreEvent.TheVariants.{Run, Pop, Steal, Look, Idle}
 
@@ -79,9 +79,9 @@ module _ (n : ℕ) (R S : Worker → Worker → Type 0) (c x y : Core) (p : Chan
 run-one : (w : ℕ) (c x y : Core) → Runs w c x → Runs w c y → x ≡ y
 run-one w c x y p q =
     p.next_is
-    ∙ ap (λ (t : Task). noted t p.stop p.moved) (by_worker w _ _ c p.moved q.moved p.runs q.runs (runs-task p.task q.task p.stop q.stop))
-    ∙ ap (λ (s : Stop). noted q.task s p.moved) (by_worker w _ _ c p.moved q.moved p.runs q.runs (runs-stop p.task q.task p.stop q.stop))
-    ∙ ap (λ (m : Core). noted q.task q.stop m) (changes-one w _ _ c p.moved q.moved p.runs q.runs (runs-one p.task q.task p.stop q.stop))
+    ∙ ap (λ (t : Task). recorded t p.stop p.moved) (by_worker w _ _ c p.moved q.moved p.runs q.runs (runs-task p.task q.task p.stop q.stop))
+    ∙ ap (λ (s : Stop). recorded q.task s p.moved) (by_worker w _ _ c p.moved q.moved p.runs q.runs (runs-stop p.task q.task p.stop q.stop))
+    ∙ ap (λ (m : Core). recorded q.task q.stop m) (changes-one w _ _ c p.moved q.moved p.runs q.runs (runs-one p.task q.task p.stop q.stop))
     ∙ sym q.next_is
 
 steal-one : (thief victim : ℕ) (c x y : Core) → Steals thief victim c x → Steals thief victim c y → x ≡ y

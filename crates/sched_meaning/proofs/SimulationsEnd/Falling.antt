@@ -4,7 +4,7 @@ use Rattle.serial_meaning.specs.Plan.{PlanView}
 use Rattle.strand_meaning.specs.Task.{Task, Stop, Spawn, Wait, End}
 use Rattle.sched_meaning.specs.Core.{Worker, Core}
 use Rattle.sched_meaning.specs.Sound.{IsFruitful}
-use Rattle.sched_meaning.specs.Steps.{after_stop, WorkerRuns, WorkerPops, WorkerGives, WorkerTakes, WorkerResumes, Changes, noted, Happens, Step}
+use Rattle.sched_meaning.specs.Steps.{after_stop, WorkerRuns, WorkerPops, WorkerGives, WorkerTakes, WorkerResumes, Changes, recorded, Happens, Step}
 use Rattle.sched_meaning.specs.Steps as steps
 use Rattle.sched_meaning.specs.declared.event.CoreEvent.{CoreEvent}
 use Rattle.sched_meaning.specs.declared.event.CoreEvent.TheVariants.{Run, Pop, Steal, Look, Idle}
@@ -61,10 +61,10 @@ stop-one (Spawn child rest) = omega arith
 stop-one (Wait rest) = refl
 stop-one (End out ended) = refl
 
-noted-workers : (t : Task) (stop : Stop) (c : Core) → (noted t stop c).workers ≡ c.workers
-noted-workers t (Spawn child rest) c = refl
-noted-workers t (Wait rest) c = refl
-noted-workers t (End out ended) c = refl
+recorded-workers : (t : Task) (stop : Stop) (c : Core) → (recorded t stop c).workers ≡ c.workers
+recorded-workers t (Spawn child rest) c = refl
+recorded-workers t (Wait rest) c = refl
+recorded-workers t (End out ended) c = refl
 
 none-at-most : (o : Option Task) → none_current o ≤ 1
 none-at-most None = omega arith
@@ -81,7 +81,7 @@ runs-fall plan w c next is s =
     let a : total (load segments) s.moved.workers + load segments p.worker ≡ total (load segments) c.workers + load segments p.after = changed-sum w _ c s.moved p (load segments) in
     let b : total idles s.moved.workers + idles p.worker ≡ total idles c.workers + idles p.after = changed-sum w _ c s.moved p idles in
     let i : idles p.after ≤ 1 = none-at-most p.after.current in
-    let ws : next.workers ≡ s.moved.workers = ap (λ (d : Core). d.workers) s.next_is ∙ noted-workers s.task s.stop s.moved in
+    let ws : next.workers ≡ s.moved.workers = ap (λ (d : Core). d.workers) s.next_is ∙ recorded-workers s.task s.stop s.moved in
     let x : total (load segments) next.workers ≡ total (load segments) s.moved.workers = ap (λ l. total (load segments) l) ws in
     let y : total idles next.workers ≡ total idles s.moved.workers = ap (λ l. total idles l) ws in omega arith
 

@@ -10,7 +10,7 @@ use Rattle.sched_meaning.specs.Core.{Worker, Core, gone_on, awaited, answered, I
 use Rattle.sched_meaning.specs.Same.{same_origin}
 use Rattle.sched_meaning.specs.Simulation.{is_answered, is_ready, may_run, is_free, has_task, may_give, may_resume, is_progress, is_choice, stalled_places, all_events, choices}
 use Rattle.sched_meaning.specs.Sound.{IsFruitful}
-use Rattle.sched_meaning.specs.Steps.{after_stop, WorkerRuns, WorkerPops, WorkerGives, WorkerTakes, WorkerResumes, Changes, noted, Happens, Step}
+use Rattle.sched_meaning.specs.Steps.{after_stop, WorkerRuns, WorkerPops, WorkerGives, WorkerTakes, WorkerResumes, Changes, recorded, Happens, Step}
 use Rattle.sched_meaning.specs.Steps as steps
 use Rattle.sched_meaning.specs.declared.event.CoreEvent.{CoreEvent}
 use Rattle.sched_meaning.specs.declared.event.CoreEvent.TheVariants.{Run, Pop, Steal, Look, Idle}
@@ -196,13 +196,13 @@ module _ (c : Core) (unanswered : IsRootAnswered c → ⊥) where
       let s = stops_come r.task in
       let after : Worker = after_stop s.0 r.worker in
       let mid : Core = record c { workers = slice_set c.workers n after } in
-      let runs : steps.Runs n c (noted r.task s.0 mid) = record {
+      let runs : steps.Runs n c (recorded r.task s.0 mid) = record {
         task = r.task;
         stop = s.0;
         moved = mid;
         runs = record { worker = r.worker; after = after; there = r.is; does = record { current = r.current; comes = s.1; after = refl }; next_is = refl };
         next_is = refl;
-      } in (noted r.task s.0 mid, record { unanswered = unanswered; happens = runs }, tt)
+      } in (recorded r.task s.0 mid, record { unanswered = unanswered; happens = runs }, tt)
 
   pop-advances : (n : ℕ) → Free (slice_get c.workers n) → Giver (slice_get c.workers n) → Advances c (Pop n)
   pop-advances n f g =

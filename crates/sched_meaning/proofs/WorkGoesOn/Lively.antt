@@ -7,7 +7,7 @@ use Rattle.serial_meaning.specs.declared.origin.Origin.{Origin}
 use Rattle.strand_meaning.specs.Task.{Task}
 use Rattle.strand_meaning.proofs.NextStops.Comes.{stops_come}
 use Rattle.sched_meaning.specs.Core.{Worker, Core, current_tasks, gone_on, awaited, answered, IsAnswered, IsRootAnswered, IsReady}
-use Rattle.sched_meaning.specs.Steps.{after_stop, noted, Resumes}
+use Rattle.sched_meaning.specs.Steps.{after_stop, recorded, Resumes}
 use Rattle.sched_meaning.specs.Sound.{IsLively}
 use Rattle.sched_meaning.specs.declared.event.CoreEvent.TheVariants.{Run, Pop, Look}
 use Rattle.sched_meaning.proofs.BegunOnce.Handed.{size_of, IsSmaller}
@@ -34,7 +34,7 @@ module _ (plan : PlanView) (c : Core) (is : IsKept plan [] c) (open_yet : IsRoot
       let mid : Core = record c { workers = slice_set c.workers n after } in
       record {
         event = Run n;
-        next = noted t s.0 mid;
+        next = recorded t s.0 mid;
         step = record {
           unanswered = open_yet;
           happens = record {

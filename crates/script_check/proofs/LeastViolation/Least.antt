@@ -1,11 +1,11 @@
--- What is noted of violations is the least of them.
+-- The earliest of violations is the least of them.
 use Rattle.std.proofs.Common.{◌≡◌, ℕ, suc, Bool, true, false, ◌||◌, ◌&&◌, nat_eq, nat_lt, List, [], ◌∷◌, Option, Some, None, refl, sym, ap, subst, ◌∙◌, ◌⊎◌, inl, inr, ⊎_elim, arith}
 use Rattle.std.specs.Prelude.{All, Contains, is_some, if◌then◌else◌}
 use Rattle.std.proofs.lemmas.List.Elements.{All-cons}
 use Rattle.std.proofs.lemmas.Bool.{cases_Bool, true≢false}
 use Rattle.std.proofs.lemmas.Bool.Decides.{nat_tests}
 use Rattle.script_check.specs.declared.findings.Violation.{Violation}
-use Rattle.script_check.specs.Violations.{is_before, noted}
+use Rattle.script_check.specs.Violations.{is_before, earliest}
 
 -- the order, on offsets and numbers
 before : ℕ → ℕ → ℕ → ℕ → Bool
@@ -58,28 +58,28 @@ taken u v w ws false e l =
 some_inside : {A : Type 0} (x y : A) → Some x ≡ Some y → x ≡ y
 some_inside x y h = cc
 
-least_after : (u v : Violation) (ws : List Violation) → noted (Some u) ws ≡ Some v → IsLeast v u ws
+least_after : (u v : Violation) (ws : List Violation) → earliest (Some u) ws ≡ Some v → IsLeast v u ws
 least_after u v [] h =
     let e : u ≡ v = some_inside u v h in
     (subst (λ (w : Violation). is_before u w ≡ false) e (irreflexive u), tt, inl e)
 least_after u v (w ∷ ws) h = taken u v w ws (is_before w u) refl (least_after (if is_before w u then w else u) v ws h)
 
-stays : (u : Violation) (ws : List Violation) → noted (Some u) ws ≡ None → ⊥
+stays : (u : Violation) (ws : List Violation) → earliest (Some u) ws ≡ None → ⊥
 stays u [] h = true≢false (ap (λ (o : Option Violation). is_some o) h)
 stays u (w ∷ ws) h = stays (if is_before w u then w else u) ws h
 
-pub nothing_noted : (vs : List Violation) → noted None vs ≡ None → vs ≡ []
-nothing_noted [] h = refl
-nothing_noted (v ∷ vs) h = absurd (stays v vs h)
+pub earliest_of_none : (vs : List Violation) → earliest None vs ≡ None → vs ≡ []
+earliest_of_none [] h = refl
+earliest_of_none (v ∷ vs) h = absurd (stays v vs h)
 
 all_of : (v : Violation) (ws : List Violation) → None_before v ws → All (λ w. is_before w v ≡ false) ws
 all_of v [] n = λ k d h. absurd (omega (arith, h))
 all_of v (w ∷ ws) n = All-cons (λ w. is_before w v ≡ false) w ws n.0 (all_of v ws n.1)
 
-pub least_contained : (vs : List Violation) (v : Violation) → noted None vs ≡ Some v → Contains vs v
+pub least_contained : (vs : List Violation) (v : Violation) → earliest None vs ≡ Some v → Contains vs v
 least_contained [] v h = absurd (true≢false (sym (ap (λ (o : Option Violation). is_some o) h)))
 least_contained (u ∷ vs) v h = ⊎_elim (λ e. here v u vs e) (λ c. later v u vs c) (least_after u v vs h).2
 
-pub none_before_least : (vs : List Violation) (v : Violation) → noted None vs ≡ Some v → All (λ w. is_before w v ≡ false) vs
+pub none_before_least : (vs : List Violation) (v : Violation) → earliest None vs ≡ Some v → All (λ w. is_before w v ≡ false) vs
 none_before_least [] v h = λ k d l. absurd (omega (arith, l))
 none_before_least (u ∷ vs) v h = let l = least_after u v vs h in all_of v (u ∷ vs) (l.0, l.1)

@@ -12,10 +12,10 @@ use Rattle.script_check.proofs.FewerPending.Fewer.{nothing_left, nothing_right}
 use Rattle.script_check.specs.declared.findings.Violation.{Violation}
 use Rattle.script_check.specs.Tables.{Table, with_first}
 use Rattle.script_check.specs.Functions.{first_named, function_at, function_named, main_name}
-use Rattle.script_check.specs.Violations.{violation_if, noted}
+use Rattle.script_check.specs.Violations.{violation_if, earliest}
 use Rattle.script_check.specs.Valid.{functions_twice, main_violations, all_function_violations, violations}
 use Rattle.script_check.specs.Walk.{IsIndex}
-use Rattle.script_check.proofs.LeastViolation.Noted.{noted_append}
+use Rattle.script_check.proofs.LeastViolation.Earliest.{earliest_append}
 use Rattle.script_check.proofs.Walk.Reading.{at_index}
 
 abbrev pub or_else : Option ℕ → Option ℕ → Option ℕ
@@ -78,13 +78,13 @@ one_indexed fs i f table next h e was is q =
     ∙ ap (λ l. first_named l q) (sym (take_more fs i f h ∙ ap (λ g. take i fs ++ g ∷ []) (sym e)))
 
 pub one_twice : (fs : List Function) (i : ℕ) (f : Function) (before now : Option Violation) → i < length fs → f ≡ get_or fs i f →
-    now ≡ noted before (violation_if (is_some (first_named (take i fs) f.name.bytes)) 3 f.name.at) →
-    noted now (functions_twice (take (i + 1) fs) (drop (i + 1) fs)) ≡ noted before (functions_twice (take i fs) (drop i fs))
+    now ≡ earliest before (violation_if (is_some (first_named (take i fs) f.name.bytes)) 3 f.name.at) →
+    earliest now (functions_twice (take (i + 1) fs) (drop (i + 1) fs)) ≡ earliest before (functions_twice (take i fs) (drop i fs))
 one_twice fs i f before now h e n =
-    ap (λ o. noted o (functions_twice (take (i + 1) fs) (drop (i + 1) fs))) n
-    ∙ ap (λ l. noted (noted before (violation_if (is_some (first_named (take i fs) f.name.bytes)) 3 f.name.at)) (functions_twice l (drop (i + 1) fs))) (take_more fs i f h ∙ ap (λ g. take i fs ++ g ∷ []) (sym e))
-    ∙ sym (noted_append before (violation_if (is_some (first_named (take i fs) f.name.bytes)) 3 f.name.at) (functions_twice (take i fs ++ f ∷ []) (drop (i + 1) fs)))
-    ∙ ap (λ l. noted before (functions_twice (take i fs) l)) (sym (at_index fs i f h e))
+    ap (λ o. earliest o (functions_twice (take (i + 1) fs) (drop (i + 1) fs))) n
+    ∙ ap (λ l. earliest (earliest before (violation_if (is_some (first_named (take i fs) f.name.bytes)) 3 f.name.at)) (functions_twice l (drop (i + 1) fs))) (take_more fs i f h ∙ ap (λ g. take i fs ++ g ∷ []) (sym e))
+    ∙ sym (earliest_append before (violation_if (is_some (first_named (take i fs) f.name.bytes)) 3 f.name.at) (functions_twice (take i fs ++ f ∷ []) (drop (i + 1) fs)))
+    ∙ ap (λ l. earliest before (functions_twice (take i fs) l)) (sym (at_index fs i f h e))
 
 -- an index is within the functions
 abbrev Below : ℕ → Option ℕ → Type 0

@@ -3,14 +3,14 @@ use Rattle.std.proofs.Common.{◌≡◌, ℕ, ◌+◌, ◌<◌, Bool, true, fals
 use Rattle.script_grammar.specs.declared.tree.Function.{Function}
 use Rattle.script_grammar.specs.declared.tree.Stmt.{Stmt}
 use Rattle.script_check.specs.declared.findings.Violation.{Violation}
-use Rattle.script_check.specs.Violations.{noted}
+use Rattle.script_check.specs.Violations.{earliest}
 use Rattle.script_check.specs.Names.{NameSet, no_names, names_if, union}
 use Rattle.script_grammar.specs.declared.tree.Kind.TheVariants.{Int}
 use Rattle.script_check.specs.Rules.{Declared}
 use Rattle.script_check.specs.Expressions.{Violations, Reading, wanted}
 use Rattle.script_check.specs.Statements.{context, Judged, judge, judge_all, known_each, violations_each, after}
 use Rattle.script_check.specs.Walk.{WalkState, keeps, keeps_all, state_after, state_after_all}
-use Rattle.script_check.proofs.LeastViolation.Noted.{noted_append, after_two, after_three}
+use Rattle.script_check.proofs.LeastViolation.Earliest.{earliest_append, after_two, after_three}
 use Rattle.script_check.proofs.Walk.Reading.{at_index}
 use Rattle.script_check.proofs.FewerPending.Linear.{linear_all, loop_set}
 
@@ -30,14 +30,14 @@ one_after functions ss i s state next h is e =
 
 pub one_judged : (functions : List Function) (in_block : Bool) (ss : List Stmt) (i : ℕ) (s : Stmt) (state next : WalkState) (before now : Option Violation) →
     i < length ss → s ≡ get_or ss i s → next ≡ state_after functions s state →
-    now ≡ noted before ((judge s).violations (context functions in_block) state.known state.names) →
-    noted now (violations_each (judge_all (drop (i + 1) ss)) (context functions in_block) next.known next.names)
-    ≡ noted before (violations_each (judge_all (drop i ss)) (context functions in_block) state.known state.names)
+    now ≡ earliest before ((judge s).violations (context functions in_block) state.known state.names) →
+    earliest now (violations_each (judge_all (drop (i + 1) ss)) (context functions in_block) next.known next.names)
+    ≡ earliest before (violations_each (judge_all (drop i ss)) (context functions in_block) state.known state.names)
 one_judged functions in_block ss i s state next before now h is e n =
-    ap (λ (t : WalkState). noted now (rest t.known t.names)) e
-    ∙ ap (λ o. noted o (rest ((judge s).known functions state.known) ((judge s).after state.names))) n
-    ∙ sym (noted_append before ((judge s).violations (context functions in_block) state.known state.names) (rest ((judge s).known functions state.known) ((judge s).after state.names)))
-    ∙ ap (λ (l : List Stmt). noted before (violations_each (judge_all l) (context functions in_block) state.known state.names)) (sym (at_index ss i s h is))
+    ap (λ (t : WalkState). earliest now (rest t.known t.names)) e
+    ∙ ap (λ o. earliest o (rest ((judge s).known functions state.known) ((judge s).after state.names))) n
+    ∙ sym (earliest_append before ((judge s).violations (context functions in_block) state.known state.names) (rest ((judge s).known functions state.known) ((judge s).after state.names)))
+    ∙ ap (λ (l : List Stmt). earliest before (violations_each (judge_all l) (context functions in_block) state.known state.names)) (sym (at_index ss i s h is))
   where
     rest : Violations
     rest = violations_each (judge_all (drop (i + 1) ss)) (context functions in_block)
@@ -86,16 +86,16 @@ module _ (functions : List Function) (a b : List Stmt) where
       ∙ ap (λ n. record (with_known functions b (with_known functions a state)) { names = union (after a state.names) (after b state.names); keeps = n && state.keeps }) k
 
   pub if_violations : (in_block : Bool) (condition : List Violation) (state next : WalkState) (found first second third : Option Violation) →
-      first ≡ noted found condition →
-      second ≡ noted first (violations_each (judge_all a) (context functions true) state.known state.names) →
+      first ≡ earliest found condition →
+      second ≡ earliest first (violations_each (judge_all a) (context functions true) state.known state.names) →
       next ≡ with_known functions a state →
-      third ≡ noted second (violations_each (judge_all b) (context functions true) next.known next.names) →
-      third ≡ noted found (condition ++ violations_each (judge_all a) (context functions true) state.known state.names
+      third ≡ earliest second (violations_each (judge_all b) (context functions true) next.known next.names) →
+      third ≡ earliest found (condition ++ violations_each (judge_all a) (context functions true) state.known state.names
       ++ violations_each (judge_all b) (context functions true) (known_each (judge_all a) functions state.known) state.names)
   if_violations in_block condition state next found first second third f s n t =
       after_three found first second third condition (violations_each (judge_all a) (context functions true) state.known state.names)
       (violations_each (judge_all b) (context functions true) (known_each (judge_all a) functions state.known) state.names) _ f s
-      (t ∙ ap (λ (m : WalkState). noted second (violations_each (judge_all b) (context functions true) m.known m.names)) n) refl
+      (t ∙ ap (λ (m : WalkState). earliest second (violations_each (judge_all b) (context functions true) m.known m.names)) n) refl
 
 module _ (functions : List Function) (a : List Stmt) where
   abbrev pub with_loop_set : WalkState → WalkState
@@ -106,13 +106,13 @@ module _ (functions : List Function) (a : List Stmt) where
 
   -- the sets of the loop as they were found
   pub while_violations : (condition : Reading) (known known' : Declared) (p q : NameSet) (found first second : Option Violation) →
-      known' ≡ known → q ≡ union p (after a p) → first ≡ noted found (wanted Int condition known' q) →
-      second ≡ noted first (violations_each (judge_all a) (context functions true) known' q) →
-      second ≡ noted found (wanted Int condition known (union p (after a p)) ++ violations_each (judge_all a) (context functions true) known (union p (after a p)))
+      known' ≡ known → q ≡ union p (after a p) → first ≡ earliest found (wanted Int condition known' q) →
+      second ≡ earliest first (violations_each (judge_all a) (context functions true) known' q) →
+      second ≡ earliest found (wanted Int condition known (union p (after a p)) ++ violations_each (judge_all a) (context functions true) known (union p (after a p)))
   while_violations condition known known' p q found first second k e f s =
       after_two found first second (wanted Int condition known' q) (violations_each (judge_all a) (context functions true) known' q) _ f s refl
-      ∙ ap (λ (m : Declared). noted found (wanted Int condition m q ++ violations_each (judge_all a) (context functions true) m q)) k
-      ∙ ap (λ (r : NameSet). noted found (wanted Int condition known r ++ violations_each (judge_all a) (context functions true) known r)) e
+      ∙ ap (λ (m : Declared). earliest found (wanted Int condition m q ++ violations_each (judge_all a) (context functions true) m q)) k
+      ∙ ap (λ (r : NameSet). earliest found (wanted Int condition known r ++ violations_each (judge_all a) (context functions true) known r)) e
 
   -- a scope: what its block makes known, and after its sync nothing is pending
   pub scope_state : (state first last : WalkState) → first ≡ with_known functions a state → last ≡ record first { names = no_names; keeps = false } →

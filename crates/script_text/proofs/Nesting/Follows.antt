@@ -17,7 +17,7 @@ use Rattle.script_grammar.specs.declared.tree.Param.{Param}
 use Rattle.script_grammar.specs.declared.tree.Function.{Function}
 use Rattle.script_grammar.specs.Grammar.{Token, tok, IsSumSign, a_plus, a_minus, IsProductSign, a_times, an_over, a_modulo, IsComparison, an_eq, a_ne, a_lt, a_le, a_gt, a_ge, IsFactor, a_neg, a_number, a_name, an_item, a_group, a_same, an_older, IsTerm, factors, IsFactors, no_factors, one_factor, IsSum, terms, IsTerms, no_terms, one_term, IsExpr, alone, compared, IsMoreArgs, no_more_args, one_more_arg, IsArgs, no_args, some_args, IsCall, a_call, IsRight, right_value, right_draw, right_new, right_call, right_spawn, IsInto, no_into, an_into, IsStmt, a_let, an_array, a_set, a_store, a_spawn, a_call_stmt, a_sync, a_print, an_if, a_while, a_pfor, a_scope, IsStmts, no_stmts, one_stmt, IsBlock, a_block, IsElse, no_else, an_else, IsParam, int_param, id_param, IsMoreParams, no_more_params, one_more_param, IsParams, no_params, some_params, IsAnswerKind, int_answer, id_answer, IsFunction, a_function, IsFunctions, no_functions, one_function, IsScript}
 use Rattle.script_grammar.specs.Nesting.{factor_nesting, term_nesting, factors_nesting, sum_nesting, terms_nesting, expr_nesting, more_args_nesting, args_nesting, call_nesting, right_nesting, into_nesting, stmt_nesting, stmts_nesting, block_nesting, else_nesting, param_nesting, more_params_nesting, params_nesting, answer_nesting, function_nesting, functions_nesting}
-use Rattle.script_text.specs.Machine.{Sym, only, exactly, factor, index, more_factors, more_terms, comparison, minus_end, args, more_args, call_args, right, into, stmts, block, otherwise, functions, params, more_params, param, answer, body, same_bytes, sum_then, expr_then, rules, is_empty, find_rule, choose, step, run, nesting, Nestings, onward, nestings}
+use Rattle.script_text.specs.Machine.{Sym, only, exactly, factor, index, more_factors, more_terms, comparison, minus_end, args, more_args, call_args, right, into, stmts, block, otherwise, functions, params, more_params, param, answer, body, same_bytes, sum_then, expr_then, rules, is_empty, find_rule, choose, consume, run, nesting, Nestings, onward, nestings}
 
 -- the symbol is skipped at that token
 abbrev pub Skips : Sym → Token → Type 0
@@ -60,8 +60,8 @@ onward-after : (o : Option (List Sym)) (go : List Sym → Nestings) (s : List Sy
 onward-after o go s ns r e f = ap (λ z. onward z go) e ∙ ap (λ z. option_and_then (λ p. Some (nesting s ∷ p.0, p.1)) z) f ∙ sym (after-append (nesting s ∷ []) ns r)
 
 -- one token, and then these
-take : {t : Token} {ts rest : List Token} {s s' s'' : List Sym} {ns : List ℕ} → step t.word t.text s ≡ Some s' → Goes ts s' ns rest s'' → Goes (t ∷ ts) s (nesting s' ∷ ns) rest s''
-take {t = t} {ts = ts} {rest = rest} {s = s} {s' = s'} {s'' = s''} {ns = ns} e g = record { traced = onward-after (step t.word t.text s) (nestings ts) s' ns (nestings rest s'') e g.traced }
+take : {t : Token} {ts rest : List Token} {s s' s'' : List Sym} {ns : List ℕ} → consume t.word t.text s ≡ Some s' → Goes ts s' ns rest s'' → Goes (t ∷ ts) s (nesting s' ∷ ns) rest s''
+take {t = t} {ts = ts} {rest = rest} {s = s} {s' = s'} {s'' = s''} {ns = ns} e g = record { traced = onward-after (consume t.word t.text s) (nestings ts) s' ns (nestings rest s'') e g.traced }
 
 next : {ts mid rest : List Token} {s s' s'' : List Sym} {ms ns : List ℕ} → Goes ts s ms mid s' → Goes mid s' ns rest s'' → Goes ts s (ms ++ ns) rest s''
 next {rest = rest} {s'' = s''} {ms = ms} {ns = ns} g h = record { traced = g.traced ∙ ap (tail ms) h.traced ∙ sym (after-append ms ns (nestings rest s'')) }
@@ -78,8 +78,8 @@ stay_then e g = record { traced = e ∙ g.traced }
 
 skip : (a : Sym) (t : Token) (ts : List Token) (s : List Sym) → is_empty a ≡ true → Skips a t → nestings (t ∷ ts) (a ∷ s) ≡ nestings (t ∷ ts) s
 skip a t ts s e h =
-    ap (λ o. onward (choose o (is_empty a) s (step t.word t.text s)) (nestings ts)) h
-    ∙ ap (λ b. onward (choose None b s (step t.word t.text s)) (nestings ts)) e
+    ap (λ o. onward (choose o (is_empty a) s (consume t.word t.text s)) (nestings ts)) h
+    ∙ ap (λ b. onward (choose None b s (consume t.word t.text s)) (nestings ts)) e
 
 skip_index : (rest : List Token) (s : List Sym) → EndsFactor rest → nestings rest (index ∷ s) ≡ nestings rest s
 skip_index [] s e = absurd e
@@ -127,7 +127,7 @@ sign_ends a t us a_gt = (refl, refl, refl)
 sign_ends a t us a_ge = (refl, refl, refl)
 
 -- what a sign does to the machine
-pub comparison_step : {k : Word} {s : Comparison} (t : List ℕ) (r : List Sym) → IsComparison k s → step k t (comparison ∷ r) ≡ Some (sum_then r)
+pub comparison_step : {k : Word} {s : Comparison} (t : List ℕ) (r : List Sym) → IsComparison k s → consume k t (comparison ∷ r) ≡ Some (sum_then r)
 comparison_step t r an_eq = refl
 comparison_step t r a_ne = refl
 comparison_step t r a_lt = refl
@@ -135,12 +135,12 @@ comparison_step t r a_le = refl
 comparison_step t r a_gt = refl
 comparison_step t r a_ge = refl
 
-pub factors_step : {k : Word} {s : ProductSign} (t : List ℕ) (r : List Sym) → IsProductSign k s → step k t (more_factors ∷ r) ≡ Some (factor ∷ more_factors ∷ r)
+pub factors_step : {k : Word} {s : ProductSign} (t : List ℕ) (r : List Sym) → IsProductSign k s → consume k t (more_factors ∷ r) ≡ Some (factor ∷ more_factors ∷ r)
 factors_step t r a_times = refl
 factors_step t r an_over = refl
 factors_step t r a_modulo = refl
 
-pub terms_step : {k : Word} {s : Bool} (t : List ℕ) (r : List Sym) → IsSumSign k s → step k t (more_terms ∷ r) ≡ Some (sum_then r)
+pub terms_step : {k : Word} {s : Bool} (t : List ℕ) (r : List Sym) → IsSumSign k s → consume k t (more_terms ∷ r) ≡ Some (sum_then r)
 terms_step t r a_plus = refl
 terms_step t r a_minus = refl
 
@@ -266,8 +266,8 @@ same_bytes-refl [] = refl
 same_bytes-refl (b ∷ bs) = ap (λ c. c && same_bytes bs bs) (eq-eqb b b refl) ∙ same_bytes-refl bs
 
 -- the loop's name again
-pub exact_step : (n : List ℕ) (s : List Sym) → step word.Name n (exactly n ∷ s) ≡ Some s
-exact_step n s = ap (λ b. choose (cond b (Some []) None) false s (step word.Name n s)) (same_bytes-refl n)
+pub exact_step : (n : List ℕ) (s : List Sym) → consume word.Name n (exactly n ∷ s) ≡ Some s
+exact_step n s = ap (λ b. choose (cond b (Some []) None) false s (consume word.Name n s)) (same_bytes-refl n)
 
 -- a token comes at which an if ends
 abbrev pub EndsIf : List Token → Type 0
@@ -402,7 +402,7 @@ ending_of (Some p) = Some p.1
 pub run_of_trace : (ts : List Token) (s : List Sym) → ending_of (nestings ts s) ≡ run ts s
 unfolding ending_of
 run_of_trace [] s = refl
-run_of_trace (t ∷ ts) s = go (step t.word t.text s) (λ x. run_of_trace ts x)
+run_of_trace (t ∷ ts) s = go (consume t.word t.text s) (λ x. run_of_trace ts x)
   where
     last : (n : ℕ) (o : Nestings) → ending_of (option_and_then (λ p. Some (n ∷ p.0, p.1)) o) ≡ ending_of o
     last n None = refl

@@ -22,7 +22,7 @@ use Rattle.script_grammar.specs.declared.tree.Stmt.{Stmt}
 use Rattle.script_grammar.specs.declared.tree.Param.{Param}
 use Rattle.script_grammar.specs.declared.tree.Function.{Function}
 use Rattle.script_grammar.specs.Grammar.{Token, tok, number_at, IsSumSign, a_plus, a_minus, IsProductSign, a_times, an_over, a_modulo, IsComparison, an_eq, a_ne, a_lt, a_le, a_gt, a_ge, IsFactor, a_neg, a_number, a_name, an_item, a_group, a_same, an_older, factors, IsFactors, no_factors, one_factor, IsSum, terms, IsTerms, no_terms, one_term, IsExpr, alone, compared, IsMoreArgs, no_more_args, one_more_arg, IsArgs, no_args, some_args, IsCall, a_call, IsRight, right_value, right_draw, right_new, right_call, right_spawn, IsInto, no_into, an_into, IsStmt, a_let, an_array, a_set, a_store, a_spawn, a_call_stmt, a_sync, a_print, an_if, a_while, a_pfor, a_scope, IsStmts, no_stmts, one_stmt, IsBlock, a_block, IsElse, no_else, an_else, IsParam, int_param, id_param, IsMoreParams, no_more_params, one_more_param, IsParams, no_params, some_params, IsAnswerKind, int_answer, id_answer, a_function, IsFunctions, no_functions, one_function, IsScript, has_scope, AreOf, IsViable}
-use Rattle.script_text.specs.Machine.{Sym, only, exactly, factor, index, pair, more_factors, more_terms, comparison, minus_end, args, more_args, call_args, right, into, loop_name, loop_args, stmts, after_let, after_name, block, otherwise, functions, param_list, params, more_params, param, answer, body, same_word, same_bytes, Production, factor_rules, expr_then, rules, is_empty, find_rule, choose, step, run}
+use Rattle.script_text.specs.Machine.{Sym, only, exactly, factor, index, pair, more_factors, more_terms, comparison, minus_end, args, more_args, call_args, right, into, loop_name, loop_args, stmts, after_let, after_name, block, otherwise, functions, param_list, params, more_params, param, answer, body, same_word, same_bytes, Production, factor_rules, expr_then, rules, is_empty, find_rule, choose, consume, run}
 use Rattle.script_text.proofs.Parsing.Words.{same_words}
 use Rattle.script_text.proofs.Nesting.Follows.{script_runs}
 
@@ -384,11 +384,11 @@ left_out more_params e ts = (_, no_more_params)
 left_out answer e ts = (_, int_answer)
 left_out _ e ts = cc
 
-step_sound : (k : Word) (at : ℕ) (text : List ℕ) (s s' : List Sym) (ts : List Token) → step k text s ≡ Some s' → Derives s' ts → Derives s (tok at k text ∷ ts)
+step_sound : (k : Word) (at : ℕ) (text : List ℕ) (s s' : List Sym) (ts : List Token) → consume k text s ≡ Some s' → Derives s' ts → Derives s (tok at k text ∷ ts)
 step_sound k at text [] s' ts e d = absurd (none-some _ e)
 step_sound k at text (a ∷ s) s' ts e d = go (find_rule k text (rules a)) (is_empty a) refl refl e (λ f. step_sound k at text s s' ts f d)
   where
-    go : (o : Option (List Sym)) (b : Bool) → find_rule k text (rules a) ≡ o → is_empty a ≡ b → choose o b s (step k text s) ≡ Some s' → (step k text s ≡ Some s' → Derives s (tok at k text ∷ ts)) → Derives (a ∷ s) (tok at k text ∷ ts)
+    go : (o : Option (List Sym)) (b : Bool) → find_rule k text (rules a) ≡ o → is_empty a ≡ b → choose o b s (consume k text s) ≡ Some s' → (consume k text s ≡ Some s' → Derives s (tok at k text ∷ ts)) → Derives (a ∷ s) (tok at k text ∷ ts)
     go (Some r) b f g h ih = of_found a k text (rules a) (rules_hold a) r f at s ts (subst (λ x. Derives x ts) (sym (same_Some _ _ h)) d)
     go None true f g h ih = (_, left_out a g _, ih h)
     go None false f g h ih = absurd (none-some _ h)
@@ -396,7 +396,7 @@ step_sound k at text (a ∷ s) s' ts e d = go (find_rule k text (rules a)) (is_e
 pub run_sound : (ts : List Token) (s s' : List Sym) (us : List Token) → run ts s ≡ Some s' → Derives s' us → Derives s (ts ++ us)
 run_sound [] s s' us e d = subst (λ x. Derives x us) (sym (same_Some _ _ e)) d
 run_sound (t ∷ ts) s s' us e d =
-    option_and_then_some (run ts) (step t.word t.text s) s' e (λ x f g. step_sound t.word t.at t.text s x (ts ++ us) f (run_sound ts x s' us g d))
+    option_and_then_some (run ts) (consume t.word t.text s) s' e (λ x f g. step_sound t.word t.at t.text s x (ts ++ us) f (run_sound ts x s' us g d))
 
 one : (rest : List Token) → IsExpr (tok 0 word.Number [] ∷ rest) (expr.Number (number_at 0 [])) rest
 one rest = alone (terms (factors a_number no_factors) no_terms)
@@ -504,21 +504,21 @@ found_plain k text (q ∷ qs) r h e = go (same_word k q.first && q.fits text) e 
     go true f tail = subst (λ z. all_plain z ≡ true) (same_Some _ _ f) p.0
     go false f tail = tail f
 
-step_plain : (k : Word) (text : List ℕ) (s s' : List Sym) → all_plain s ≡ true → step k text s ≡ Some s' → all_plain s' ≡ true
+step_plain : (k : Word) (text : List ℕ) (s s' : List Sym) → all_plain s ≡ true → consume k text s ≡ Some s' → all_plain s' ≡ true
 step_plain k text [] s' h e = absurd (none-some _ e)
 step_plain k text (a ∷ s) s' h e = go (find_rule k text (rules a)) (is_empty a) refl e (λ f. step_plain k text s s' p.1 f)
   where
     p : (sym_plain a ≡ true) × (all_plain s ≡ true)
     p = two_true _ _ h
 
-    go : (o : Option (List Sym)) (b : Bool) → find_rule k text (rules a) ≡ o → choose o b s (step k text s) ≡ Some s' → (step k text s ≡ Some s' → all_plain s' ≡ true) → all_plain s' ≡ true
+    go : (o : Option (List Sym)) (b : Bool) → find_rule k text (rules a) ≡ o → choose o b s (consume k text s) ≡ Some s' → (consume k text s ≡ Some s' → all_plain s' ≡ true) → all_plain s' ≡ true
     go (Some r) b f g tail = subst (λ z. all_plain z ≡ true) (same_Some _ _ g) (plain-append r s (found_plain k text (rules a) r (rules_plain a text) f) p.1)
     go None true f g tail = tail g
     go None false f g tail = absurd (none-some _ g)
 
 run_plain : (ts : List Token) (s s' : List Sym) → all_plain s ≡ true → run ts s ≡ Some s' → all_plain s' ≡ true
 run_plain [] s s' h e = subst (λ z. all_plain z ≡ true) (same_Some _ _ e) h
-run_plain (t ∷ ts) s s' h e = option_and_then_some (run ts) (step t.word t.text s) s' e (λ x f g. run_plain ts x s' (step_plain t.word t.text s x h f) g)
+run_plain (t ∷ ts) s s' h e = option_and_then_some (run ts) (consume t.word t.text s) s' e (λ x f g. run_plain ts x s' (step_plain t.word t.text s x h f) g)
 
 sample_plain : (a : Sym) (ts : List Token) → sym_plain a ≡ true → has_scope ts ≡ false → has_scope (sample a ts).0 ≡ false
 sample_plain (only k) ts h e = go (is_scope k) h
@@ -592,7 +592,7 @@ viable version ts s of e =
 
 pub run-append : (ts us : List Token) (s : List Sym) → run (ts ++ us) s ≡ option_and_then (run us) (run ts s)
 run-append [] us s = refl
-run-append (t ∷ ts) us s = go (step t.word t.text s) (run-append ts us)
+run-append (t ∷ ts) us s = go (consume t.word t.text s) (run-append ts us)
   where
     go : (o : Option (List Sym)) → ((x : List Sym) → run (ts ++ us) x ≡ option_and_then (run us) (run ts x)) → option_and_then (run (ts ++ us)) o ≡ option_and_then (run us) (option_and_then (run ts) o)
     go None ih = refl

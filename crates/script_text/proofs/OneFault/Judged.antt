@@ -14,7 +14,7 @@ use Rattle.script_grammar.specs.declared.tree.Function.{Function}
 use Rattle.script_grammar.specs.Grammar.{Token, tok, decimal, IsScript, AreOf, IsViable}
 use Rattle.script_grammar.specs.Nesting.{functions_nesting}
 use Rattle.script_grammar.specs.Fault.{is_fn, functions_begun, NestsAt, BreaksLimit, number_out_of_range, name_too_long, nested_too_deep, too_many_functions, IsFault, unexpected, breaks_limit, TextEnd, FaultAtStop, FaultAfter, WithinAfter, IsProgram}
-use Rattle.script_text.specs.Machine.{Sym, functions, same_word, is_empty, step, run, nesting, Nestings, onward, nestings, all_empty, PlacedFault, broken, unless_broken, verdict, at_stop, begun, judge}
+use Rattle.script_text.specs.Machine.{Sym, functions, same_word, is_empty, consume, run, nesting, Nestings, onward, nestings, all_empty, PlacedFault, broken, unless_broken, verdict, at_stop, begun, judge}
 use Rattle.script_text.proofs.Parsing.Words.{same_words}
 use Rattle.script_text.proofs.Nesting.Follows.{tail, script_traced, script_runs}
 use Rattle.script_text.proofs.Nesting.Sound.{Derives, run_sound, run-append, whole, left_out, viable, taken, are-append, are-first}
@@ -23,8 +23,8 @@ use Rattle.script_text.proofs.Nesting.Sound.{Derives, run_sound, run-append, who
 abbrev pub StandsAfter : List Token → List Sym → Type 0
 StandsAfter before s = run before (functions ∷ []) ≡ Some s
 
-pub one_more : (before : List Token) (t : Token) (s : List Sym) → StandsAfter before s → run (before ++ t ∷ []) (functions ∷ []) ≡ step t.word t.text s
-one_more before t s e = run-append before (t ∷ []) (functions ∷ []) ∙ ap (option_and_then (run (t ∷ []))) e ∙ unit (step t.word t.text s)
+pub one_more : (before : List Token) (t : Token) (s : List Sym) → StandsAfter before s → run (before ++ t ∷ []) (functions ∷ []) ≡ consume t.word t.text s
+one_more before t s e = run-append before (t ∷ []) (functions ∷ []) ∙ ap (option_and_then (run (t ∷ []))) e ∙ unit (consume t.word t.text s)
   where
     unit : (o : Option (List Sym)) → option_and_then Some o ≡ o
     unit None = refl
@@ -47,11 +47,11 @@ slice_get-seam (m ∷ ns) n more = slice_get-seam ns n more
 -- a run, step by step, with the nesting after each token
 data Steps : List Token → List Sym → List ℕ → List Sym → Type 0 where
   stopped : {s : List Sym} → Steps [] s [] s
-  stepped : {t : Token} {ts : List Token} {s x s' : List Sym} {ns : List ℕ} → step t.word t.text s ≡ Some x → Steps ts x ns s' → Steps (t ∷ ts) s (nesting x ∷ ns) s'
+  stepped : {t : Token} {ts : List Token} {s x s' : List Sym} {ns : List ℕ} → consume t.word t.text s ≡ Some x → Steps ts x ns s' → Steps (t ∷ ts) s (nesting x ∷ ns) s'
 
 steps : (ts : List Token) (s s' : List Sym) → run ts s ≡ Some s' → (ns : List ℕ) × Steps ts s ns s'
 steps [] s s' e = ([], subst (λ x. Steps [] s [] x) (same_Some _ _ e) stopped)
-steps (t ∷ ts) s s' e = option_and_then_some (run ts) (step t.word t.text s) s' e (λ x f g. let r = steps ts x s' g in (nesting x ∷ r.0, stepped f r.1))
+steps (t ∷ ts) s s' e = option_and_then_some (run ts) (consume t.word t.text s) s' e (λ x f g. let r = steps ts x s' g in (nesting x ∷ r.0, stepped f r.1))
 
 length-steps : {ts : List Token} {s s' : List Sym} {ns : List ℕ} → Steps ts s ns s' → length ns ≡ length ts
 length-steps stopped = refl
@@ -77,7 +77,7 @@ none_of Two = tt
 
 module _ (version : Version) where
   -- the nesting after a token is its nesting in every script that goes on so
-  pub nested_so : (before : List Token) (t : Token) (s s' : List Sym) → StandsAfter before s → step t.word t.text s ≡ Some s' → (n : ℕ) → NestsAt version before t n → n ≡ nesting s'
+  pub nested_so : (before : List Token) (t : Token) (s s' : List Sym) → StandsAfter before s → consume t.word t.text s ≡ Some s' → (n : ℕ) → NestsAt version before t n → n ≡ nesting s'
   nested_so before t s s' st e n h =
       let r = steps before (functions ∷ []) s st in
       let split : nestings (before ++ t ∷ h.0) (functions ∷ []) ≡ tail r.0 (onward (Some s') (nestings h.0)) =
@@ -95,7 +95,7 @@ module _ (version : Version) where
   of_none = none_of version
 
   -- and there is such a script
-  pub is_nested : (before : List Token) (t : Token) (s s' : List Sym) → AreOf version (before ++ t ∷ []) → StandsAfter before s → step t.word t.text s ≡ Some s' → StandsAfter (before ++ t ∷ []) s' → NestsAt version before t (nesting s')
+  pub is_nested : (before : List Token) (t : Token) (s s' : List Sym) → AreOf version (before ++ t ∷ []) → StandsAfter before s → consume t.word t.text s ≡ Some s' → StandsAfter (before ++ t ∷ []) s' → NestsAt version before t (nesting s')
   is_nested before t s s' of st e st' =
       let v = viable version (before ++ t ∷ []) s' of st' in
       let d : IsScript (before ++ t ∷ v.0) v.1 = subst (λ x. IsScript x v.1) (append_assoc before (t ∷ []) v.0) v.2.1 in
@@ -212,12 +212,12 @@ module _ (version : Version) where
 
   pub judged : (ending : TextEnd) (ts before : List Token) (n : ℕ) (s : List Sym) → AreOf version before → AreOf version ts → n ≡ functions_begun before → StandsAfter before s → Says ending before ts (judge ending n s ts)
   judged ending [] before n s of more e st = judged_end ending before s st
-  judged ending (t ∷ ts) before n s of more e st = go (step t.word t.text s) refl (λ x. judged ending ts (before ++ t ∷ []) (begun t n) x of' (are-first version t ts more).1 (ap (begun t) e ∙ sym (begun-more before t)))
+  judged ending (t ∷ ts) before n s of more e st = go (consume t.word t.text s) refl (λ x. judged ending ts (before ++ t ∷ []) (begun t n) x of' (are-first version t ts more).1 (ap (begun t) e ∙ sym (begun-more before t)))
     where
       of' : AreOf version (before ++ t ∷ [])
       of' = are-append version before (t ∷ []) of (are-first version t ts more).0
 
-      within : (s' : List Sym) → step t.word t.text s ≡ Some s' → StandsAfter (before ++ t ∷ []) s' → (o : Option ℕ) → broken n t (nesting s') ≡ o → Says ending (before ++ t ∷ []) ts (judge ending (begun t n) s' ts)
+      within : (s' : List Sym) → consume t.word t.text s ≡ Some s' → StandsAfter (before ++ t ∷ []) s' → (o : Option ℕ) → broken n t (nesting s') ≡ o → Says ending (before ++ t ∷ []) ts (judge ending (begun t n) s' ts)
           → Says ending before (t ∷ ts) (unless_broken o t.at (judge ending (begun t n) s' ts))
       within s' f st' (Some k) g r =
           let g' : broken (functions_begun before) t (nesting s') ≡ Some k = ap (λ m. broken m t (nesting s')) (sym e) ∙ g in
@@ -231,7 +231,7 @@ module _ (version : Version) where
           on_rest None q = (q.0, (fine, q.1), (q.2.0, subst (λ x. IsScript x q.2.0) (append_assoc before (t ∷ []) ts) q.2.1))
           on_rest (Some x) q = inr (no_fault before t (viable version _ s' of' st') fine, q)
 
-      go : (o : Option (List Sym)) → step t.word t.text s ≡ o → ((x : List Sym) → StandsAfter (before ++ t ∷ []) x → Says ending (before ++ t ∷ []) ts (judge ending (begun t n) x ts))
+      go : (o : Option (List Sym)) → consume t.word t.text s ≡ o → ((x : List Sym) → StandsAfter (before ++ t ∷ []) x → Says ending (before ++ t ∷ []) ts (judge ending (begun t n) x ts))
           → Says ending before (t ∷ ts) (verdict n t o (λ s'. judge ending (begun t n) s' ts))
       go None f ih = inl (unexpected (λ v. let q = taken version (before ++ t ∷ []) v in none-some _ (sym (one_more before t s st ∙ f) ∙ q.1)), refl)
       go (Some s') f ih = let st' = one_more before t s st ∙ f in within s' f st' (broken n t (nesting s')) refl (ih s' st')

@@ -11,7 +11,7 @@ use Rattle.script_tokens.specs.declared.lexing.LexEnd.{LexEnd}
 use Rattle.script_tokens.specs.declared.lexing.LexEnd.TheVariants.{End, NotAscii, NoToken}
 use Rattle.script_grammar.specs.Grammar.{Token, AreOf, IsViable}
 use Rattle.script_grammar.specs.Fault.{NestsAt, BreaksLimit, number_out_of_range, name_too_long, nested_too_deep, too_many_functions, IsFault, unexpected, breaks_limit, TextEnd, FaultAtStop, FaultAfter}
-use Rattle.script_text.specs.Machine.{Sym, only, exactly, factor, index, pair, more_factors, more_terms, comparison, minus_end, args, more_args, call_args, right, into, loop_name, loop_args, stmts, after_let, after_name, block, otherwise, functions, param_list, params, more_params, param, answer, body, same_word, Production, rules, is_empty, find_rule, choose, step, is_closer, nesting}
+use Rattle.script_text.specs.Machine.{Sym, only, exactly, factor, index, pair, more_factors, more_terms, comparison, minus_end, args, more_args, call_args, right, into, loop_name, loop_args, stmts, after_let, after_name, block, otherwise, functions, param_list, params, more_params, param, answer, body, same_word, Production, rules, is_empty, find_rule, choose, consume, is_closer, nesting}
 use Rattle.script_text.proofs.Parsing.Words.{same_words}
 use Rattle.script_text.proofs.Nesting.Sound.{viable, taken, are-append, are-first}
 use Rattle.script_text.proofs.OneFault.Judged.{StandsAfter, one_more, nested_so, is_nested}
@@ -98,14 +98,14 @@ no_higher (only w) s = go (is_closer w)
 no_higher minus_end s = omega arith
 no_higher _ s = omega arith
 
-step_flat : (k : Word) (text : List ℕ) (s s' : List Sym) → is_flat k ≡ true → step k text s ≡ Some s' → nesting s' ≤ nesting s
+step_flat : (k : Word) (text : List ℕ) (s s' : List Sym) → is_flat k ≡ true → consume k text s ≡ Some s' → nesting s' ≤ nesting s
 step_flat k text [] s' f e = absurd (none-some _ e)
 step_flat k text (a ∷ s) s' f e = go (find_rule k text (rules a)) (is_empty a) refl e (λ g. step_flat k text s s' f g)
   where
     above : nesting s ≤ nesting (a ∷ s)
     above = no_higher a s
 
-    go : (o : Option (List Sym)) (b : Bool) → find_rule k text (rules a) ≡ o → choose o b s (step k text s) ≡ Some s' → (step k text s ≡ Some s' → nesting s' ≤ nesting s) → nesting s' ≤ nesting (a ∷ s)
+    go : (o : Option (List Sym)) (b : Bool) → find_rule k text (rules a) ≡ o → choose o b s (consume k text s) ≡ Some s' → (consume k text s ≡ Some s' → nesting s' ≤ nesting s) → nesting s' ≤ nesting (a ∷ s)
     go (Some r) b g h tail =
         let whole : nesting s' ≡ nesting (r ++ s) = ap nesting (sym (same_Some _ _ h)) in
         let flat : nesting (r ++ s) ≡ nesting s = flat-append r s (found_flat k text (rules a) r (rules_flat a text) f g) in omega (arith, whole, flat, above)
@@ -159,13 +159,13 @@ module _ (version : Version) where
   one_broken before t able once m n (breaks_limit v f) (breaks_limit w g) = once m n f g
 
   module _ (before : List Token) (t : Token) (s : List Sym) (of : AreOf version (before ++ t ∷ [])) (st : StandsAfter before s) where
-    no_more : step t.word t.text s ≡ None → IsViable version (before ++ t ∷ []) → ⊥
+    no_more : consume t.word t.text s ≡ None → IsViable version (before ++ t ∷ []) → ⊥
     no_more e v = let q = taken version (before ++ t ∷ []) v in none-some _ (sym (one_more before t s st ∙ e) ∙ q.1)
 
     pub one_number : nesting s ≤ 64 → (m n : ℕ) → IsFault version before t m → IsFault version before t n → m ≡ n
-    one_number low m n f g = go (step t.word t.text s) refl
+    one_number low m n f g = go (consume t.word t.text s) refl
       where
-        go : (o : Option (List Sym)) → step t.word t.text s ≡ o → m ≡ n
+        go : (o : Option (List Sym)) → consume t.word t.text s ≡ o → m ≡ n
         go None e = one_unexpected before t (no_more e) m n f g
         go (Some s') e =
             let v = viable version (before ++ t ∷ []) s' of (one_more before t s st ∙ e) in
@@ -174,13 +174,13 @@ module _ (version : Version) where
 
     -- where the token is at no fault, the machine takes it, and is nested within the limit
     pub taken_low : ((n : ℕ) → IsFault version before t n → ⊥) → (s' : List Sym) × StandsAfter (before ++ t ∷ []) s' × (nesting s' ≤ 64)
-    taken_low fine = go (step t.word t.text s) refl
+    taken_low fine = go (consume t.word t.text s) refl
       where
-        low : (s' : List Sym) → step t.word t.text s ≡ Some s' → StandsAfter (before ++ t ∷ []) s' → (64 < nesting s') ⊎ (nesting s' ≤ 64) → nesting s' ≤ 64
+        low : (s' : List Sym) → consume t.word t.text s ≡ Some s' → StandsAfter (before ++ t ∷ []) s' → (64 < nesting s') ⊎ (nesting s' ≤ 64) → nesting s' ≤ 64
         low s' e st' (inl deep) = absurd (fine 5 (breaks_limit (viable version (before ++ t ∷ []) s' of st') (nested_too_deep (is_nested version before t s s' of st e st') deep)))
         low s' e st' (inr shallow) = shallow
 
-        go : (o : Option (List Sym)) → step t.word t.text s ≡ o → (s' : List Sym) × StandsAfter (before ++ t ∷ []) s' × (nesting s' ≤ 64)
+        go : (o : Option (List Sym)) → consume t.word t.text s ≡ o → (s' : List Sym) × StandsAfter (before ++ t ∷ []) s' × (nesting s' ≤ 64)
         go None e = absurd (fine 2 (unexpected (no_more e)))
         go (Some s') e = let st' = one_more before t s st ∙ e in (s', st', low s' e st' (cases_lt 64 (nesting s')))
 

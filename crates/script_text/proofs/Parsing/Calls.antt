@@ -13,9 +13,9 @@ use Rattle.script_grammar.specs.declared.tree.Name.{Name}
 use Rattle.script_grammar.specs.declared.tree.Number.{Number}
 use Rattle.script_grammar.specs.declared.tree.Expr.{Expr}
 use Rattle.script_grammar.specs.Grammar.{Token, tok, name_at, number_at, IsExpr, IsMoreArgs, no_more_args, one_more_arg, no_args, some_args, IsCall, a_call}
-use Rattle.script_text.specs.Machine.{Sym, only, args, more_args, call_args, expr_then, step, at_stop, verdict, begun, judge}
+use Rattle.script_text.specs.Machine.{Sym, only, args, more_args, call_args, expr_then, consume, at_stop, verdict, begun, judge}
 use Rattle.script_grammar.specs.Text.{token_of}
-use Rattle.script_text.specs.Reads.{seen, ending, Leads, Errs, NextIs, NextIsNot, IsBracket, ReadsName, ReadsNumber, unexpected_in, IsName, a_name_token, IsNumber, a_number_token, IsArguments, arguments, AddsArgs}
+use Rattle.script_text.specs.Reads.{seen, text_end, Leads, Errs, NextIs, NextIsNot, IsBracket, ReadsName, ReadsNumber, unexpected_in, IsName, a_name_token, IsNumber, a_number_token, IsArguments, arguments, AddsArgs}
 use Rattle.script_text.proofs.Parsing.Steps.{taken, name_taken, name_long, number_taken, number_big, skipped, has_none, seen-next, err_after, unexpected_err, Comes, Passed, Opened}
 use Rattle.script_text.proofs.Parsing.Expressions.{first_is, expr_shorter, length-seen}
 
@@ -26,29 +26,29 @@ module _ (source : LexedText) (d : ℕ) (old rest : List Lexeme) (l : Lexeme) wh
   name_read x e w h k =
       let t = seen-next word.Name source l.start old rest (first_is l old rest e w) in (
         subst (λ z. IsName (seen source old) z (seen source rest)) (sym k.0) (subst (λ q. IsName q (name_at l.start (text_of source.bytes.now l)) (seen source rest)) (sym t) a_name_token),
-        λ n s f. ap (judge (ending source) n (only word.Name ∷ s)) t ∙ name_taken (ending source) n l.start (text_of source.bytes.now l) (only word.Name ∷ s) s (seen source rest) k.1 (omega arith) refl,
+        λ n s f. ap (judge (text_end source) n (only word.Name ∷ s)) t ∙ name_taken (text_end source) n l.start (text_of source.bytes.now l) (only word.Name ∷ s) s (seen source rest) k.1 (omega arith) refl,
       )
 
   pub name_read_err : (e : SyntaxError) → old ≡ l ∷ rest → l.word ≡ word.Name → ReadsName source l (Err e) → Errs (only word.Name ∷ []) source d old e
   name_read_err Memory e w k = tt
   name_read_err (Bad number at) e w k = λ n s f.
       let fault : ◌≡◌ {A = Option (ℕ × ℕ)} (Some (4, l.start)) (Some (number, at)) = cc in
-      ap (judge (ending source) n (only word.Name ∷ s)) (seen-next word.Name source l.start old rest (first_is l old rest e w))
-      ∙ name_long (ending source) n l.start (text_of source.bytes.now l) (only word.Name ∷ s) s (seen source rest) k.0 refl ∙ fault
+      ap (judge (text_end source) n (only word.Name ∷ s)) (seen-next word.Name source l.start old rest (first_is l old rest e w))
+      ∙ name_long (text_end source) n l.start (text_of source.bytes.now l) (only word.Name ∷ s) s (seen source rest) k.0 refl ∙ fault
 
   pub number_read : (x : Number) → old ≡ l ∷ rest → l.word ≡ word.Number → d ≤ 64 → ReadsNumber source l (Ok x) → Comes IsNumber (only word.Number ∷ []) source d old x rest
   number_read x e w h k =
       let t = seen-next word.Number source l.start old rest (first_is l old rest e w) in (
         subst (λ z. IsNumber (seen source old) z (seen source rest)) (sym k.0) (subst (λ q. IsNumber q (number_at l.start (text_of source.bytes.now l)) (seen source rest)) (sym t) a_number_token),
-        λ n s f. ap (judge (ending source) n (only word.Number ∷ s)) t ∙ number_taken (ending source) n l.start (text_of source.bytes.now l) (only word.Number ∷ s) s (seen source rest) k.1 (omega arith) refl,
+        λ n s f. ap (judge (text_end source) n (only word.Number ∷ s)) t ∙ number_taken (text_end source) n l.start (text_of source.bytes.now l) (only word.Number ∷ s) s (seen source rest) k.1 (omega arith) refl,
       )
 
   pub number_read_err : (e : SyntaxError) → old ≡ l ∷ rest → l.word ≡ word.Number → ReadsNumber source l (Err e) → Errs (only word.Number ∷ []) source d old e
   number_read_err Memory e w k = tt
   number_read_err (Bad number at) e w k = λ n s f.
       let fault : ◌≡◌ {A = Option (ℕ × ℕ)} (Some (3, l.start)) (Some (number, at)) = cc in
-      ap (judge (ending source) n (only word.Number ∷ s)) (seen-next word.Number source l.start old rest (first_is l old rest e w))
-      ∙ number_big (ending source) n l.start (text_of source.bytes.now l) (only word.Number ∷ s) s (seen source rest) k.0 refl ∙ fault
+      ap (judge (text_end source) n (only word.Number ∷ s)) (seen-next word.Number source l.start old rest (first_is l old rest e w))
+      ∙ number_big (text_end source) n l.start (text_of source.bytes.now l) (only word.Number ∷ s) s (seen source rest) k.0 refl ∙ fault
 
 pub missing : (w : Word) (source : LexedText) (d : ℕ) (old : List Lexeme) (e : SyntaxError) → NextIsNot w old → e ≡ unexpected_in source old → Errs (only w ∷ []) source d old e
 missing w source d old e h f = unexpected_err (only w) [] source d old e refl (has_none (only w) w [] old source.bytes.now refl h) f
@@ -71,8 +71,8 @@ args_end source d start found old left i k =
 
 pub args_enter : (source : LexedText) (d at : ℕ) (old left inner : List Lexeme) → d ≤ 64 → Leads (more_args ∷ []) (more_args ∷ []) source d old left → NextIs word.Comma at left inner → Leads (more_args ∷ []) (expr_then (more_args ∷ [])) source d old inner
 args_enter source d at old left inner h g k = λ n s f.
-    g n s f ∙ ap (judge (ending source) n (more_args ∷ s)) (seen-next word.Comma source at left inner k)
-    ∙ taken (ending source) n at word.Comma (text_of source.bytes.now k.0) (more_args ∷ s) (expr_then (more_args ∷ s)) (seen source inner) refl (omega arith) refl
+    g n s f ∙ ap (judge (text_end source) n (more_args ∷ s)) (seen-next word.Comma source at left inner k)
+    ∙ taken (text_end source) n at word.Comma (text_of source.bytes.now k.0) (more_args ∷ s) (expr_then (more_args ∷ s)) (seen source inner) refl (omega arith) refl
 
 pub one_more_argument : (source : LexedText) (d at : ℕ) (start found found' : List Expr) (old left inner rest : List Lexeme) (x : Expr) → found' ≡ found ++ x ∷ [] → d ≤ 64 → ArgsSoFar source d start old found left → NextIs word.Comma at left inner
     → Comes IsExpr (expr_then []) source d inner x rest → ArgsSoFar source d start old found' rest
@@ -97,16 +97,16 @@ pub no_arguments : (source : LexedText) (d at : ℕ) (old rest : List Lexeme) (x
 no_arguments source d at old rest xs h e k =
     let t = seen-next word.Close source at old rest k in (
       subst (λ z. IsArguments (seen source old) z (seen source rest)) (sym e) (subst (λ q. IsArguments q [] (seen source rest)) (sym t) (arguments no_args)),
-      λ n s f. ap (judge (ending source) n (args ∷ only word.Close ∷ s)) t
-          ∙ taken (ending source) n at word.Close (text_of source.bytes.now k.0) (args ∷ only word.Close ∷ s) s (seen source rest) refl (omega arith) refl,
+      λ n s f. ap (judge (text_end source) n (args ∷ only word.Close ∷ s)) t
+          ∙ taken (text_end source) n at word.Close (text_of source.bytes.now k.0) (args ∷ only word.Close ∷ s) s (seen source rest) refl (omega arith) refl,
     )
 
 -- where no parenthesis comes, arguments begin with an expression
-args_step : (w : Word) (text : List ℕ) (s : List Sym) → (w ≡ word.Close → ⊥) → step w text (args ∷ only word.Close ∷ s) ≡ step w text (expr_then (more_args ∷ only word.Close ∷ s))
+args_step : (w : Word) (text : List ℕ) (s : List Sym) → (w ≡ word.Close → ⊥) → consume w text (args ∷ only word.Close ∷ s) ≡ consume w text (expr_then (more_args ∷ only word.Close ∷ s))
 args_step word.Close text s h = absurd (h refl)
 args_step _ text s h = refl
 
-args_same : (source : LexedText) (n : ℕ) (s : List Sym) (old : List Lexeme) → NextIsNot word.Close old → judge (ending source) n (args ∷ only word.Close ∷ s) (seen source old) ≡ judge (ending source) n (expr_then (more_args ∷ only word.Close ∷ s)) (seen source old)
+args_same : (source : LexedText) (n : ℕ) (s : List Sym) (old : List Lexeme) → NextIsNot word.Close old → judge (text_end source) n (args ∷ only word.Close ∷ s) (seen source old) ≡ judge (text_end source) n (expr_then (more_args ∷ only word.Close ∷ s)) (seen source old)
 args_same source n s [] h = at source.stop
   where
     at : (w : LexEnd) → at_stop source.end w (args ∷ only word.Close ∷ s) ≡ at_stop source.end w (expr_then (more_args ∷ only word.Close ∷ s))
@@ -115,7 +115,7 @@ args_same source n s [] h = at source.stop
     at (NoToken place) = refl
 args_same source n s (l ∷ ls) h =
     let t : Token = token_of source.bytes.now l in
-    ap (λ o. verdict n t o (λ s'. judge (ending source) (begun t n) s' (seen source ls))) (args_step l.word (text_of source.bytes.now l) s h)
+    ap (λ o. verdict n t o (λ s'. judge (text_end source) (begun t n) s' (seen source ls))) (args_step l.word (text_of source.bytes.now l) s h)
 
 pub some_arguments : (source : LexedText) (d : ℕ) (old mid mid' rest : List Lexeme) (found ys : List Expr) (x : Expr) → NextIsNot word.Close old → Comes IsExpr (expr_then []) source (d + 1) old x mid → found ≡ x ∷ []
     → Comes (AddsArgs found) (more_args ∷ []) source (d + 1) mid ys mid' → Passed word.Close source d mid' rest → Comes IsArguments (args ∷ only word.Close ∷ []) source d old ys rest

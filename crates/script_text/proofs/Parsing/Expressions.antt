@@ -16,8 +16,8 @@ use Rattle.script_grammar.specs.declared.tree.ProductPart.{ProductPart}
 use Rattle.script_grammar.specs.declared.tree.ProductSign.{ProductSign}
 use Rattle.script_grammar.specs.declared.tree.Comparison.{Comparison}
 use Rattle.script_grammar.specs.Grammar.{Token, tok, name_at, number_at, sum_of, product_of, IsSumSign, a_plus, a_minus, IsProductSign, a_times, an_over, a_modulo, IsComparison, an_eq, a_ne, a_lt, a_le, a_gt, a_ge, IsFactor, a_neg, a_number, a_name, an_item, a_group, a_same, an_older, IsTerm, factors, IsFactors, no_factors, one_factor, IsSum, terms, IsTerms, no_terms, one_term, IsExpr, alone, compared}
-use Rattle.script_text.specs.Machine.{Sym, only, factor, index, pair, more_factors, more_terms, comparison, minus_end, sum_then, expr_then, step, nesting, judge}
-use Rattle.script_text.specs.Reads.{seen, ending, Leads, Errs, NextIs, NextIsNot, is_unlimited, SignNext, Deepens, IsBracket, ReadsName, ReadsNumber, IsOperands, an_operands}
+use Rattle.script_text.specs.Machine.{Sym, only, factor, index, pair, more_factors, more_terms, comparison, minus_end, sum_then, expr_then, consume, nesting, judge}
+use Rattle.script_text.specs.Reads.{seen, text_end, Leads, Errs, NextIs, NextIsNot, is_unlimited, SignNext, Deepens, IsBracket, ReadsName, ReadsNumber, IsOperands, an_operands}
 use Rattle.script_text.proofs.Nesting.Follows.{comparison_step, factors_step, terms_step}
 use Rattle.script_text.proofs.Parsing.Steps.{taken, deep, name_taken, name_long, number_taken, number_big, HasNone, skipped, has_none, seen-next, err_after, Comes, Passed, Opened}
 
@@ -50,8 +50,8 @@ expr_alone source d old rest x a k = (alone a.0, λ n s e. a.1 n (comparison ∷
 pub compares : (source : LexedText) (d : ℕ) (old mid tail : List Lexeme) (x : Expr) (s : Comparison) (l : Lexeme) → d ≤ 64 → Comes IsSum (sum_then []) source d old x mid → mid ≡ l ∷ tail → IsComparison l.word s
     → Leads (expr_then []) (sum_then []) source d old tail
 compares source d old mid tail x c l h a e k = λ n s f.
-    a.1 n (comparison ∷ s) f ∙ ap (λ z. judge (ending source) n (comparison ∷ s) (seen source z)) e
-    ∙ taken (ending source) n l.start l.word _ (comparison ∷ s) (sum_then s) (seen source tail) (comparison_plain k) (omega arith) (comparison_step _ s k)
+    a.1 n (comparison ∷ s) f ∙ ap (λ z. judge (text_end source) n (comparison ∷ s) (seen source z)) e
+    ∙ taken (text_end source) n l.start l.word _ (comparison ∷ s) (sum_then s) (seen source tail) (comparison_plain k) (omega arith) (comparison_step _ s k)
 
 pub expr_compared : (source : LexedText) (d : ℕ) (old mid tail rest : List Lexeme) (x y z : Expr) (s : Comparison) → d ≤ 64 → Comes IsSum (sum_then []) source d old x mid
     → (l : Lexeme) × (mid ≡ l ∷ tail) × IsComparison l.word s → Comes IsSum (sum_then []) source d tail y rest → z ≡ expr.Compare x s y → Comes IsExpr (expr_then []) source d old z rest
@@ -103,14 +103,14 @@ factors_end source d old left xs i k = (
 pub terms_enter : (source : LexedText) (d : ℕ) (old left inner : List Lexeme) (g : Bool) → d ≤ 64 → Leads (more_terms ∷ []) (more_terms ∷ []) source d old left → (l : Lexeme) × (left ≡ l ∷ inner) × IsSumSign l.word g
     → Leads (more_terms ∷ []) (factor ∷ more_factors ∷ more_terms ∷ []) source d old inner
 terms_enter source d old left inner g h goes k = λ n s f.
-    goes n s f ∙ ap (λ z. judge (ending source) n (more_terms ∷ s) (seen source z)) k.1
-    ∙ taken (ending source) n k.0.start k.0.word _ (more_terms ∷ s) (sum_then s) (seen source inner) (sum_plain k.2) (omega arith) (terms_step _ s k.2)
+    goes n s f ∙ ap (λ z. judge (text_end source) n (more_terms ∷ s) (seen source z)) k.1
+    ∙ taken (text_end source) n k.0.start k.0.word _ (more_terms ∷ s) (sum_then s) (seen source inner) (sum_plain k.2) (omega arith) (terms_step _ s k.2)
 
 pub factors_enter : (source : LexedText) (d : ℕ) (old left inner : List Lexeme) (g : ProductSign) → d ≤ 64 → Leads (more_factors ∷ []) (more_factors ∷ []) source d old left → (l : Lexeme) × (left ≡ l ∷ inner) × IsProductSign l.word g
     → Leads (more_factors ∷ []) (factor ∷ more_factors ∷ []) source d old inner
 factors_enter source d old left inner g h goes k = λ n s f.
-    goes n s f ∙ ap (λ z. judge (ending source) n (more_factors ∷ s) (seen source z)) k.1
-    ∙ taken (ending source) n k.0.start k.0.word _ (more_factors ∷ s) (factor ∷ more_factors ∷ s) (seen source inner) (product_plain k.2) (omega arith) (factors_step _ s k.2)
+    goes n s f ∙ ap (λ z. judge (text_end source) n (more_factors ∷ s) (seen source z)) k.1
+    ∙ taken (text_end source) n k.0.start k.0.word _ (more_factors ∷ s) (factor ∷ more_factors ∷ s) (seen source inner) (product_plain k.2) (omega arith) (factors_step _ s k.2)
 
 pub one_more_term : (source : LexedText) (d : ℕ) (old left inner rest : List Lexeme) (xs ys : List SumPart) (g : Bool) (x : Expr) → ys ≡ xs ++ record { minus = g; operand = x } ∷ [] → d ≤ 64
     → TermsSoFar source d old xs left → (l : Lexeme) × (left ≡ l ∷ inner) × IsSumSign l.word g → Comes IsTerm (factor ∷ more_factors ∷ []) source d inner x rest → TermsSoFar source d old ys rest
@@ -141,7 +141,7 @@ factor_number source d rest l x e h k =
     let t = seen-next word.Number source l.start (l ∷ rest) rest (first_is l (l ∷ rest) rest refl e) in (
       subst (λ z. IsFactor (seen source (l ∷ rest)) (expr.Number z) (seen source rest)) (sym k.0)
           (subst (λ q. IsFactor q (expr.Number (number_at l.start (text_of source.bytes.now l))) (seen source rest)) (sym t) a_number),
-      λ n s f. ap (judge (ending source) n (factor ∷ s)) t ∙ number_taken (ending source) n l.start (text_of source.bytes.now l) (factor ∷ s) s (seen source rest) k.1 (omega arith) refl,
+      λ n s f. ap (judge (text_end source) n (factor ∷ s)) t ∙ number_taken (text_end source) n l.start (text_of source.bytes.now l) (factor ∷ s) s (seen source rest) k.1 (omega arith) refl,
     )
 
 pub factor_number_err : (source : LexedText) (d : ℕ) (rest : List Lexeme) (l : Lexeme) (e : SyntaxError) → l.word ≡ word.Number → ReadsNumber source l (Err e) → Errs (factor ∷ []) source d (l ∷ rest) e
@@ -149,13 +149,13 @@ factor_number_err source d rest l Memory e k = tt
 factor_number_err source d rest l (Bad number at) e k = λ n s f.
     let t = seen-next word.Number source l.start (l ∷ rest) rest (first_is l (l ∷ rest) rest refl e) in
     let fault : ◌≡◌ {A = Option (ℕ × ℕ)} (Some (3, l.start)) (Some (number, at)) = cc in
-    ap (judge (ending source) n (factor ∷ s)) t ∙ number_big (ending source) n l.start (text_of source.bytes.now l) (factor ∷ s) s (seen source rest) k.0 refl ∙ fault
+    ap (judge (text_end source) n (factor ∷ s)) t ∙ number_big (text_end source) n l.start (text_of source.bytes.now l) (factor ∷ s) s (seen source rest) k.0 refl ∙ fault
 
 -- the machine after a factor's name
 pub names : (source : LexedText) (d : ℕ) (rest : List Lexeme) (l : Lexeme) (x : Name) → l.word ≡ word.Name → d ≤ 64 → ReadsName source l (Ok x) → Leads (factor ∷ []) (index ∷ []) source d (l ∷ rest) rest
 names source d rest l x e h k = λ n s f.
-    ap (judge (ending source) n (factor ∷ s)) (seen-next word.Name source l.start (l ∷ rest) rest (first_is l (l ∷ rest) rest refl e))
-    ∙ name_taken (ending source) n l.start (text_of source.bytes.now l) (factor ∷ s) (index ∷ s) (seen source rest) k.1 (omega arith) refl
+    ap (judge (text_end source) n (factor ∷ s)) (seen-next word.Name source l.start (l ∷ rest) rest (first_is l (l ∷ rest) rest refl e))
+    ∙ name_taken (text_end source) n l.start (text_of source.bytes.now l) (factor ∷ s) (index ∷ s) (seen source rest) k.1 (omega arith) refl
 
 pub factor_name : (source : LexedText) (d : ℕ) (rest : List Lexeme) (l : Lexeme) (x : Name) → l.word ≡ word.Name → d ≤ 64 → ReadsName source l (Ok x) → NextIsNot word.OpenItem rest → Comes IsFactor (factor ∷ []) source d (l ∷ rest) (expr.Var x) rest
 factor_name source d rest l x e h k g =
@@ -170,22 +170,22 @@ factor_name_err source d rest l Memory e k = tt
 factor_name_err source d rest l (Bad number at) e k = λ n s f.
     let t = seen-next word.Name source l.start (l ∷ rest) rest (first_is l (l ∷ rest) rest refl e) in
     let fault : ◌≡◌ {A = Option (ℕ × ℕ)} (Some (4, l.start)) (Some (number, at)) = cc in
-    ap (judge (ending source) n (factor ∷ s)) t ∙ name_long (ending source) n l.start (text_of source.bytes.now l) (factor ∷ s) (index ∷ s) (seen source rest) k.0 refl ∙ fault
+    ap (judge (text_end source) n (factor ∷ s)) t ∙ name_long (text_end source) n l.start (text_of source.bytes.now l) (factor ∷ s) (index ∷ s) (seen source rest) k.0 refl ∙ fault
 
 -- the machine after the bracket of an item
 pub item_enters : (source : LexedText) (d at : ℕ) (rest tail : List Lexeme) (l : Lexeme) (x : Name) → l.word ≡ word.Name → d < 64 → ReadsName source l (Ok x) → NextIs word.OpenItem at rest tail
     → Leads (factor ∷ []) (expr_then (only word.CloseItem ∷ [])) source d (l ∷ rest) tail
 item_enters source d at rest tail l x e h k g = λ n s f.
-    names source d rest l x e (omega arith) k n s f ∙ ap (judge (ending source) n (index ∷ s)) (seen-next word.OpenItem source at rest tail g)
-    ∙ taken (ending source) n at word.OpenItem (text_of source.bytes.now g.0) (index ∷ s) (expr_then (only word.CloseItem ∷ s)) (seen source tail) refl (omega arith) refl
+    names source d rest l x e (omega arith) k n s f ∙ ap (judge (text_end source) n (index ∷ s)) (seen-next word.OpenItem source at rest tail g)
+    ∙ taken (text_end source) n at word.OpenItem (text_of source.bytes.now g.0) (index ∷ s) (expr_then (only word.CloseItem ∷ s)) (seen source tail) refl (omega arith) refl
 
 pub item_deep : (source : LexedText) (d at : ℕ) (rest tail : List Lexeme) (l : Lexeme) (x : Name) (e : SyntaxError) → l.word ≡ word.Name → d ≤ 64 → ReadsName source l (Ok x) → NextIs word.OpenItem at rest tail → Deepens d at (Err e)
     → Errs (factor ∷ []) source d (l ∷ rest) e
 item_deep source d at rest tail l x Memory e h k g q = tt
 item_deep source d at rest tail l x (Bad number place) e h k g q = λ n s f.
     let fault : ◌≡◌ {A = Option (ℕ × ℕ)} (Some (5, at)) (Some (number, place)) = cc in
-    names source d rest l x e h k n s f ∙ ap (judge (ending source) n (index ∷ s)) (seen-next word.OpenItem source at rest tail g)
-    ∙ deep (ending source) n at word.OpenItem (text_of source.bytes.now g.0) (index ∷ s) (expr_then (only word.CloseItem ∷ s)) (seen source tail) refl (omega arith) refl ∙ fault
+    names source d rest l x e h k n s f ∙ ap (judge (text_end source) n (index ∷ s)) (seen-next word.OpenItem source at rest tail g)
+    ∙ deep (text_end source) n at word.OpenItem (text_of source.bytes.now g.0) (index ∷ s) (expr_then (only word.CloseItem ∷ s)) (seen source tail) refl (omega arith) refl ∙ fault
 
 pub factor_item : (source : LexedText) (d inside at : ℕ) (rest tail mid last : List Lexeme) (l : Lexeme) (x : Name) (y z : Expr) → l.word ≡ word.Name → Deepens d at (Ok inside) → ReadsName source l (Ok x) → NextIs word.OpenItem at rest tail
     → Comes IsExpr (expr_then []) source inside tail y mid → Passed word.CloseItem source d mid last → z ≡ expr.Item x y → Comes IsFactor (factor ∷ []) source d (l ∷ rest) z last
@@ -204,17 +204,17 @@ factor_item source d inside at rest tail mid last l x y z e h k g a b p =
 
 pub minus_enters : (source : LexedText) (d : ℕ) (rest : List Lexeme) (l : Lexeme) → l.word ≡ word.Minus → d < 64 → Leads (factor ∷ []) (factor ∷ minus_end ∷ []) source d (l ∷ rest) rest
 minus_enters source d rest l e h = λ n s f.
-    ap (judge (ending source) n (factor ∷ s)) (seen-next word.Minus source l.start (l ∷ rest) rest (first_is l (l ∷ rest) rest refl e))
-    ∙ taken (ending source) n l.start word.Minus (text_of source.bytes.now l) (factor ∷ s) (factor ∷ minus_end ∷ s) (seen source rest) refl (omega arith) refl
+    ap (judge (text_end source) n (factor ∷ s)) (seen-next word.Minus source l.start (l ∷ rest) rest (first_is l (l ∷ rest) rest refl e))
+    ∙ taken (text_end source) n l.start word.Minus (text_of source.bytes.now l) (factor ∷ s) (factor ∷ minus_end ∷ s) (seen source rest) refl (omega arith) refl
 
 pub minus_deep : (source : LexedText) (d : ℕ) (rest : List Lexeme) (l : Lexeme) (e : SyntaxError) → l.word ≡ word.Minus → Deepens d l.start (Err e) → Errs (factor ∷ []) source d (l ∷ rest) e
 minus_deep source d rest l Memory e q = tt
 minus_deep source d rest l (Bad number at) e q = λ n s f.
     let fault : ◌≡◌ {A = Option (ℕ × ℕ)} (Some (5, l.start)) (Some (number, at)) = cc in
-    ap (judge (ending source) n (factor ∷ s)) (seen-next word.Minus source l.start (l ∷ rest) rest (first_is l (l ∷ rest) rest refl e))
-    ∙ deep (ending source) n l.start word.Minus (text_of source.bytes.now l) (factor ∷ s) (factor ∷ minus_end ∷ s) (seen source rest) refl (omega arith) refl ∙ fault
+    ap (judge (text_end source) n (factor ∷ s)) (seen-next word.Minus source l.start (l ∷ rest) rest (first_is l (l ∷ rest) rest refl e))
+    ∙ deep (text_end source) n l.start word.Minus (text_of source.bytes.now l) (factor ∷ s) (factor ∷ minus_end ∷ s) (seen source rest) refl (omega arith) refl ∙ fault
 
-skip_minus : (source : LexedText) (n : ℕ) (s : List Sym) (ls : List Lexeme) → judge (ending source) n (minus_end ∷ s) (seen source ls) ≡ judge (ending source) n s (seen source ls)
+skip_minus : (source : LexedText) (n : ℕ) (s : List Sym) (ls : List Lexeme) → judge (text_end source) n (minus_end ∷ s) (seen source ls) ≡ judge (text_end source) n s (seen source ls)
 skip_minus source n s ls = skipped source n minus_end s ls refl (none ls)
   where
     none : (ls : List Lexeme) → HasNone minus_end ls source.bytes.now
@@ -233,15 +233,15 @@ factor_minus source d inside rest last l x z e h a p =
 
 pub group_enters : (source : LexedText) (d : ℕ) (rest : List Lexeme) (l : Lexeme) → l.word ≡ word.Open → d < 64 → Leads (factor ∷ []) (expr_then (only word.Close ∷ [])) source d (l ∷ rest) rest
 group_enters source d rest l e h = λ n s f.
-    ap (judge (ending source) n (factor ∷ s)) (seen-next word.Open source l.start (l ∷ rest) rest (first_is l (l ∷ rest) rest refl e))
-    ∙ taken (ending source) n l.start word.Open (text_of source.bytes.now l) (factor ∷ s) (expr_then (only word.Close ∷ s)) (seen source rest) refl (omega arith) refl
+    ap (judge (text_end source) n (factor ∷ s)) (seen-next word.Open source l.start (l ∷ rest) rest (first_is l (l ∷ rest) rest refl e))
+    ∙ taken (text_end source) n l.start word.Open (text_of source.bytes.now l) (factor ∷ s) (expr_then (only word.Close ∷ s)) (seen source rest) refl (omega arith) refl
 
 pub group_deep : (source : LexedText) (d : ℕ) (rest : List Lexeme) (l : Lexeme) (e : SyntaxError) → l.word ≡ word.Open → Deepens d l.start (Err e) → Errs (factor ∷ []) source d (l ∷ rest) e
 group_deep source d rest l Memory e q = tt
 group_deep source d rest l (Bad number at) e q = λ n s f.
     let fault : ◌≡◌ {A = Option (ℕ × ℕ)} (Some (5, l.start)) (Some (number, at)) = cc in
-    ap (judge (ending source) n (factor ∷ s)) (seen-next word.Open source l.start (l ∷ rest) rest (first_is l (l ∷ rest) rest refl e))
-    ∙ deep (ending source) n l.start word.Open (text_of source.bytes.now l) (factor ∷ s) (expr_then (only word.Close ∷ s)) (seen source rest) refl (omega arith) refl ∙ fault
+    ap (judge (text_end source) n (factor ∷ s)) (seen-next word.Open source l.start (l ∷ rest) rest (first_is l (l ∷ rest) rest refl e))
+    ∙ deep (text_end source) n l.start word.Open (text_of source.bytes.now l) (factor ∷ s) (expr_then (only word.Close ∷ s)) (seen source rest) refl (omega arith) refl ∙ fault
 
 pub factor_group : (source : LexedText) (d inside : ℕ) (rest mid last : List Lexeme) (l : Lexeme) (x : Expr) → l.word ≡ word.Open → Deepens d l.start (Ok inside) → Comes IsExpr (expr_then []) source inside rest x mid → Passed word.Close source d mid last
     → Comes IsFactor (factor ∷ []) source d (l ∷ rest) x last
@@ -254,11 +254,11 @@ factor_group source d inside rest mid last l x e h a b =
 
 -- same and older
 
-pub word_enters : (source : LexedText) (d : ℕ) (rest : List Lexeme) (l : Lexeme) (w : Word) → l.word ≡ w → is_unlimited w ≡ true → ((text : List ℕ) (s : List Sym) → step w text (factor ∷ s) ≡ Some (pair ∷ s)) → d ≤ 64
+pub word_enters : (source : LexedText) (d : ℕ) (rest : List Lexeme) (l : Lexeme) (w : Word) → l.word ≡ w → is_unlimited w ≡ true → ((text : List ℕ) (s : List Sym) → consume w text (factor ∷ s) ≡ Some (pair ∷ s)) → d ≤ 64
     → Leads (factor ∷ []) (pair ∷ []) source d (l ∷ rest) rest
 word_enters source d rest l w e p g h = λ n s f.
-    ap (judge (ending source) n (factor ∷ s)) (seen-next w source l.start (l ∷ rest) rest (first_is l (l ∷ rest) rest refl e))
-    ∙ taken (ending source) n l.start w _ (factor ∷ s) (pair ∷ s) (seen source rest) p (omega arith) (g _ s)
+    ap (judge (text_end source) n (factor ∷ s)) (seen-next w source l.start (l ∷ rest) rest (first_is l (l ∷ rest) rest refl e))
+    ∙ taken (text_end source) n l.start w _ (factor ∷ s) (pair ∷ s) (seen source rest) p (omega arith) (g _ s)
 
 pub factor_same : (source : LexedText) (d : ℕ) (rest last : List Lexeme) (l : Lexeme) (x y : Expr) → l.word ≡ word.Same → d ≤ 64 → IsOperands (seen source rest) x y (seen source last) → Leads (pair ∷ []) [] source d rest last
     → Comes IsFactor (factor ∷ []) source d (l ∷ rest) (expr.Same l.start x y) last
@@ -370,7 +370,7 @@ module _ (source : LexedText) (d : ℕ) where
       → Errs (more_factors ∷ []) source d old e
   more_factors_err old left inner xs g e h i k f = err_after (more_factors ∷ []) (factor ∷ []) (more_factors ∷ []) source d d old inner e (factors_enter source d old left inner g h i.goes k) (λ s h. h) f
 
-  pub factor_err_pair : (rest : List Lexeme) (l : Lexeme) (w : Word) (e : SyntaxError) → l.word ≡ w → is_unlimited w ≡ true → ((text : List ℕ) (s : List Sym) → step w text (factor ∷ s) ≡ Some (pair ∷ s)) → d ≤ 64 → Errs (pair ∷ []) source d rest e
+  pub factor_err_pair : (rest : List Lexeme) (l : Lexeme) (w : Word) (e : SyntaxError) → l.word ≡ w → is_unlimited w ≡ true → ((text : List ℕ) (s : List Sym) → consume w text (factor ∷ s) ≡ Some (pair ∷ s)) → d ≤ 64 → Errs (pair ∷ []) source d rest e
       → Errs (factor ∷ []) source d (l ∷ rest) e
   factor_err_pair rest l w e q p g h f = err_after (factor ∷ []) (pair ∷ []) [] source d d (l ∷ rest) rest e (word_enters source d rest l w q p g h) (λ s h. h) f
 

@@ -19,21 +19,21 @@ use Rattle.script_grammar.specs.declared.tree.Stmt.{Stmt}
 use Rattle.script_grammar.specs.declared.tree.Function.{Function}
 use Rattle.script_grammar.specs.Grammar.{Token, tok, name_at, IsExpr, IsStmts, IsParam, int_param, id_param, IsMoreParams, no_more_params, one_more_param, IsParams, no_params, some_params, IsAnswerKind, int_answer, id_answer, IsFunction, a_function, IsFunctions, no_functions, one_function, IsScript}
 use Rattle.script_grammar.specs.Fault.{TextEnd}
-use Rattle.script_text.specs.Machine.{Sym, only, param, params, more_params, param_list, answer, body, stmts, functions, expr_then, step, nesting, at_stop, unless_broken, verdict, begun, judge}
+use Rattle.script_text.specs.Machine.{Sym, only, param, params, more_params, param_list, answer, body, stmts, functions, expr_then, consume, nesting, at_stop, unless_broken, verdict, begun, judge}
 use Rattle.script_grammar.specs.Text.{token_of}
-use Rattle.script_text.specs.Reads.{seen, ending, Leads, Errs, NextIs, NextIsNot, IsBracket, stopped_at, unexpected_in, IsName, a_name_token, IsEnded, ended, AddsParams, IsParamList, parameters, IsBody, a_body, IsRestOfFunction, ReadsFunctions, Judges}
+use Rattle.script_text.specs.Reads.{seen, text_end, Leads, Errs, NextIs, NextIsNot, IsBracket, stopped_at, unexpected_in, IsName, a_name_token, IsEnded, ended, AddsParams, IsParamList, parameters, IsBody, a_body, IsRestOfFunction, ReadsFunctions, Judges}
 use Rattle.script_text.proofs.Parsing.Steps.{taken, skipped, has_none, seen-next, err_after, unexpected_err, Comes, Passed, Opened}
 use Rattle.script_text.proofs.Parsing.Expressions.{expr_shorter, length-seen}
 use Rattle.script_text.proofs.Parsing.Statements.{err_first, stmts_shorter}
 
 -- Parameters
 
-param_step : (w : Word) (text : List ℕ) (s : List Sym) → (w ≡ word.Id → ⊥) → step w text (param ∷ s) ≡ step w text (only word.Name ∷ s)
+param_step : (w : Word) (text : List ℕ) (s : List Sym) → (w ≡ word.Id → ⊥) → consume w text (param ∷ s) ≡ consume w text (only word.Name ∷ s)
 param_step word.Id text s h = absurd (h refl)
 param_step _ text s h = refl
 
 module _ (source : LexedText) (d : ℕ) (old : List Lexeme) where
-  param_same : NextIsNot word.Id old → (n : ℕ) (s : List Sym) → judge (ending source) n (param ∷ s) (seen source old) ≡ judge (ending source) n (only word.Name ∷ s) (seen source old)
+  param_same : NextIsNot word.Id old → (n : ℕ) (s : List Sym) → judge (text_end source) n (param ∷ s) (seen source old) ≡ judge (text_end source) n (only word.Name ∷ s) (seen source old)
   param_same k n s = go old k
     where
       at : (w : LexEnd) → at_stop source.end w (param ∷ s) ≡ at_stop source.end w (only word.Name ∷ s)
@@ -41,9 +41,9 @@ module _ (source : LexedText) (d : ℕ) (old : List Lexeme) where
       at (NotAscii place) = refl
       at (NoToken place) = refl
 
-      go : (ls : List Lexeme) → NextIsNot word.Id ls → judge (ending source) n (param ∷ s) (seen source ls) ≡ judge (ending source) n (only word.Name ∷ s) (seen source ls)
+      go : (ls : List Lexeme) → NextIsNot word.Id ls → judge (text_end source) n (param ∷ s) (seen source ls) ≡ judge (text_end source) n (only word.Name ∷ s) (seen source ls)
       go [] k = at source.stop
-      go (l ∷ ls) k = let t : Token = token_of source.bytes.now l in ap (λ o. verdict n t o (λ s'. judge (ending source) (begun t n) s' (seen source ls))) (param_step l.word (text_of source.bytes.now l) s k)
+      go (l ∷ ls) k = let t : Token = token_of source.bytes.now l in ap (λ o. verdict n t o (λ s'. judge (text_end source) (begun t n) s' (seen source ls))) (param_step l.word (text_of source.bytes.now l) s k)
 
   pub int_read : (rest : List Lexeme) (x : Name) → NextIsNot word.Id old → Comes IsName (only word.Name ∷ []) source d old x rest → Comes IsParam (param ∷ []) source d old (record { kind = Int; name = x }) rest
   int_read rest x k a = (made a.0, λ n s f. param_same k n s ∙ a.1 n s f)
@@ -56,8 +56,8 @@ module _ (source : LexedText) (d : ℕ) (old : List Lexeme) where
 
   id_enters : (at : ℕ) (t1 : List Lexeme) → d ≤ 64 → NextIs word.Id at old t1 → Leads (param ∷ []) (only word.Name ∷ []) source d old t1
   id_enters at t1 h k = λ n s f.
-      ap (judge (ending source) n (param ∷ s)) (seen-next word.Id source at old t1 k)
-      ∙ taken (ending source) n at word.Id (text_of source.bytes.now k.0) (param ∷ s) (only word.Name ∷ s) (seen source t1) refl (omega arith) refl
+      ap (judge (text_end source) n (param ∷ s)) (seen-next word.Id source at old t1 k)
+      ∙ taken (text_end source) n at word.Id (text_of source.bytes.now k.0) (param ∷ s) (only word.Name ∷ s) (seen source t1) refl (omega arith) refl
 
   pub id_read : (at : ℕ) (t1 rest : List Lexeme) (x : Name) → d ≤ 64 → NextIs word.Id at old t1 → Comes IsName (only word.Name ∷ []) source d t1 x rest → Comes IsParam (param ∷ []) source d old (record { kind = Id; name = x }) rest
   id_read at t1 rest x h k a = (
@@ -87,8 +87,8 @@ params_end source d start found old left i k =
 
 params_enter : (source : LexedText) (d at : ℕ) (old left inner : List Lexeme) → d ≤ 64 → Leads (more_params ∷ []) (more_params ∷ []) source d old left → NextIs word.Comma at left inner → Leads (more_params ∷ []) (param ∷ more_params ∷ []) source d old inner
 params_enter source d at old left inner h g k = λ n s f.
-    g n s f ∙ ap (judge (ending source) n (more_params ∷ s)) (seen-next word.Comma source at left inner k)
-    ∙ taken (ending source) n at word.Comma (text_of source.bytes.now k.0) (more_params ∷ s) (param ∷ more_params ∷ s) (seen source inner) refl (omega arith) refl
+    g n s f ∙ ap (judge (text_end source) n (more_params ∷ s)) (seen-next word.Comma source at left inner k)
+    ∙ taken (text_end source) n at word.Comma (text_of source.bytes.now k.0) (more_params ∷ s) (param ∷ more_params ∷ s) (seen source inner) refl (omega arith) refl
 
 pub one_more_parameter : (source : LexedText) (d at : ℕ) (start found found' : List Param) (old left inner rest : List Lexeme) (x : Param) → found' ≡ found ++ x ∷ [] → d ≤ 64 → ParamsSoFar source d start old found left → NextIs word.Comma at left inner
     → Comes IsParam (param ∷ []) source d inner x rest → ParamsSoFar source d start old found' rest
@@ -117,15 +117,15 @@ pub no_parameters : (source : LexedText) (d at : ℕ) (old rest : List Lexeme) (
 no_parameters source d at old rest xs h e k =
     let t = seen-next word.Close source at old rest k in (
       subst (λ z. IsParamList (seen source old) z (seen source rest)) (sym e) (subst (λ q. IsParamList q [] (seen source rest)) (sym t) (parameters no_params)),
-      λ n s f. ap (judge (ending source) n (params ∷ only word.Close ∷ s)) t
-          ∙ taken (ending source) n at word.Close (text_of source.bytes.now k.0) (params ∷ only word.Close ∷ s) s (seen source rest) refl (omega arith) refl,
+      λ n s f. ap (judge (text_end source) n (params ∷ only word.Close ∷ s)) t
+          ∙ taken (text_end source) n at word.Close (text_of source.bytes.now k.0) (params ∷ only word.Close ∷ s) s (seen source rest) refl (omega arith) refl,
     )
 
-params_step : (w : Word) (text : List ℕ) (s : List Sym) → (w ≡ word.Close → ⊥) → step w text (params ∷ only word.Close ∷ s) ≡ step w text (param ∷ more_params ∷ only word.Close ∷ s)
+params_step : (w : Word) (text : List ℕ) (s : List Sym) → (w ≡ word.Close → ⊥) → consume w text (params ∷ only word.Close ∷ s) ≡ consume w text (param ∷ more_params ∷ only word.Close ∷ s)
 params_step word.Close text s h = absurd (h refl)
 params_step _ text s h = refl
 
-params_same : (source : LexedText) (n : ℕ) (s : List Sym) (old : List Lexeme) → NextIsNot word.Close old → judge (ending source) n (params ∷ only word.Close ∷ s) (seen source old) ≡ judge (ending source) n (param ∷ more_params ∷ only word.Close ∷ s) (seen source old)
+params_same : (source : LexedText) (n : ℕ) (s : List Sym) (old : List Lexeme) → NextIsNot word.Close old → judge (text_end source) n (params ∷ only word.Close ∷ s) (seen source old) ≡ judge (text_end source) n (param ∷ more_params ∷ only word.Close ∷ s) (seen source old)
 params_same source n s [] h = at source.stop
   where
     at : (w : LexEnd) → at_stop source.end w (params ∷ only word.Close ∷ s) ≡ at_stop source.end w (param ∷ more_params ∷ only word.Close ∷ s)
@@ -134,7 +134,7 @@ params_same source n s [] h = at source.stop
     at (NoToken place) = refl
 params_same source n s (l ∷ ls) h =
     let t : Token = token_of source.bytes.now l in
-    ap (λ o. verdict n t o (λ s'. judge (ending source) (begun t n) s' (seen source ls))) (params_step l.word (text_of source.bytes.now l) s h)
+    ap (λ o. verdict n t o (λ s'. judge (text_end source) (begun t n) s' (seen source ls))) (params_step l.word (text_of source.bytes.now l) s h)
 
 pub some_parameters : (source : LexedText) (d : ℕ) (old mid mid' rest : List Lexeme) (found ys : List Param) (x : Param) → NextIsNot word.Close old → Comes IsParam (param ∷ []) source (d + 1) old x mid → found ≡ x ∷ []
     → Comes (AddsParams found) (more_params ∷ []) source (d + 1) mid ys mid' → Passed word.Close source d mid' rest → Comes IsParamList (params ∷ only word.Close ∷ []) source d old ys rest
@@ -165,8 +165,8 @@ module _ (source : LexedText) (d : ℕ) (old : List Lexeme) where
 
   arrow_enters : (at : ℕ) (t1 : List Lexeme) → d ≤ 64 → NextIs word.Arrow at old t1 → Leads (answer ∷ []) (only word.Id ∷ []) source d old t1
   arrow_enters at t1 h k = λ n s f.
-      ap (judge (ending source) n (answer ∷ s)) (seen-next word.Arrow source at old t1 k)
-      ∙ taken (ending source) n at word.Arrow (text_of source.bytes.now k.0) (answer ∷ s) (only word.Id ∷ s) (seen source t1) refl (omega arith) refl
+      ap (judge (text_end source) n (answer ∷ s)) (seen-next word.Arrow source at old t1 k)
+      ∙ taken (text_end source) n at word.Arrow (text_of source.bytes.now k.0) (answer ∷ s) (only word.Id ∷ s) (seen source t1) refl (omega arith) refl
 
   pub id_answer_read : (at : ℕ) (t1 rest : List Lexeme) → d ≤ 64 → NextIs word.Arrow at old t1 → Passed word.Id source d t1 rest → Comes IsAnswerKind (answer ∷ []) source d old Id rest
   id_answer_read at t1 rest h k a = (
@@ -190,7 +190,7 @@ module _ (source : LexedText) (d : ℕ) (old t1 : List Lexeme) (o : Opened word.
   body_err_stmts e f = err_after (body ∷ []) (stmts ∷ []) (only word.Return ∷ expr_then (only word.Semicolon ∷ only word.CloseBlock ∷ [])) source d (d + 1) old t1 e body_opened (λ s r. omega (arith, r)) f
 
   module _ (t2 : List Lexeme) (xs : List Stmt) (a : Comes IsStmts (stmts ∷ []) source (d + 1) t1 xs t2) where
-    body_acts : (n : ℕ) (s : List Sym) → nesting s ≡ d → judge (ending source) n (body ∷ s) (seen source old) ≡ judge (ending source) n (only word.Return ∷ expr_then (only word.Semicolon ∷ only word.CloseBlock ∷ s)) (seen source t2)
+    body_acts : (n : ℕ) (s : List Sym) → nesting s ≡ d → judge (text_end source) n (body ∷ s) (seen source old) ≡ judge (text_end source) n (only word.Return ∷ expr_then (only word.Semicolon ∷ only word.CloseBlock ∷ s)) (seen source t2)
     body_acts n s r = body_opened n s r ∙ a.1 n (only word.Return ∷ expr_then (only word.Semicolon ∷ only word.CloseBlock ∷ s)) (omega (arith, r))
 
     pub body_err_return : (e : SyntaxError) → NextIsNot word.Return t2 → e ≡ unexpected_in source t2 → Errs (body ∷ []) source d old e
@@ -198,10 +198,10 @@ module _ (source : LexedText) (d : ℕ) (old t1 : List Lexeme) (o : Opened word.
         (unexpected_err (only word.Return) [] source (d + 1) t2 e refl (has_none (only word.Return) word.Return [] t2 source.bytes.now refl k) f)
 
     module _ (at : ℕ) (t3 : List Lexeme) (h : d < 64) (k : NextIs word.Return at t2 t3) where
-      body_returns : (n : ℕ) (s : List Sym) → nesting s ≡ d → judge (ending source) n (body ∷ s) (seen source old) ≡ judge (ending source) n (expr_then (only word.Semicolon ∷ only word.CloseBlock ∷ s)) (seen source t3)
+      body_returns : (n : ℕ) (s : List Sym) → nesting s ≡ d → judge (text_end source) n (body ∷ s) (seen source old) ≡ judge (text_end source) n (expr_then (only word.Semicolon ∷ only word.CloseBlock ∷ s)) (seen source t3)
       body_returns n s r =
-          body_acts n s r ∙ ap (judge (ending source) n (only word.Return ∷ expr_then (only word.Semicolon ∷ only word.CloseBlock ∷ s))) (seen-next word.Return source at t2 t3 k)
-          ∙ taken (ending source) n at word.Return (text_of source.bytes.now k.0) (only word.Return ∷ expr_then (only word.Semicolon ∷ only word.CloseBlock ∷ s)) (expr_then (only word.Semicolon ∷ only word.CloseBlock ∷ s)) (seen source t3) refl (omega (arith, r, h)) refl
+          body_acts n s r ∙ ap (judge (text_end source) n (only word.Return ∷ expr_then (only word.Semicolon ∷ only word.CloseBlock ∷ s))) (seen-next word.Return source at t2 t3 k)
+          ∙ taken (text_end source) n at word.Return (text_of source.bytes.now k.0) (only word.Return ∷ expr_then (only word.Semicolon ∷ only word.CloseBlock ∷ s)) (expr_then (only word.Semicolon ∷ only word.CloseBlock ∷ s)) (seen source t3) refl (omega (arith, r, h)) refl
 
       pub body_err_result : (e : SyntaxError) → Errs (expr_then (only word.Semicolon ∷ [])) source (d + 1) t3 e → Errs (body ∷ []) source d old e
       body_err_result e f = err_after (body ∷ []) (expr_then (only word.Semicolon ∷ [])) (only word.CloseBlock ∷ []) source d (d + 1) old t3 e body_returns (λ s r. omega (arith, r)) f
@@ -274,27 +274,27 @@ module _ (e : TextEnd) (m at : ℕ) (text : List ℕ) (ts : List Token) where
 abbrev pub FunctionsSoFar : LexedText → List Lexeme → List Function → List Lexeme → Type 0
 FunctionsSoFar source old found left = record {
   so_far : (more : List Function) (rest : List Token) → IsFunctions (seen source left) more rest → IsFunctions (seen source old) (found ++ more) rest;
-  goes : judge (ending source) 0 (functions ∷ []) (seen source old) ≡ judge (ending source) (length found) (functions ∷ []) (seen source left);
+  goes : judge (text_end source) 0 (functions ∷ []) (seen source old) ≡ judge (text_end source) (length found) (functions ∷ []) (seen source left);
 }
 
 module _ (source : LexedText) (old : List Lexeme) (found : List Function) (left : List Lexeme) (i : FunctionsSoFar source old found left) where
   pub functions_end : NextIsNot word.Fn left
-      → IsFunctions (seen source old) found (seen source left) × (judge (ending source) 0 (functions ∷ []) (seen source old) ≡ judge (ending source) (length found) [] (seen source left))
+      → IsFunctions (seen source old) found (seen source left) × (judge (text_end source) 0 (functions ∷ []) (seen source old) ≡ judge (text_end source) (length found) [] (seen source left))
   functions_end k = (
     subst (λ z. IsFunctions (seen source old) z (seen source left)) (append-nil found) (i.so_far [] (seen source left) no_functions),
     i.goes ∙ skipped source (length found) functions [] left refl (has_none functions word.Fn _ left source.bytes.now refl k),
   )
 
   module _ (at : ℕ) (inner : List Lexeme) (k : NextIs word.Fn at left inner) where
-    pub functions_many : 1024 ≤ length found → judge (ending source) 0 (functions ∷ []) (seen source old) ≡ Some (7, at)
+    pub functions_many : 1024 ≤ length found → judge (text_end source) 0 (functions ∷ []) (seen source old) ≡ Some (7, at)
     functions_many h =
-        i.goes ∙ ap (judge (ending source) (length found) (functions ∷ [])) (seen-next word.Fn source at left inner k)
-        ∙ fn_many (ending source) (length found) at (text_of source.bytes.now k.0) (seen source inner) (omega arith)
+        i.goes ∙ ap (judge (text_end source) (length found) (functions ∷ [])) (seen-next word.Fn source at left inner k)
+        ∙ fn_many (text_end source) (length found) at (text_of source.bytes.now k.0) (seen source inner) (omega arith)
 
-    functions_enter : length found < 1024 → judge (ending source) 0 (functions ∷ []) (seen source old) ≡ judge (ending source) (suc (length found)) (function_front ++ functions ∷ []) (seen source inner)
+    functions_enter : length found < 1024 → judge (text_end source) 0 (functions ∷ []) (seen source old) ≡ judge (text_end source) (suc (length found)) (function_front ++ functions ∷ []) (seen source inner)
     functions_enter h =
-        i.goes ∙ ap (judge (ending source) (length found) (functions ∷ [])) (seen-next word.Fn source at left inner k)
-        ∙ fn_taken (ending source) (length found) at (text_of source.bytes.now k.0) (seen source inner) (omega arith)
+        i.goes ∙ ap (judge (text_end source) (length found) (functions ∷ [])) (seen-next word.Fn source at left inner k)
+        ∙ fn_taken (text_end source) (length found) at (text_of source.bytes.now k.0) (seen source inner) (omega arith)
 
     pub functions_err : (e : SyntaxError) → length found < 1024 → Errs function_front source 0 inner e → ReadsFunctions source old (Err e)
     functions_err Memory h f = tt
@@ -307,7 +307,7 @@ module _ (source : LexedText) (old : List Lexeme) (found : List Function) (left 
           subst (λ z. IsFunctions (seen source old) z to) (sym (ap (λ z. z ++ more) p ∙ append_assoc found (x ∷ []) more)) (i.so_far (x ∷ more) to one);
       goes =
           let longer : length found' ≡ suc (length found) = ap length p ∙ length-append found (x ∷ []) ∙ omega arith in
-          functions_enter h ∙ a.1 (suc (length found)) (functions ∷ []) refl ∙ ap (λ z. judge (ending source) z (functions ∷ []) (seen source rest)) (sym longer);
+          functions_enter h ∙ a.1 (suc (length found)) (functions ∷ []) refl ∙ ap (λ z. judge (text_end source) z (functions ∷ []) (seen source rest)) (sym longer);
     }
 
     pub functions_turn : (rest : List Lexeme) (x : Function) → IsRestOfFunction (seen source inner) x (seen source rest) → length rest < length left
@@ -333,11 +333,11 @@ module _ (source : LexedText) (old : List Lexeme) (found : List Function) (left 
 -- Whole scripts
 
 module _ (source : LexedText) (old rest : List Lexeme) (found : List Function) (a : IsFunctions (seen source old) found (seen source rest))
-    (b : judge (ending source) 0 (functions ∷ []) (seen source old) ≡ judge (ending source) (length found) [] (seen source rest)) where
-  pub script_read : rest ≡ [] → source.stop ≡ End → IsScript (seen source old) found × (judge (ending source) 0 (functions ∷ []) (seen source old) ≡ None)
+    (b : judge (text_end source) 0 (functions ∷ []) (seen source old) ≡ judge (text_end source) (length found) [] (seen source rest)) where
+  pub script_read : rest ≡ [] → source.stop ≡ End → IsScript (seen source old) found × (judge (text_end source) 0 (functions ∷ []) (seen source old) ≡ None)
   script_read e f = (
     subst (λ z. IsFunctions (seen source old) found (seen source z)) e a,
-    b ∙ ap (λ z. judge (ending source) (length found) [] (seen source z)) e ∙ ap (λ z. at_stop source.end z []) f,
+    b ∙ ap (λ z. judge (text_end source) (length found) [] (seen source z)) e ∙ ap (λ z. at_stop source.end z []) f,
   )
 
   pub script_err : (e : SyntaxError) → (rest ≡ [] → source.stop ≡ End → ⊥) → e ≡ unexpected_in source rest → Judges source old (Err e)
@@ -349,6 +349,6 @@ module _ (source : LexedText) (old rest : List Lexeme) (found : List Function) (
       stopped (NotAscii place) h f = cc
       stopped (NoToken place) h f = cc
 
-      last : (ls : List Lexeme) → (ls ≡ [] → source.stop ≡ End → ⊥) → Bad number at ≡ unexpected_in source ls → judge (ending source) (length found) [] (seen source ls) ≡ Some (number, at)
+      last : (ls : List Lexeme) → (ls ≡ [] → source.stop ≡ End → ⊥) → Bad number at ≡ unexpected_in source ls → judge (text_end source) (length found) [] (seen source ls) ≡ Some (number, at)
       last [] h f = stopped source.stop (h refl) f
       last (l ∷ ls) h f = cc

@@ -12,7 +12,7 @@ use Rattle.script_grammar.specs.declared.tree.CallText.{CallText}
 use Rattle.script_grammar.specs.declared.tree.Act.TheVariants as act
 use Rattle.script_grammar.specs.Grammar.{Token, tok, name_at, IsExpr, IsMoreArgs, IsInto, no_into, an_into, stmt_at, IsStmt, a_pfor}
 use Rattle.script_text.specs.Machine.{Sym, only, exactly, loop_args, more_args, into, loop_name, stmts, expr_then, same_bytes, rules, find_rule, nesting, judge}
-use Rattle.script_text.specs.Reads.{seen, ending, Leads, Errs, NextIs, NextIsNot, NextLexeme, IsBracket, ReadsName, unexpected_in, IsName, a_name_token, AddsArgs, IsBounds, bounds, IsLoopCall, loop_call}
+use Rattle.script_text.specs.Reads.{seen, text_end, Leads, Errs, NextIs, NextIsNot, NextLexeme, IsBracket, ReadsName, unexpected_in, IsName, a_name_token, AddsArgs, IsBounds, bounds, IsLoopCall, loop_call}
 use Rattle.script_text.proofs.Nesting.Sound.{same_name}
 use Rattle.script_text.proofs.Nesting.Follows.{exact_step}
 use Rattle.script_text.proofs.Parsing.Steps.{taken, name_taken, name_long, HasNone, skipped, has_none, other_word, seen-next, err_after, unexpected_err, Comes, Passed, Opened}
@@ -52,8 +52,8 @@ module _ (source : LexedText) (d : ℕ) (old : List Lexeme) where
 
   target_enters : (at : ℕ) (t1 : List Lexeme) → d ≤ 64 → NextIs word.Into at old t1 → Leads (into ∷ []) (only word.Name ∷ []) source d old t1
   target_enters at t1 h k = λ n s f.
-      ap (judge (ending source) n (into ∷ s)) (seen-next word.Into source at old t1 k)
-      ∙ taken (ending source) n at word.Into (text_of source.bytes.now k.0) (into ∷ s) (only word.Name ∷ s) (seen source t1) refl (omega arith) refl
+      ap (judge (text_end source) n (into ∷ s)) (seen-next word.Into source at old t1 k)
+      ∙ taken (text_end source) n at word.Into (text_of source.bytes.now k.0) (into ∷ s) (only word.Name ∷ s) (seen source t1) refl (omega arith) refl
 
   pub target_read : (at : ℕ) (t1 rest : List Lexeme) (x : Name) → d ≤ 64 → NextIs word.Into at old t1 → Comes IsName (only word.Name ∷ []) source d t1 x rest → Comes IsInto (into ∷ []) source d old (Some x) rest
   target_read at t1 rest x h k a = (
@@ -75,9 +75,9 @@ module _ (source : LexedText) (d : ℕ) (n : List ℕ) (old : List Lexeme) where
   repeats rest l short h k e = (
     (l, k, e),
     λ m s f.
-        ap (judge (ending source) m (exactly n ∷ s)) (seen-next word.Name source l.start old rest (first_is l old rest k.0 k.1))
-        ∙ ap (λ z. judge (ending source) m (exactly n ∷ s) (tok l.start word.Name z ∷ seen source rest)) e
-        ∙ name_taken (ending source) m l.start n (exactly n ∷ s) s (seen source rest) short (omega arith) (exact_step n s),
+        ap (judge (text_end source) m (exactly n ∷ s)) (seen-next word.Name source l.start old rest (first_is l old rest k.0 k.1))
+        ∙ ap (λ z. judge (text_end source) m (exactly n ∷ s) (tok l.start word.Name z ∷ seen source rest)) e
+        ∙ name_taken (text_end source) m l.start n (exactly n ∷ s) s (seen source rest) short (omega arith) (exact_step n s),
   )
 
   other_name : (text : List ℕ) → (text ≡ n → ⊥) → same_bytes n text ≡ false
@@ -134,7 +134,7 @@ module _ (source : LexedText) (d : ℕ) (n : List ℕ) (old t1 : List Lexeme) wh
       loop_err_again e f = err_after (loop_front n) (exactly n ∷ []) (more_args ∷ only word.Close ∷ only word.Semicolon ∷ []) source d (d + 1) old t3 e loop_opened (λ s r. omega (arith, r)) f
 
       module _ (t4 : List Lexeme) (g : Repeated source (d + 1) n t3 t4) where
-        loop_again : (m : ℕ) (s : List Sym) → nesting s ≡ d → judge (ending source) m (loop_front n ++ s) (seen source old) ≡ judge (ending source) m (more_args ∷ only word.Close ∷ only word.Semicolon ∷ s) (seen source t4)
+        loop_again : (m : ℕ) (s : List Sym) → nesting s ≡ d → judge (text_end source) m (loop_front n ++ s) (seen source old) ≡ judge (text_end source) m (more_args ∷ only word.Close ∷ only word.Semicolon ∷ s) (seen source t4)
         loop_again m s r = loop_opened m s r ∙ g.1 m (more_args ∷ only word.Close ∷ only word.Semicolon ∷ s) (omega (arith, r))
 
         pub loop_err_args : (e : SyntaxError) → Errs (more_args ∷ []) source (d + 1) t4 e → Errs (loop_front n) source d old e
@@ -188,15 +188,15 @@ module _ (source : LexedText) (d : ℕ) (l : Lexeme) (rest : List Lexeme) where
         go Memory q = tt
         go (Bad number at) q = λ m s f.
             let fault : ◌≡◌ {A = Option (ℕ × ℕ)} (Some (4, v.start)) (Some (number, at)) = cc in
-            ap (judge (ending source) m (loop_name ∷ s)) (seen-next word.Name source v.start rest tail (first_is v rest tail k.0 k.1))
-            ∙ name_long (ending source) m v.start (text_of source.bytes.now v) (loop_name ∷ s) (loop_rest (text_of source.bytes.now v) s) (seen source tail) q.0 refl ∙ fault
+            ap (judge (text_end source) m (loop_name ∷ s)) (seen-next word.Name source v.start rest tail (first_is v rest tail k.0 k.1))
+            ∙ name_long (text_end source) m v.start (text_of source.bytes.now v) (loop_name ∷ s) (loop_rest (text_of source.bytes.now v) s) (seen source tail) q.0 refl ∙ fault
 
     module _ (x : Name) (p : l.word ≡ word.Pfor) (h : d ≤ 64) (q : ReadsName source v (Ok x)) where
-      loop_begun : (m : ℕ) (s : List Sym) → nesting s ≡ d → judge (ending source) m (stmts ∷ s) (seen source (l ∷ rest)) ≡ judge (ending source) m (loop_rest x.bytes (stmts ∷ s)) (seen source tail)
+      loop_begun : (m : ℕ) (s : List Sym) → nesting s ≡ d → judge (text_end source) m (stmts ∷ s) (seen source (l ∷ rest)) ≡ judge (text_end source) m (loop_rest x.bytes (stmts ∷ s)) (seen source tail)
       loop_begun m s f =
-          loop_enters p h m s f ∙ ap (judge (ending source) m (loop_name ∷ stmts ∷ s)) (seen-next word.Name source v.start rest tail (first_is v rest tail k.0 k.1))
-          ∙ name_taken (ending source) m v.start (text_of source.bytes.now v) (loop_name ∷ stmts ∷ s) (loop_rest (text_of source.bytes.now v) (stmts ∷ s)) (seen source tail) q.1 (omega arith) refl
-          ∙ ap (λ z. judge (ending source) m (loop_rest z (stmts ∷ s)) (seen source tail)) (sym (ap (λ z. z.bytes) q.0))
+          loop_enters p h m s f ∙ ap (judge (text_end source) m (loop_name ∷ stmts ∷ s)) (seen-next word.Name source v.start rest tail (first_is v rest tail k.0 k.1))
+          ∙ name_taken (text_end source) m v.start (text_of source.bytes.now v) (loop_name ∷ stmts ∷ s) (loop_rest (text_of source.bytes.now v) (stmts ∷ s)) (seen source tail) q.1 (omega arith) refl
+          ∙ ap (λ z. judge (text_end source) m (loop_rest z (stmts ∷ s)) (seen source tail)) (sym (ap (λ z. z.bytes) q.0))
 
       pub pfor_err_bounds : (e : SyntaxError) → Errs (only word.In ∷ expr_then (only word.Range ∷ expr_then [])) source d tail e → Errs (stmts ∷ []) source d (l ∷ rest) e
       pfor_err_bounds e f = err_after (stmts ∷ []) (only word.In ∷ expr_then (only word.Range ∷ expr_then [])) (into ∷ only word.Call ∷ only word.Name ∷ loop_args x.bytes ∷ only word.Semicolon ∷ stmts ∷ []) source d d (l ∷ rest) tail e loop_begun (λ s r. r) f

@@ -18,22 +18,22 @@ use Rattle.script_grammar.specs.declared.tree.Act.TheVariants as act
 use Rattle.script_grammar.specs.declared.tree.Stmt.{Stmt}
 use Rattle.script_grammar.specs.Grammar.{Token, tok, name_at, number_at, IsExpr, IsMoreArgs, no_more_args, one_more_arg, IsArgs, no_args, some_args, IsCall, a_call, IsRight, right_value, right_draw, right_new, right_call, right_spawn, IsInto, no_into, an_into, stmt_at, IsStmt, a_let, an_array, a_set, a_store, a_spawn, a_call_stmt, a_sync, a_print, an_if, a_while, a_pfor, a_scope, IsStmts, no_stmts, one_stmt, IsBlock, a_block, IsElse, no_else, an_else}
 use Rattle.script_text.specs.Machine as machine
-use Rattle.script_text.specs.Machine.{Sym, only, exactly, loop_args, call_args, more_args, into, loop_name, stmts, after_let, after_name, block, otherwise, expr_then, rules, rule, is_empty, find_rule, step, nesting, at_stop, verdict, begun, judge}
+use Rattle.script_text.specs.Machine.{Sym, only, exactly, loop_args, call_args, more_args, into, loop_name, stmts, after_let, after_name, block, otherwise, expr_then, rules, rule, is_empty, find_rule, consume, nesting, at_stop, verdict, begun, judge}
 use Rattle.script_grammar.specs.Text.{token_of}
-use Rattle.script_text.specs.Reads.{seen, ending, Leads, Errs, NextIs, NextIsNot, IsBracket, Deepens, ReadsName, is_unlimited, unexpected_in, IsName, a_name_token, IsNumber, a_number_token, IsValueOf, value_of, IsEnded, ended, IsCallOf, call_of, IsSize, a_size, IsElement, an_element, begins_stmt, NoStmt}
+use Rattle.script_text.specs.Reads.{seen, text_end, Leads, Errs, NextIs, NextIsNot, IsBracket, Deepens, ReadsName, is_unlimited, unexpected_in, IsName, a_name_token, IsNumber, a_number_token, IsValueOf, value_of, IsEnded, ended, IsCallOf, call_of, IsSize, a_size, IsElement, an_element, begins_stmt, NoStmt}
 use Rattle.script_text.proofs.Parsing.Steps.{taken, deep, name_taken, name_long, HasNone, skipped, has_none, other_word, seen-next, err_after, unexpected_err, Comes, Passed, Opened}
 use Rattle.script_text.proofs.Parsing.Expressions.{first_is, expr_shorter, length-seen}
 
 -- Two in a row
 
 module _ (source : LexedText) (d : ℕ) where
-  pub err_first : (front next tail : List Sym) (d' : ℕ) (old : List Lexeme) (e : SyntaxError) → ((n : ℕ) (s : List Sym) → judge (ending source) n (front ++ s) (seen source old) ≡ judge (ending source) n ((next ++ tail) ++ s) (seen source old))
+  pub err_first : (front next tail : List Sym) (d' : ℕ) (old : List Lexeme) (e : SyntaxError) → ((n : ℕ) (s : List Sym) → judge (text_end source) n (front ++ s) (seen source old) ≡ judge (text_end source) n ((next ++ tail) ++ s) (seen source old))
       → ((s : List Sym) → nesting s ≡ d → nesting (tail ++ s) ≡ d') → Errs next source d' old e → Errs front source d old e
   err_first front next tail d' old e g h f = err_after front next tail source d d' old old e (λ n s r. g n s) h f
 
 -- Right sides
 
-right_step : (w : Word) (text : List ℕ) (s : List Sym) → (w ≡ word.Draw → ⊥) → (w ≡ word.New → ⊥) → (w ≡ word.Call → ⊥) → (w ≡ word.Spawn → ⊥) → step w text (machine.right ∷ s) ≡ step w text (expr_then s)
+right_step : (w : Word) (text : List ℕ) (s : List Sym) → (w ≡ word.Draw → ⊥) → (w ≡ word.New → ⊥) → (w ≡ word.Call → ⊥) → (w ≡ word.Spawn → ⊥) → consume w text (machine.right ∷ s) ≡ consume w text (expr_then s)
 right_step word.Draw text s a b c d = absurd (a refl)
 right_step word.New text s a b c d = absurd (b refl)
 right_step word.Call text s a b c d = absurd (c refl)
@@ -42,12 +42,12 @@ right_step _ text s a b c d = refl
 
 module _ (source : LexedText) (d : ℕ) (old rest : List Lexeme) (l : Lexeme) (e : old ≡ l ∷ rest) where
   right_same : (l.word ≡ word.Draw → ⊥) → (l.word ≡ word.New → ⊥) → (l.word ≡ word.Call → ⊥) → (l.word ≡ word.Spawn → ⊥) → (n : ℕ) (s : List Sym)
-      → judge (ending source) n (machine.right ∷ s) (seen source old) ≡ judge (ending source) n (expr_then s) (seen source old)
+      → judge (text_end source) n (machine.right ∷ s) (seen source old) ≡ judge (text_end source) n (expr_then s) (seen source old)
   right_same p q r u n s =
       let t : Token = token_of source.bytes.now l in
-      ap (λ z. judge (ending source) n (machine.right ∷ s) (seen source z)) e
-      ∙ ap (λ o. verdict n t o (λ s'. judge (ending source) (begun t n) s' (seen source rest))) (right_step l.word (text_of source.bytes.now l) s p q r u)
-      ∙ ap (λ z. judge (ending source) n (expr_then s) (seen source z)) (sym e)
+      ap (λ z. judge (text_end source) n (machine.right ∷ s) (seen source z)) e
+      ∙ ap (λ o. verdict n t o (λ s'. judge (text_end source) (begun t n) s' (seen source rest))) (right_step l.word (text_of source.bytes.now l) s p q r u)
+      ∙ ap (λ z. judge (text_end source) n (expr_then s) (seen source z)) (sym e)
 
   pub right_value_read : (last : List Lexeme) (x : Expr) → (l.word ≡ word.Draw → ⊥) → (l.word ≡ word.New → ⊥) → (l.word ≡ word.Call → ⊥) → (l.word ≡ word.Spawn → ⊥) → Comes IsExpr (expr_then []) source d old x last
       → Comes IsRight (machine.right ∷ []) source d old (right.Value x) last
@@ -57,12 +57,12 @@ module _ (source : LexedText) (d : ℕ) (old rest : List Lexeme) (l : Lexeme) (e
   right_value_err g p q r u f = err_first source d (machine.right ∷ []) (expr_then []) [] d old g (right_same p q r u) (λ s h. h) f
 
   -- the machine after a word that a right side may begin with
-  right_enters : (w : Word) (next : List Sym) → l.word ≡ w → is_unlimited w ≡ true → ((text : List ℕ) (s : List Sym) → step w text (machine.right ∷ s) ≡ Some (next ++ s)) → ((s : List Sym) → nesting (next ++ s) ≡ nesting s) → d ≤ 64
+  right_enters : (w : Word) (next : List Sym) → l.word ≡ w → is_unlimited w ≡ true → ((text : List ℕ) (s : List Sym) → consume w text (machine.right ∷ s) ≡ Some (next ++ s)) → ((s : List Sym) → nesting (next ++ s) ≡ nesting s) → d ≤ 64
       → Leads (machine.right ∷ []) next source d old rest
   right_enters w next p q g k h = λ n s f.
       let same = k s in
-      ap (judge (ending source) n (machine.right ∷ s)) (seen-next w source l.start old rest (first_is l old rest e p))
-      ∙ taken (ending source) n l.start w (text_of source.bytes.now l) (machine.right ∷ s) (next ++ s) (seen source rest) q (omega (arith, same)) (g (text_of source.bytes.now l) s)
+      ap (judge (text_end source) n (machine.right ∷ s)) (seen-next w source l.start old rest (first_is l old rest e p))
+      ∙ taken (text_end source) n l.start w (text_of source.bytes.now l) (machine.right ∷ s) (next ++ s) (seen source rest) q (omega (arith, same)) (g (text_of source.bytes.now l) s)
 
   pub right_draw_read : l.word ≡ word.Draw → d ≤ 64 → Comes IsRight (machine.right ∷ []) source d old (right.Draw l.start) rest
   right_draw_read p h = (
@@ -144,20 +144,20 @@ module _ (source : LexedText) (d : ℕ) (old : List Lexeme) (e : SyntaxError) wh
   element_missing h k f = unexpected_err after_name [] source d old e refl (none_of_two after_name word.Assign word.OpenItem _ _ old source.bytes.now refl h k) f
 
 -- a bracket that a symbol's second rule begins with
-module _ (source : LexedText) (d at : ℕ) (old rest : List Lexeme) (a : Sym) (inside : List Sym) (g : (text : List ℕ) (s : List Sym) → step word.OpenItem text (a ∷ s) ≡ Some (inside ++ s)) (one : (s : List Sym) → nesting (inside ++ s) ≡ suc (nesting s)) (k : NextIs word.OpenItem at old rest) where
+module _ (source : LexedText) (d at : ℕ) (old rest : List Lexeme) (a : Sym) (inside : List Sym) (g : (text : List ℕ) (s : List Sym) → consume word.OpenItem text (a ∷ s) ≡ Some (inside ++ s)) (one : (s : List Sym) → nesting (inside ++ s) ≡ suc (nesting s)) (k : NextIs word.OpenItem at old rest) where
   pub bracket_enters : d < 64 → Leads (a ∷ []) inside source d old rest
   bracket_enters h = λ n s f.
       let level = one s in
-      ap (judge (ending source) n (a ∷ s)) (seen-next word.OpenItem source at old rest k)
-      ∙ taken (ending source) n at word.OpenItem (text_of source.bytes.now k.0) (a ∷ s) (inside ++ s) (seen source rest) refl (omega (arith, level)) (g (text_of source.bytes.now k.0) s)
+      ap (judge (text_end source) n (a ∷ s)) (seen-next word.OpenItem source at old rest k)
+      ∙ taken (text_end source) n at word.OpenItem (text_of source.bytes.now k.0) (a ∷ s) (inside ++ s) (seen source rest) refl (omega (arith, level)) (g (text_of source.bytes.now k.0) s)
 
   pub bracket_deep : (e : SyntaxError) → Deepens d at (Err e) → Errs (a ∷ []) source d old e
   bracket_deep Memory q = tt
   bracket_deep (Bad number place) q = λ n s f.
       let level = one s in
       let fault : ◌≡◌ {A = Option (ℕ × ℕ)} (Some (5, at)) (Some (number, place)) = cc in
-      ap (judge (ending source) n (a ∷ s)) (seen-next word.OpenItem source at old rest k)
-      ∙ deep (ending source) n at word.OpenItem (text_of source.bytes.now k.0) (a ∷ s) (inside ++ s) (seen source rest) refl (omega (arith, level)) (g (text_of source.bytes.now k.0) s) ∙ fault
+      ap (judge (text_end source) n (a ∷ s)) (seen-next word.OpenItem source at old rest k)
+      ∙ deep (text_end source) n at word.OpenItem (text_of source.bytes.now k.0) (a ∷ s) (inside ++ s) (seen source rest) refl (omega (arith, level)) (g (text_of source.bytes.now k.0) s) ∙ fault
 
 abbrev pub size_inside : List Sym
 size_inside = only word.Number ∷ only word.CloseItem ∷ only word.Semicolon ∷ []
@@ -256,23 +256,23 @@ module _ (source : LexedText) (d : ℕ) (l : Lexeme) (rest : List Lexeme) where
   pub stmt_token : (w : Word) → l.word ≡ w → seen source (l ∷ rest) ≡ tok l.start w (text_of source.bytes.now l) ∷ seen source rest
   stmt_token w p = seen-next w source l.start (l ∷ rest) rest (first_is l (l ∷ rest) rest refl p)
 
-  pub stmt_enters : (w : Word) (next : List Sym) → l.word ≡ w → is_unlimited w ≡ true → ((text : List ℕ) (s : List Sym) → step w text (stmts ∷ s) ≡ Some (next ++ stmts ∷ s)) → ((s : List Sym) → nesting (next ++ stmts ∷ s) ≡ nesting s) → d ≤ 64
-      → (n : ℕ) (s : List Sym) → nesting s ≡ d → judge (ending source) n (stmts ∷ s) (seen source (l ∷ rest)) ≡ judge (ending source) n (next ++ stmts ∷ s) (seen source rest)
+  pub stmt_enters : (w : Word) (next : List Sym) → l.word ≡ w → is_unlimited w ≡ true → ((text : List ℕ) (s : List Sym) → consume w text (stmts ∷ s) ≡ Some (next ++ stmts ∷ s)) → ((s : List Sym) → nesting (next ++ stmts ∷ s) ≡ nesting s) → d ≤ 64
+      → (n : ℕ) (s : List Sym) → nesting s ≡ d → judge (text_end source) n (stmts ∷ s) (seen source (l ∷ rest)) ≡ judge (text_end source) n (next ++ stmts ∷ s) (seen source rest)
   stmt_enters w next p q g k h = λ n s f.
       let same = k s in
-      ap (judge (ending source) n (stmts ∷ s)) (stmt_token w p)
-      ∙ taken (ending source) n l.start w (text_of source.bytes.now l) (stmts ∷ s) (next ++ stmts ∷ s) (seen source rest) q (omega (arith, same)) (g (text_of source.bytes.now l) s)
+      ap (judge (text_end source) n (stmts ∷ s)) (stmt_token w p)
+      ∙ taken (text_end source) n l.start w (text_of source.bytes.now l) (stmts ∷ s) (next ++ stmts ∷ s) (seen source rest) q (omega (arith, same)) (g (text_of source.bytes.now l) s)
 
   -- let
 
   let_enters : l.word ≡ word.Let → d ≤ 64 → Leads (stmts ∷ []) (only word.Name ∷ after_let ∷ stmts ∷ []) source d (l ∷ rest) rest
   let_enters p h = stmt_enters word.Let (only word.Name ∷ after_let ∷ []) p refl (λ t s. refl) (λ s. refl) h
 
-  assign_enters : (a : Sym) (at : ℕ) (t1 t2 : List Lexeme) → ((text : List ℕ) (s : List Sym) → step word.Assign text (a ∷ s) ≡ Some (machine.right ∷ only word.Semicolon ∷ s)) → d ≤ 64 → NextIs word.Assign at t1 t2
+  assign_enters : (a : Sym) (at : ℕ) (t1 t2 : List Lexeme) → ((text : List ℕ) (s : List Sym) → consume word.Assign text (a ∷ s) ≡ Some (machine.right ∷ only word.Semicolon ∷ s)) → d ≤ 64 → NextIs word.Assign at t1 t2
       → Leads (a ∷ []) (machine.right ∷ only word.Semicolon ∷ []) source d t1 t2
   assign_enters a at t1 t2 g h k = λ n s f.
-      ap (judge (ending source) n (a ∷ s)) (seen-next word.Assign source at t1 t2 k)
-      ∙ taken (ending source) n at word.Assign (text_of source.bytes.now k.0) (a ∷ s) (machine.right ∷ only word.Semicolon ∷ s) (seen source t2) refl (omega arith) (g (text_of source.bytes.now k.0) s)
+      ap (judge (text_end source) n (a ∷ s)) (seen-next word.Assign source at t1 t2 k)
+      ∙ taken (text_end source) n at word.Assign (text_of source.bytes.now k.0) (a ∷ s) (machine.right ∷ only word.Semicolon ∷ s) (seen source t2) refl (omega arith) (g (text_of source.bytes.now k.0) s)
 
   pub let_read : (at : ℕ) (t1 t2 last : List Lexeme) (x : Name) (r : Right) → l.word ≡ word.Let → d ≤ 64 → Comes IsName (only word.Name ∷ []) source d rest x t1 → NextIs word.Assign at t1 t2
       → Comes IsValueOf (machine.right ∷ only word.Semicolon ∷ []) source d t2 r last → ComesAct source d l rest (act.Let x r) last
@@ -308,15 +308,15 @@ module _ (source : LexedText) (d : ℕ) (l : Lexeme) (rest : List Lexeme) where
 
   named : (x : Name) → l.word ≡ word.Name → d ≤ 64 → ReadsName source l (Ok x) → Leads (stmts ∷ []) (after_name ∷ stmts ∷ []) source d (l ∷ rest) rest
   named x p h k = λ n s f.
-      ap (judge (ending source) n (stmts ∷ s)) (stmt_token word.Name p)
-      ∙ name_taken (ending source) n l.start (text_of source.bytes.now l) (stmts ∷ s) (after_name ∷ stmts ∷ s) (seen source rest) k.1 (omega arith) refl
+      ap (judge (text_end source) n (stmts ∷ s)) (stmt_token word.Name p)
+      ∙ name_taken (text_end source) n l.start (text_of source.bytes.now l) (stmts ∷ s) (after_name ∷ stmts ∷ s) (seen source rest) k.1 (omega arith) refl
 
   pub stmt_name_err : (e : SyntaxError) → l.word ≡ word.Name → ReadsName source l (Err e) → Errs (stmts ∷ []) source d (l ∷ rest) e
   stmt_name_err Memory p k = tt
   stmt_name_err (Bad number at) p k = λ n s f.
       let fault : ◌≡◌ {A = Option (ℕ × ℕ)} (Some (4, l.start)) (Some (number, at)) = cc in
-      ap (judge (ending source) n (stmts ∷ s)) (stmt_token word.Name p)
-      ∙ name_long (ending source) n l.start (text_of source.bytes.now l) (stmts ∷ s) (after_name ∷ stmts ∷ s) (seen source rest) k.0 refl ∙ fault
+      ap (judge (text_end source) n (stmts ∷ s)) (stmt_token word.Name p)
+      ∙ name_long (text_end source) n l.start (text_of source.bytes.now l) (stmts ∷ s) (after_name ∷ stmts ∷ s) (seen source rest) k.0 refl ∙ fault
 
   pub set_read : (at : ℕ) (t1 last : List Lexeme) (x : Name) (r : Right) → l.word ≡ word.Name → d ≤ 64 → ReadsName source l (Ok x) → NextIs word.Assign at rest t1 → Comes IsValueOf (machine.right ∷ only word.Semicolon ∷ []) source d t1 r last
       → ComesAct source d l rest (act.Set x r) last
@@ -382,10 +382,10 @@ module _ (source : LexedText) (d : ℕ) (l : Lexeme) (rest : List Lexeme) where
       made : {o to : List Token} {x : Expr} {a : ℕ} {t : List ℕ} → IsEnded o x to → IsStmt (tok a word.Print t ∷ o) (stmt_at a (act.Print x)) to
       made (ended d) = a_print d
 
-  pub stmt_err : (w : Word) (next : List Sym) (e : SyntaxError) → l.word ≡ w → is_unlimited w ≡ true → ((text : List ℕ) (s : List Sym) → step w text (stmts ∷ s) ≡ Some (next ++ stmts ∷ s)) → ((s : List Sym) → nesting (next ++ stmts ∷ s) ≡ nesting s) → d ≤ 64
+  pub stmt_err : (w : Word) (next : List Sym) (e : SyntaxError) → l.word ≡ w → is_unlimited w ≡ true → ((text : List ℕ) (s : List Sym) → consume w text (stmts ∷ s) ≡ Some (next ++ stmts ∷ s)) → ((s : List Sym) → nesting (next ++ stmts ∷ s) ≡ nesting s) → d ≤ 64
       → Errs next source d rest e → Errs (stmts ∷ []) source d (l ∷ rest) e
   stmt_err w next e p q g k h f = err_after (stmts ∷ []) next (stmts ∷ []) source d d (l ∷ rest) rest e
-      (λ n s r. stmt_enters w next p q g k h n s r ∙ ap (λ z. judge (ending source) n z (seen source rest)) (sym (append_assoc next (stmts ∷ []) s))) (λ s r. r) f
+      (λ n s r. stmt_enters w next p q g k h n s r ∙ ap (λ z. judge (text_end source) n z (seen source rest)) (sym (append_assoc next (stmts ∷ []) s))) (λ s r. r) f
 
   -- if and while
 
@@ -463,8 +463,8 @@ module _ (source : LexedText) (d : ℕ) (old : List Lexeme) where
 
   else_enters : (at : ℕ) (t1 : List Lexeme) → d ≤ 64 → NextIs word.Else at old t1 → Leads (otherwise ∷ []) (block ∷ []) source d old t1
   else_enters at t1 h k = λ n s f.
-      ap (judge (ending source) n (otherwise ∷ s)) (seen-next word.Else source at old t1 k)
-      ∙ taken (ending source) n at word.Else (text_of source.bytes.now k.0) (otherwise ∷ s) (block ∷ s) (seen source t1) refl (omega arith) refl
+      ap (judge (text_end source) n (otherwise ∷ s)) (seen-next word.Else source at old t1 k)
+      ∙ taken (text_end source) n at word.Else (text_of source.bytes.now k.0) (otherwise ∷ s) (block ∷ s) (seen source t1) refl (omega arith) refl
 
   pub else_read : (at : ℕ) (t1 rest : List Lexeme) (xs : List Stmt) → d ≤ 64 → NextIs word.Else at old t1 → Comes IsBlock (block ∷ []) source d t1 xs rest → Comes IsElse (otherwise ∷ []) source d old xs rest
   else_read at t1 rest xs h k a = (subst (λ z. IsElse z xs (seen source rest)) (sym (seen-next word.Else source at old t1 k)) (an_else a.0), λ n s f. else_enters at t1 h k n s f ∙ a.1 n s f)
@@ -492,11 +492,11 @@ one_more_stmt source d old left inner rest l xs ys x p i e a = record {
   so_far = λ more to m.
       let one : IsStmts (seen source left) (stmt_at l.start x ∷ more) to = subst (λ z. IsStmts (seen source z) (stmt_at l.start x ∷ more) to) (sym e) (one_stmt a.0 m) in
       subst (λ z. IsStmts (seen source old) z to) (sym (ap (λ z. z ++ more) p ∙ append_assoc xs (stmt_at l.start x ∷ []) more)) (i.so_far (stmt_at l.start x ∷ more) to one);
-  goes = λ n s f. i.goes n s f ∙ ap (λ z. judge (ending source) n (stmts ∷ s) (seen source z)) e ∙ a.1 n s f;
+  goes = λ n s f. i.goes n s f ∙ ap (λ z. judge (text_end source) n (stmts ∷ s) (seen source z)) e ∙ a.1 n s f;
 }
 
 pub stmts_err : (source : LexedText) (d : ℕ) (old left inner : List Lexeme) (l : Lexeme) (xs : List Stmt) (g : SyntaxError) → StmtsSoFar source d old xs left → left ≡ l ∷ inner → Errs (stmts ∷ []) source d (l ∷ inner) g → Errs (stmts ∷ []) source d old g
-stmts_err source d old left inner l xs g i e f = err_after (stmts ∷ []) (stmts ∷ []) [] source d d old (l ∷ inner) g (λ n s r. i.goes n s r ∙ ap (λ z. judge (ending source) n (stmts ∷ s) (seen source z)) e) (λ s r. r) f
+stmts_err source d old left inner l xs g i e f = err_after (stmts ∷ []) (stmts ∷ []) [] source d d old (l ∷ inner) g (λ n s r. i.goes n s r ∙ ap (λ z. judge (text_end source) n (stmts ∷ s) (seen source z)) e) (λ s r. r) f
 
 -- What was read is shorter
 

@@ -12,9 +12,9 @@ use Rattle.script_text.specs.declared.error.SyntaxError.TheVariants.{Bad, Memory
 use Rattle.script_text.specs.declared.parser.source.LexedText.{LexedText}
 use Rattle.script_grammar.specs.Grammar.{Token, tok, decimal}
 use Rattle.script_grammar.specs.Fault.{TextEnd}
-use Rattle.script_text.specs.Machine.{Sym, only, rule, same_word, rules, is_empty, find_rule, choose, step, nesting, all_empty, PlacedFault, broken, unless_broken, verdict, at_stop, begun, judge}
+use Rattle.script_text.specs.Machine.{Sym, only, rule, same_word, rules, is_empty, find_rule, choose, consume, nesting, all_empty, PlacedFault, broken, unless_broken, verdict, at_stop, begun, judge}
 use Rattle.script_grammar.specs.Text.{token_of}
-use Rattle.script_text.specs.Reads.{seen, ending, Leads, stopped_at, unexpected_in, NextIs, NextIsNot, is_unlimited, Errs, PassesWord, IsBracket, Opens, Deepens}
+use Rattle.script_text.specs.Reads.{seen, text_end, Leads, stopped_at, unexpected_in, NextIs, NextIsNot, is_unlimited, Errs, PassesWord, IsBracket, Opens, Deepens}
 use Rattle.script_text.proofs.Parsing.Words.{same_words, same_word-refl}
 
 plain_broken : (w : Word) (n at d : ℕ) (text : List ℕ) → is_unlimited w ≡ true → broken n (tok at w text) d ≡ (if nat_lt 64 d then Some 5 else None)
@@ -33,37 +33,37 @@ shallow : (d : ℕ) → d ≤ 64 → ◌≡◌ {A = Option ℕ} (if nat_lt 64 d 
 shallow d h = ap (λ b. if b then Some 5 else None) (le-ltb 64 d h)
 
 -- the machine takes a token that breaks no limit
-pub taken : (e : TextEnd) (n at : ℕ) (w : Word) (text : List ℕ) (s s' : List Sym) (ts : List Token) → is_unlimited w ≡ true → nesting s' ≤ 64 → step w text s ≡ Some s' → judge e n s (tok at w text ∷ ts) ≡ judge e n s' ts
+pub taken : (e : TextEnd) (n at : ℕ) (w : Word) (text : List ℕ) (s s' : List Sym) (ts : List Token) → is_unlimited w ≡ true → nesting s' ≤ 64 → consume w text s ≡ Some s' → judge e n s (tok at w text ∷ ts) ≡ judge e n s' ts
 taken e n at w text s s' ts p h f =
     ap (λ o. verdict n (tok at w text) o (λ x. judge e (begun (tok at w text) n) x ts)) f
     ∙ ap (λ o. unless_broken o at (judge e (begun (tok at w text) n) s' ts)) (plain_broken w n at (nesting s') text p ∙ shallow (nesting s') h)
     ∙ ap (λ m. judge e m s' ts) (plain_begun w n at text p)
 
 -- and finds the fault at one that is nested too deep
-pub deep : (e : TextEnd) (n at : ℕ) (w : Word) (text : List ℕ) (s s' : List Sym) (ts : List Token) → is_unlimited w ≡ true → 64 < nesting s' → step w text s ≡ Some s' → judge e n s (tok at w text ∷ ts) ≡ Some (5, at)
+pub deep : (e : TextEnd) (n at : ℕ) (w : Word) (text : List ℕ) (s s' : List Sym) (ts : List Token) → is_unlimited w ≡ true → 64 < nesting s' → consume w text s ≡ Some s' → judge e n s (tok at w text ∷ ts) ≡ Some (5, at)
 deep e n at w text s s' ts p h f =
     ap (λ o. verdict n (tok at w text) o (λ x. judge e (begun (tok at w text) n) x ts)) f
     ∙ ap (λ o. unless_broken o at (judge e (begun (tok at w text) n) s' ts)) (plain_broken w n at (nesting s') text p ∙ ap (λ b. if b then Some 5 else None) (lt-ltb 64 (nesting s') h))
 
-pub name_taken : (e : TextEnd) (n at : ℕ) (text : List ℕ) (s s' : List Sym) (ts : List Token) → length text ≤ 32 → nesting s' ≤ 64 → step word.Name text s ≡ Some s' → judge e n s (tok at word.Name text ∷ ts) ≡ judge e n s' ts
+pub name_taken : (e : TextEnd) (n at : ℕ) (text : List ℕ) (s s' : List Sym) (ts : List Token) → length text ≤ 32 → nesting s' ≤ 64 → consume word.Name text s ≡ Some s' → judge e n s (tok at word.Name text ∷ ts) ≡ judge e n s' ts
 name_taken e n at text s s' ts l h f =
     ap (λ o. verdict n (tok at word.Name text) o (λ x. judge e n x ts)) f
     ∙ ap (λ b. unless_broken (if b then Some 4 else if nat_lt 64 (nesting s') then Some 5 else None) at (judge e n s' ts)) (le-ltb 32 (length text) l)
     ∙ ap (λ o. unless_broken o at (judge e n s' ts)) (shallow (nesting s') h)
 
-pub name_long : (e : TextEnd) (n at : ℕ) (text : List ℕ) (s s' : List Sym) (ts : List Token) → 32 < length text → step word.Name text s ≡ Some s' → judge e n s (tok at word.Name text ∷ ts) ≡ Some (4, at)
+pub name_long : (e : TextEnd) (n at : ℕ) (text : List ℕ) (s s' : List Sym) (ts : List Token) → 32 < length text → consume word.Name text s ≡ Some s' → judge e n s (tok at word.Name text ∷ ts) ≡ Some (4, at)
 name_long e n at text s s' ts l f =
     ap (λ o. verdict n (tok at word.Name text) o (λ x. judge e n x ts)) f
     ∙ ap (λ b. unless_broken (if b then Some 4 else if nat_lt 64 (nesting s') then Some 5 else None) at (judge e n s' ts)) (lt-ltb 32 (length text) l)
 
-pub number_taken : (e : TextEnd) (n at : ℕ) (text : List ℕ) (s s' : List Sym) (ts : List Token) → decimal 0 text ≤ 9223372036854775807 → nesting s' ≤ 64 → step word.Number text s ≡ Some s'
+pub number_taken : (e : TextEnd) (n at : ℕ) (text : List ℕ) (s s' : List Sym) (ts : List Token) → decimal 0 text ≤ 9223372036854775807 → nesting s' ≤ 64 → consume word.Number text s ≡ Some s'
     → judge e n s (tok at word.Number text ∷ ts) ≡ judge e n s' ts
 number_taken e n at text s s' ts l h f =
     ap (λ o. verdict n (tok at word.Number text) o (λ x. judge e n x ts)) f
     ∙ ap (λ b. unless_broken (if b then Some 3 else if nat_lt 64 (nesting s') then Some 5 else None) at (judge e n s' ts)) (le-ltb 9223372036854775807 (decimal 0 text) l)
     ∙ ap (λ o. unless_broken o at (judge e n s' ts)) (shallow (nesting s') h)
 
-pub number_big : (e : TextEnd) (n at : ℕ) (text : List ℕ) (s s' : List Sym) (ts : List Token) → 9223372036854775807 < decimal 0 text → step word.Number text s ≡ Some s' → judge e n s (tok at word.Number text ∷ ts) ≡ Some (3, at)
+pub number_big : (e : TextEnd) (n at : ℕ) (text : List ℕ) (s s' : List Sym) (ts : List Token) → 9223372036854775807 < decimal 0 text → consume word.Number text s ≡ Some s' → judge e n s (tok at word.Number text ∷ ts) ≡ Some (3, at)
 number_big e n at text s s' ts l f =
     ap (λ o. verdict n (tok at word.Number text) o (λ x. judge e n x ts)) f
     ∙ ap (λ b. unless_broken (if b then Some 3 else if nat_lt 64 (nesting s') then Some 5 else None) at (judge e n s' ts)) (lt-ltb 9223372036854775807 (decimal 0 text) l)
@@ -75,7 +75,7 @@ HasNone a (l ∷ ls) bytes = find_rule l.word (text_of bytes l) (rules a) ≡ No
 
 -- where nothing that is expected fits, the fault is here
 pub refused : (source : LexedText) (n : ℕ) (a : Sym) (s : List Sym) (old : List Lexeme) → is_empty a ≡ false → HasNone a old source.bytes.now → (number at : ℕ) → Bad number at ≡ unexpected_in source old
-    → judge (ending source) n (a ∷ s) (seen source old) ≡ Some (number, at)
+    → judge (text_end source) n (a ∷ s) (seen source old) ≡ Some (number, at)
 refused source n a s [] e h number at f = at_end source.stop f
   where
     at_end : (w : LexEnd) → Bad number at ≡ stopped_at source.end w → at_stop source.end w (a ∷ s) ≡ Some (number, at)
@@ -84,11 +84,11 @@ refused source n a s [] e h number at f = at_end source.stop f
     at_end (NoToken place) f = cc
 refused source n a s (l ∷ ls) e h number at f =
     let t : Token = token_of source.bytes.now l in
-    ap (λ o. verdict n t (choose o (is_empty a) s (step t.word t.text s)) (λ s'. judge (ending source) (begun t n) s' (seen source ls))) h
-    ∙ ap (λ b. verdict n t (choose None b s (step t.word t.text s)) (λ s'. judge (ending source) (begun t n) s' (seen source ls))) e ∙ cc
+    ap (λ o. verdict n t (choose o (is_empty a) s (consume t.word t.text s)) (λ s'. judge (text_end source) (begun t n) s' (seen source ls))) h
+    ∙ ap (λ b. verdict n t (choose None b s (consume t.word t.text s)) (λ s'. judge (text_end source) (begun t n) s' (seen source ls))) e ∙ cc
 
 -- and a symbol that may be left out is skipped there
-pub skipped : (source : LexedText) (n : ℕ) (a : Sym) (s : List Sym) (old : List Lexeme) → is_empty a ≡ true → HasNone a old source.bytes.now → judge (ending source) n (a ∷ s) (seen source old) ≡ judge (ending source) n s (seen source old)
+pub skipped : (source : LexedText) (n : ℕ) (a : Sym) (s : List Sym) (old : List Lexeme) → is_empty a ≡ true → HasNone a old source.bytes.now → judge (text_end source) n (a ∷ s) (seen source old) ≡ judge (text_end source) n s (seen source old)
 skipped source n a s [] e h = at_end source.stop
   where
     at_end : (w : LexEnd) → at_stop source.end w (a ∷ s) ≡ at_stop source.end w s
@@ -97,8 +97,8 @@ skipped source n a s [] e h = at_end source.stop
     at_end (NoToken place) = refl
 skipped source n a s (l ∷ ls) e h =
     let t : Token = token_of source.bytes.now l in
-    ap (λ o. verdict n t (choose o (is_empty a) s (step t.word t.text s)) (λ s'. judge (ending source) (begun t n) s' (seen source ls))) h
-    ∙ ap (λ b. verdict n t (choose None b s (step t.word t.text s)) (λ s'. judge (ending source) (begun t n) s' (seen source ls))) e
+    ap (λ o. verdict n t (choose o (is_empty a) s (consume t.word t.text s)) (λ s'. judge (text_end source) (begun t n) s' (seen source ls))) h
+    ∙ ap (λ b. verdict n t (choose None b s (consume t.word t.text s)) (λ s'. judge (text_end source) (begun t n) s' (seen source ls))) e
 
 pub other_word : (v w : Word) → (v ≡ w → ⊥) → same_word v w ≡ false
 other_word v w h = go (same_word v w) refl
@@ -113,8 +113,8 @@ has_none a w r [] bytes e h = tt
 has_none a w r (l ∷ ls) bytes e h = ap (find_rule l.word (text_of bytes l)) e ∙ ap (λ b. if b && true then Some r else None) (other_word l.word w h)
 
 -- and is replaced by the rule at that word
-pub replaced : (a : Sym) (w : Word) (r s : List Sym) (text : List ℕ) → rules a ≡ rule w r ∷ [] → step w text (a ∷ s) ≡ Some (r ++ s)
-replaced a w r s text e = ap (λ q. choose (find_rule w text q) (is_empty a) s (step w text s)) e ∙ ap (λ b. choose (if b && true then Some r else None) (is_empty a) s (step w text s)) (same_word-refl w)
+pub replaced : (a : Sym) (w : Word) (r s : List Sym) (text : List ℕ) → rules a ≡ rule w r ∷ [] → consume w text (a ∷ s) ≡ Some (r ++ s)
+replaced a w r s text e = ap (λ q. choose (find_rule w text q) (is_empty a) s (consume w text s)) e ∙ ap (λ b. choose (if b && true then Some r else None) (is_empty a) s (consume w text s)) (same_word-refl w)
 
 -- the tokens, where a word comes next
 pub seen-next : (w : Word) (source : LexedText) (at : ℕ) (old rest : List Lexeme) (x : NextIs w at old rest) → seen source old ≡ tok at w (text_of source.bytes.now x.0) ∷ seen source rest
@@ -137,7 +137,7 @@ pub err_after : (front next tail : List Sym) (source : LexedText) (d d' : ℕ) (
     → Errs next source d' mid e → Errs front source d old e
 err_after front next tail source d d' old mid Memory g h f = tt
 err_after front next tail source d d' old mid (Bad number at) g h f = λ n s k.
-    g n s k ∙ ap (λ z. judge (ending source) n z (seen source mid)) (append_assoc next tail s) ∙ f n (tail ++ s) (h s k)
+    g n s k ∙ ap (λ z. judge (text_end source) n z (seen source mid)) (append_assoc next tail s) ∙ f n (tail ++ s) (h s k)
 
 -- the fault where none of the words that may come does
 pub unexpected_err : (a : Sym) (tail : List Sym) (source : LexedText) (d : ℕ) (old : List Lexeme) (e : SyntaxError) → is_empty a ≡ false → HasNone a old source.bytes.now → e ≡ unexpected_in source old → Errs (a ∷ tail) source d old e
@@ -150,8 +150,8 @@ pub passes : (w : Word) (source : LexedText) (d at : ℕ) (old rest : List Lexem
 passes w source d at old rest p h x = (
   (at, x),
   λ n s f.
-      ap (judge (ending source) n (only w ∷ s)) (seen-next w source at old rest x)
-      ∙ taken (ending source) n at w _ (only w ∷ s) s (seen source rest) p (omega arith) (replaced (only w) w [] s _ refl),
+      ap (judge (text_end source) n (only w ∷ s)) (seen-next w source at old rest x)
+      ∙ taken (text_end source) n at w _ (only w ∷ s) s (seen source rest) p (omega arith) (replaced (only w) w [] s _ refl),
 )
 
 pub passes_not : (w : Word) (source : LexedText) (d : ℕ) (old : List Lexeme) (e : SyntaxError) → NextIsNot w old → e ≡ unexpected_in source old → PassesWord w source d old (Err e)
@@ -167,8 +167,8 @@ opens w source d at old rest p h x = (
   h,
   λ a inside b n s f.
       let one = b.one_level s in
-      ap (judge (ending source) n (a ∷ s)) (seen-next w source at old rest x)
-      ∙ taken (ending source) n at w _ (a ∷ s) (inside ++ s) (seen source rest) p (omega (arith, one)) (replaced a w inside s _ b.only_rule),
+      ap (judge (text_end source) n (a ∷ s)) (seen-next w source at old rest x)
+      ∙ taken (text_end source) n at w _ (a ∷ s) (inside ++ s) (seen source rest) p (omega (arith, one)) (replaced a w inside s _ b.only_rule),
 )
 
 pub opens_not : (w : Word) (source : LexedText) (d : ℕ) (old : List Lexeme) (e : SyntaxError) → NextIsNot w old → e ≡ unexpected_in source old → Opens w source d old (Err e)
@@ -180,5 +180,5 @@ opens_deep w source d at old rest Memory p x h = λ a inside b. tt
 opens_deep w source d at old rest (Bad number place) p x h = λ a inside b n s f.
     let one = b.one_level s in
     let fault : ◌≡◌ {A = Option PlacedFault} (Some (5, at)) (Some (number, place)) = cc in
-    ap (judge (ending source) n (a ∷ s)) (seen-next w source at old rest x)
-    ∙ deep (ending source) n at w _ (a ∷ s) (inside ++ s) (seen source rest) p (omega (arith, one)) (replaced a w inside s _ b.only_rule) ∙ fault
+    ap (judge (text_end source) n (a ∷ s)) (seen-next w source at old rest x)
+    ∙ deep (text_end source) n at w _ (a ∷ s) (inside ++ s) (seen source rest) p (omega (arith, one)) (replaced a w inside s _ b.only_rule) ∙ fault

@@ -3,7 +3,7 @@ use Rattle.std.proofs.Common.{◌≡◌, ℕ, true, nat_eq, if◌then◌else◌,
 use Rattle.std.proofs.lemmas.Bool.{eqb-true, eq-eqb}
 use Rattle.script_tokens.specs.declared.token.Word.{Word}
 use Rattle.script_tokens.specs.declared.token.Word.TheVariants as word
-use Rattle.script_text.specs.Machine.{code, same_word}
+use Rattle.script_text.specs.Machine.{word_number, same_word}
 
 -- the word with that code
 abbrev word_of : ℕ → Word
@@ -52,7 +52,7 @@ word_of k =
     else if nat_eq k 41 then word.Range
     else word.Scope
 
-word_of-code : (w : Word) → word_of (code w) ≡ w
+word_of-code : (w : Word) → word_of (word_number w) ≡ w
 word_of-code word.Name = refl
 word_of-code word.Number = refl
 word_of-code word.Fn = refl
@@ -98,7 +98,7 @@ word_of-code word.Range = refl
 word_of-code word.Scope = refl
 
 pub same_words : (v w : Word) → same_word v w ≡ true → v ≡ w
-same_words v w e = sym (word_of-code v) ∙ ap word_of (eqb-true (code v) (code w) e) ∙ word_of-code w
+same_words v w e = sym (word_of-code v) ∙ ap word_of (eqb-true (word_number v) (word_number w) e) ∙ word_of-code w
 
 pub same_word-refl : (w : Word) → same_word w w ≡ true
-same_word-refl w = eq-eqb (code w) (code w) refl
+same_word-refl w = eq-eqb (word_number w) (word_number w) refl

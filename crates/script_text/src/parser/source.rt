@@ -55,7 +55,7 @@ pub(crate) fn name_of(source: &LexedText<'_>, lexeme: Lexeme) -> Result<Name, Sy
 pub(crate) fn number_of(source: &LexedText<'_>, lexeme: Lexeme) -> Result<Number, SyntaxError>
     ensures { ReadsNumber source.now lexeme result }
 {
-    match value_of(text(source, lexeme)) {
+    match decimal_value(text(source, lexeme)) {
         Some(value) => Ok(Number {
             at: lexeme.start,
             value: value as i64,
@@ -65,7 +65,7 @@ pub(crate) fn number_of(source: &LexedText<'_>, lexeme: Lexeme) -> Result<Number
 }
 
 // The number that digits stand for, if an i64 holds it.
-fn value_of(digits: &[u8]) -> Option<u64>
+fn decimal_value(digits: &[u8]) -> Option<u64>
     ensures { IsValue digits.now result }
 {
     let mut value = 0;

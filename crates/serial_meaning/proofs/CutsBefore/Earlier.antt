@@ -6,9 +6,9 @@ use Rattle.std.proofs.lemmas.Bool.Decides.{nat_tests}
 use Rattle.loop_range.specs.Range.{Range}
 use Rattle.ped_path.specs.Path.{IsBefore}
 use Rattle.serial_meaning.specs.Answer.{AnswersFor, start_of}
-use Rattle.serial_meaning.specs.Laws.{IsOriginOf, places}
+use Rattle.serial_meaning.specs.Laws.{IsOriginOf, raising_pedigrees}
 use Rattle.serial_meaning.specs.Plan.{PlanView}
-use Rattle.serial_meaning.specs.Eval.{path_of, turns, eval_below, eval, depth_left}
+use Rattle.serial_meaning.specs.Eval.{path_of, loop_evaluation, eval_below, eval, depth_left}
 use Rattle.serial_meaning.specs.Open.{faults, faults_in}
 use Rattle.serial_meaning.proofs.CutsBefore.Before.{BeforeOrBegins, before-begins, before-longer, before-later, ranks-before, rank-below}
 use Rattle.serial_meaning.proofs.Equations.Each.{each-contained}
@@ -53,29 +53,29 @@ before-start (Loop function rest first path range) at j other b below = from (be
     from (inr h) = by_rest h.0 h.1
 
 -- No fault of an origin's part of the open tree stands before an event of the origin: it would stand before the one by which the origin ends.
-not-inside : (plan : PlanView) (o : Origin) (by : Fault) → Contains (faults_in plan o) by → (j : List ℕ) → IsBefore by.at j → Contains (places (eval plan o).items) j → ⊥
+not-inside : (plan : PlanView) (o : Origin) (by : Fault) → Contains (faults_in plan o) by → (j : List ℕ) → IsBefore by.at j → Contains (raising_pedigrees (eval plan o).items) j → ⊥
 not-inside plan o by h j b there = from (eval plan o).ending (least-in plan o) (eval-rises plan o).ends
   where
-    from : (q : Result (List Value) Fault) → LeastOf (faults_in plan o) q → EndsAfter (path_of o) (places (eval plan o).items) q → ⊥
+    from : (q : Result (List Value) Fault) → LeastOf (faults_in plan o) q → EndsAfter (path_of o) (raising_pedigrees (eval plan o).items) q → ⊥
     from (Ok vs) l n = let g : Contains [] by = subst (λ (fs : List Fault). Contains fs by) l h in absurd (omega (arith, g.1))
-    from (Err f) l n = each-contained (NotBefore f) (faults_in plan o) by l.1 h (first (each-contained (AtMost f.at) (places (eval plan o).items) j n.3 there))
+    from (Err f) l n = each-contained (NotBefore f) (faults_in plan o) by l.1 h (first (each-contained (AtMost f.at) (raising_pedigrees (eval plan o).items) j n.3 there))
       where
         first : IsBefore j f.at ⊎ (j ≡ f.at) → IsBefore by.at f.at
         first (inl h) = before-before by.at j f.at b h
         first (inr e) = subst (IsBefore by.at) e b
 
-pub before-event : (plan : PlanView) (o : Origin) → IsOriginOf plan o → (by : Fault) → Contains (faults plan) by → (j : List ℕ) → IsBefore by.at j → Contains (places (eval plan o).items) j → StandsBelow o j →
+pub before-event : (plan : PlanView) (o : Origin) → IsOriginOf plan o → (by : Fault) → Contains (faults plan) by → (j : List ℕ) → IsBefore by.at j → Contains (raising_pedigrees (eval plan o).items) j → StandsBelow o j →
     IsBefore by.at (start_of o)
 before-event plan o known by of_plan j b there below = before-start o by.at j (λ s. not-inside plan o by (in-scope plan o known by of_plan s) j b there) b below
 
 -- A loop with an event has an iteration.
 pub has-iterations : (plan : PlanView) (function : ℕ) (rest : List Value) (first : ℤ) (path : List ℕ) (range : Range) (j : List ℕ) →
-    Contains (places (eval plan (Loop function rest first path range)).items) j → 0 < range.hi
+    Contains (raising_pedigrees (eval plan (Loop function rest first path range)).items) j → 0 < range.hi
 has-iterations plan function rest first path range j there = by_size (range.hi - range.lo) refl
   where
     by_size : (n : ℕ) → range.hi - range.lo ≡ n → 0 < range.hi
     by_size zero e =
-        let none : Contains [] j = subst (λ (n : ℕ). Contains (places (turns (eval_below plan (depth_left plan (Loop function rest first path range))) function rest first path range.lo n).items) j) e there in
+        let none : Contains [] j = subst (λ (n : ℕ). Contains (raising_pedigrees (loop_evaluation (eval_below plan (depth_left plan (Loop function rest first path range))) function rest first path range.lo n).items) j) e there in
         absurd (omega (arith, none.1))
     by_size (suc n) e = omega arith
 

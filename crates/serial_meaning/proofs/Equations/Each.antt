@@ -5,7 +5,7 @@ use Rattle.std.specs.Prelude.{Contains}
 use Rattle.script_grammar.specs.declared.tree.Function.{Function}
 use Rattle.serial_meaning.specs.Runs.{Run, done, after_items, goes_on, ◌then◌}
 use Rattle.serial_meaning.specs.Plan.{PlanView, drawn}
-use Rattle.serial_meaning.specs.Exec.{State, Manner, strand, goes_out, frame, exec, instance, filled, fits_depth, bound}
+use Rattle.serial_meaning.specs.Exec.{State, Manner, strand, goes_out, frame, exec, instance, with_loop_values, fits_depth, bound}
 use Rattle.serial_meaning.proofs.RisingPedigrees.Closed.{Closed, closed-exec, returned-q}
 use Rattle.serial_meaning.specs.declared.value.Value.{Value}
 use Rattle.serial_meaning.specs.declared.event.Event.TheVariants as event
@@ -77,7 +77,7 @@ module _ {I E K : Type 0} (how : Manner I E K) (plan : PlanView) (T : I → Type
       q-new = λ path s. (parts.new path s, tt);
       p-join = λ path s. (parts.sync path s, each-then T (how.sync s.spawned) (λ k. done (record s { rank = s.rank + 1; spawned = k })) (parts.at_sync s.spawned) (λ k. tt));
       q-child = λ path n vs s h. (parts.spawn path s, each-then T (how.spawn (origin.Instance n vs (strand path s)) s.spawned) (λ r. done (r.0, record s { rank = s.rank + 1; spawned = r.1 })) (parts.child path n vs s h) (λ r. tt));
-      p-loop = λ path n vs lo hi target s h. (parts.loop path s, each-then T (how.loop (origin.Loop n vs lo (strand path s) (record { lo = 0; hi = hi }))) (λ ws. done (record s { rank = s.rank + 1; env = filled target ws s.env })) (parts.iterations path n vs lo hi s h) (λ ws. tt));
+      p-loop = λ path n vs lo hi target s h. (parts.loop path s, each-then T (how.loop (origin.Loop n vs lo (strand path s) (record { lo = 0; hi = hi }))) (λ ws. done (record s { rank = s.rank + 1; env = with_loop_values target ws s.env })) (parts.iterations path n vs lo hi s h) (λ ws. tt));
       p-scope = λ path s r _ h. scope-each path s r h;
       pp = λ path n r f h k. each-then T r f h k;
       pq = λ path n r f h k. each-then T r f h k;

@@ -5,7 +5,7 @@ use Rattle.serial_meaning.proofs.Equations.RunLaws.{then-then, then-same, Gives,
 use Rattle.serial_meaning.specs.Runs.{Run, done, after_items, ◌then◌}
 use Rattle.serial_meaning.specs.Values.{value_of, values_of, slot_of, items_of, as_integer, is_true, at_index}
 use Rattle.serial_meaning.specs.Functions.{number_of, function_at, any_spawns}
-use Rattle.serial_meaning.specs.Exec.{State, Manner, BlockMeaning, strand, fault, unless_fault, paid, paid_from, tested, has_room, fits_depth, spawn, join, join_at, leaves, shown, implied, returned, frame, called, right_side, found, store, looped, does, statement, each, statements, exec, count_of, set_scalar, bound}
+use Rattle.serial_meaning.specs.Exec.{State, Manner, BlockMeaning, strand, fault, unless_fault, paid, paid_from, tested, has_room, fits_depth, spawn, sync_here, sync_at, leaves, shown, implied, returned, frame, called, right_side, found, store, looped, does, statement, each, statements, exec, count_of, set_scalar, bound}
 use Rattle.script_grammar.specs.declared.tree.Function.{Function}
 use Rattle.script_grammar.specs.declared.tree.CallText.{CallText}
 use Rattle.script_grammar.specs.declared.tree.Expr.{Expr}
@@ -99,14 +99,14 @@ module _ {I E K : Type 0} (how : Manner I E K) (plan : PlanView) (path : List �
   if-gives Q true f g h k = h
   if-gives Q false f g h k = k
 
-  join_at-within : (here : List ℕ) (s : State K) → Gives (Within s.steps) (join_at how plan path here s).ending
+  join_at-within : (here : List ℕ) (s : State K) → Gives (Within s.steps) (sync_at how plan path here s).ending
   join_at-within here s = then-gives (λ (k : K). Unit {0}) (Within s.steps) (how.sync s.spawned) _ (anything _) (λ k u. omega arith)
 
-  join-within : (s : State K) → Gives (Within s.steps) (join how plan path s).ending
+  join-within : (s : State K) → Gives (Within s.steps) (sync_here how plan path s).ending
   join-within s = join_at-within path s
 
   leaves-within : (rank : ℕ) (s : State K) → Gives (Within s.steps) (leaves how plan path rank s).ending
-  leaves-within rank s = then-gives (Within s.steps) (Within s.steps) (join_at how plan path (path ++ rank ∷ []) s) _ (join_at-within (path ++ rank ∷ []) s) (λ a g. g)
+  leaves-within rank s = then-gives (Within s.steps) (Within s.steps) (sync_at how plan path (path ++ rank ∷ []) s) _ (join_at-within (path ++ rank ∷ []) s) (λ a g. g)
 
   weaker : (m n : ℕ) (r : Result (State K) E) → m ≤ n → Gives (Within m) r → Gives (Within n) r
   weaker m n (Ok s) h k = omega arith
@@ -320,10 +320,10 @@ module _ {I E K : Type 0} (how : Manner I E K) (plan : PlanView) where
       ∙ sym (then-then (statement how plan path (exec how plan) calls x s) (exec how plan path calls xs) (exec how plan path calls ys))
       ∙ ap (λ r. r then exec how plan path calls ys) (sym (exec-cons path calls x xs s))
 
-  -- A turn of a loop puts the body and the loop again before the other statements.
-  pub exec-turn : (path : List ℕ) (calls : ℕ) (st : Stmt) (body sts : List Stmt) (s : State K) →
+  -- An iteration of a `while` puts the body and the loop again before the other statements.
+  pub exec-again : (path : List ℕ) (calls : ℕ) (st : Stmt) (body sts : List Stmt) (s : State K) →
       ((exec how plan path calls body s then exec how plan path calls (st ∷ [])) then exec how plan path calls sts) ≡ exec how plan path calls (body ++ (st ∷ sts)) s
-  exec-turn path calls st body sts s =
+  exec-again path calls st body sts s =
       then-then (exec how plan path calls body s) (exec how plan path calls (st ∷ [])) (exec how plan path calls sts)
       ∙ then-same (exec how plan path calls body s) _ _ (λ a q. sym (exec-append path calls (st ∷ []) sts a))
       ∙ sym (exec-append path calls body (st ∷ sts) s)
@@ -334,7 +334,7 @@ equations how plan path = record {
   nothing = exec-nil how plan path;
   first = exec-cons how plan path;
   in_a_row = exec-append how plan path;
-  turn = exec-turn how plan path;
+  again = exec-again how plan path;
 }
 
 pub elision_has_equations : (plan : PlanView) (path : List ℕ) (child : Origin → Evaluation) → Equations (serial child) plan path

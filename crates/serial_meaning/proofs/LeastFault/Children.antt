@@ -6,9 +6,9 @@ use Rattle.serial_meaning.specs.Runs.{Run, done, after_items, goes_on, ◌then�
 use Rattle.serial_meaning.specs.Values.{Env}
 use Rattle.serial_meaning.specs.Functions.{function_at}
 use Rattle.serial_meaning.specs.Plan.{PlanView, functions_of}
-use Rattle.serial_meaning.specs.Exec.{State, strand, goes_out, frame, exec, instance, filled}
+use Rattle.serial_meaning.specs.Exec.{State, strand, goes_out, frame, exec, instance, with_loop_values}
 use Rattle.serial_meaning.specs.Eval.{Evaluation, iteration, path_of}
-use Rattle.serial_meaning.specs.Open.{Item, Happened, Child, Opened, Closed, NodeFault, Own, ChildFaulted, Node, put_off_all, joined, loop_end, is_empty_loop, iterations, gathered, node_with}
+use Rattle.serial_meaning.specs.Open.{Item, Happened, Child, Opened, Closed, NodeFault, Own, ChildFaulted, Node, put_off_all, unless_child_faulted, loop_end, is_empty_loop, iterations, gathered, node_with}
 use Rattle.serial_meaning.proofs.Equations.RunLaws.{then-then}
 use Rattle.serial_meaning.proofs.RisingPedigrees.Closed.{closed-exec, returned-q}
 use Rattle.serial_meaning.proofs.RisingPedigrees.Closed as Of
@@ -198,7 +198,7 @@ module _ (plan : PlanView) (child : Origin → Evaluation) where
   alone : (path : List ℕ) (k : ℕ) (o : Origin) → path_of o ≡ path ++ k ∷ [] → ChildrenRise path k (k + 1) (o ∷ [])
   alone path k o h = record { within = ((k, [], h, omega arith, omega arith), tt); rise = (tt, tt) }
 
-  sync-spread : (path : List ℕ) (s : S) (e : Event) (k : Option Fault) → P path s.rank (after_items (Happened e ∷ []) (joined k then λ k. done (record s { rank = s.rank + 1; spawned = k })))
+  sync-spread : (path : List ℕ) (s : S) (e : Event) (k : Option Fault) → P path s.rank (after_items (Happened e ∷ []) (unless_child_faulted k then λ k. done (record s { rank = s.rank + 1; spawned = k })))
   sync-spread path s e None = quiet path rank_of s.rank (Happened e ∷ []) (record s { rank = s.rank + 1; spawned = None }) refl (omega arith)
   sync-spread path s e (Some f) = record { hi = s.rank; up = omega arith; ends = tt; spread = record { within = tt; rise = tt } }
 
@@ -237,7 +237,7 @@ module _ (plan : PlanView) (child : Origin → Evaluation) where
     q-new = λ path s. record { hi = s.rank + 1; up = omega arith; ends = refl; spread = record { within = tt; rise = tt } };
     p-join = λ path s. sync-spread path s (event.Sync (strand path s)) s.spawned;
     q-child = λ path n vs s _. record { hi = s.rank + 1; up = omega arith; ends = refl; spread = alone path s.rank (origin.Instance n vs (strand path s)) refl };
-    p-loop = λ path n vs lo hi target s _. let o = origin.Loop n vs lo (strand path s) (record { lo = 0; hi = hi }) in loop-spread path (is_empty_loop o) (child o).ending o s (event.Loop (strand path s)) (λ ws. filled target ws s.env) refl;
+    p-loop = λ path n vs lo hi target s _. let o = origin.Loop n vs lo (strand path s) (record { lo = 0; hi = hi }) in loop-spread path (is_empty_loop o) (child o).ending o s (event.Loop (strand path s)) (λ ws. with_loop_values target ws s.env) refl;
     p-scope = λ path s r _ h. scope-spread path s r h;
     pp = λ path n r f h k. spread-then path rank_of rank_of n r f h k;
     pq = λ path n r f h k. spread-then path rank_of pair_rank n r f h k;

@@ -7,7 +7,7 @@ use Rattle.std.specs.declared.cmp.Ordering.{Ordering}
 use Rattle.std.specs.declared.cmp.Ordering.TheVariants.{Less, Equal, Greater}
 use Rattle.serial_meaning.specs.Runs.{done, goes_on, ◌then◌}
 use Rattle.serial_meaning.specs.Plan.{PlanView}
-use Rattle.serial_meaning.specs.Eval.{Evaluation, iteration, turns, path_of, eval_below, depth_left}
+use Rattle.serial_meaning.specs.Eval.{Evaluation, iteration, loop_evaluation, path_of, eval_below, depth_left}
 use Rattle.serial_meaning.specs.Open.{lesser, loop_end, iterations, both, gathered, faults_below}
 use Rattle.serial_meaning.specs.Laws.{LoopsEndAlike}
 use Rattle.serial_meaning.proofs.RisingPedigrees.Order.{before-by_rank, not_before-back}
@@ -47,7 +47,7 @@ one_err f g e = cc
 
 module _ (child : Origin → Evaluation) (under : (o : Origin) (f : Fault) → (child o).ending ≡ Err f → Under (path_of o) f) (function : ℕ) (rest : List Value) (first : ℤ) (path : List ℕ) where
   abbrev all : ℕ → ℕ → Evaluation
-  all k n = turns child function rest first path k n
+  all k n = loop_evaluation child function rest first path k n
 
   at-iteration : (k : ℕ) (f : Fault) → (child (iteration function rest first path k)).ending ≡ Err f → (more : List ℕ) × (f.at ≡ path ++ k ∷ more)
   at-iteration k f e = let u = under (iteration function rest first path k) f e in (u.0 ∷ u.1, u.2 ∙ append_assoc path (k ∷ []) (u.0 ∷ u.1))

@@ -11,7 +11,7 @@ use Rattle.serial_meaning.specs.Functions.{function_at}
 use Rattle.serial_meaning.specs.Plan.{PlanView, functions_of}
 use Rattle.serial_meaning.specs.Exec.{State, strand, fits_depth}
 use Rattle.serial_meaning.specs.Eval.{Evaluation, iteration, path_of, eval_with, eval_below, eval, depth_left}
-use Rattle.serial_meaning.specs.Open.{Item, Happened, Child, Opened, Closed, NodeFault, put_off_all, joined, loop_end, is_zero, iterations, gathered, node_with, opened, own_fault, faults_of, faults_with, faults_below, faults_in, faults}
+use Rattle.serial_meaning.specs.Open.{Item, Happened, Child, Opened, Closed, NodeFault, put_off_all, unless_child_faulted, loop_end, is_zero, iterations, gathered, node_with, opened, own_fault, faults_of, faults_with, faults_below, faults_in, faults}
 use Rattle.serial_meaning.proofs.Equations.Each.{Each, each-contained, Parts, instance-each}
 use Rattle.serial_meaning.proofs.LeastFault.Children.{IsAt, children, node-spread}
 use Rattle.serial_meaning.proofs.OriginFaults.Levels.{enough}
@@ -107,7 +107,7 @@ module _ (plan : PlanView) (child : Origin → Evaluation) where
     iterations = loop-item-fits;
   }
     where
-      at_sync : (k : Option Fault) → Each (ItemFits plan) (joined k).items
+      at_sync : (k : Option Fault) → Each (ItemFits plan) (unless_child_faulted k).items
       at_sync None = tt
       at_sync (Some f) = tt
 

@@ -6,7 +6,7 @@ use Rattle.serial_meaning.proofs.Equations.RunLaws.{then-then}
 use Rattle.serial_meaning.specs.Runs.{Run, done, happens, after_items, ◌then◌}
 use Rattle.serial_meaning.specs.Values.{value_of, values_of, slot_of, items_of, as_integer, is_true, at_index}
 use Rattle.serial_meaning.specs.Functions.{number_of, function_at, any_spawns}
-use Rattle.serial_meaning.specs.Exec.{State, Manner, BlockMeaning, strand, fault, emit, unless_fault, paid_from, tested, has_room, fits_depth, filled, spawn, join, leaves, goes_out, shown, implied, returned, frame, called, right_side, found, looped, does, statement, each, statements, exec, count_of, set_scalar, set_array, bound}
+use Rattle.serial_meaning.specs.Exec.{State, Manner, BlockMeaning, strand, fault, emit_and_raise, unless_fault, paid_from, tested, has_room, fits_depth, with_loop_values, spawn, sync_here, leaves, goes_out, shown, implied, returned, frame, called, right_side, found, looped, does, statement, each, statements, exec, count_of, set_scalar, set_array, bound}
 use Rattle.script_grammar.specs.declared.tree.Name.{Name}
 use Rattle.script_grammar.specs.declared.tree.Function.{Function}
 use Rattle.script_grammar.specs.declared.tree.CallText.{CallText}
@@ -38,11 +38,11 @@ module _ {I E K : Type 0} (how : Manner I E K) (plan : PlanView) where
     pub p-stop : (path : List ℕ) (kind : FaultKind) (s : State K) → P path s.rank (fault how plan path kind s)
     pub q-stop : (path : List ℕ) (kind : FaultKind) (s : State K) → Q path s.rank (fault how plan path kind s)
     pub p-print : (path : List ℕ) (v : Value) (s : State K) → P path s.rank (happens (how.event (event.Print (strand path s) v)) s)
-    pub q-draw : (path : List ℕ) (s : State K) → let n = drawn plan (strand path s) in Q path s.rank (emit how plan path (λ j. event.Draw j n) s then λ s'. done (Int (cast_signed w64 n), s'))
-    pub q-new : (path : List ℕ) (s : State K) → Q path s.rank (emit how plan path event.New s then λ s'. done (Id (strand path s), s'))
-    pub p-join : (path : List ℕ) (s : State K) → P path s.rank (join how plan path s)
+    pub q-draw : (path : List ℕ) (s : State K) → let n = drawn plan (strand path s) in Q path s.rank (emit_and_raise how plan path (λ j. event.Draw j n) s then λ s'. done (Int (cast_signed w64 n), s'))
+    pub q-new : (path : List ℕ) (s : State K) → Q path s.rank (emit_and_raise how plan path event.New s then λ s'. done (Id (strand path s), s'))
+    pub p-join : (path : List ℕ) (s : State K) → P path s.rank (sync_here how plan path s)
     pub q-child : (path : List ℕ) (n : ℕ) (vs : List Value) (s : State K) → nat_lt (length path + 1) plan.limits.depth ≡ true → Q path s.rank (happens (how.event (event.Spawn (strand path s))) s then λ s. how.spawn (origin.Instance n vs (strand path s)) s.spawned then λ r. done (r.0, record s { rank = s.rank + 1; spawned = r.1 }))
-    pub p-loop : (path : List ℕ) (n : ℕ) (vs : List Value) (lo : ℤ) (hi : ℕ) (target : Option Name) (s : State K) → fits_depth how plan path hi ≡ true → P path s.rank (happens (how.event (event.Loop (strand path s))) s then λ s. how.loop (origin.Loop n vs lo (strand path s) (record { lo = 0; hi = hi })) then λ ws. done (record s { rank = s.rank + 1; env = filled target ws s.env }))
+    pub p-loop : (path : List ℕ) (n : ℕ) (vs : List Value) (lo : ℤ) (hi : ℕ) (target : Option Name) (s : State K) → fits_depth how plan path hi ≡ true → P path s.rank (happens (how.event (event.Loop (strand path s))) s then λ s. how.loop (origin.Loop n vs lo (strand path s) (record { lo = 0; hi = hi })) then λ ws. done (record s { rank = s.rank + 1; env = with_loop_values target ws s.env }))
     -- of what a scope's block and the sync at its end do, and so of the scope
     pub p-scope : (path : List ℕ) (s : State K) (r : Goes) → nat_lt (length path + 1) plan.limits.depth ≡ true → P (strand path s) 0 r → P path s.rank (after_items (how.opens (strand path s)) r then goes_out how plan path s.rank)
     pub pp : (path : List ℕ) (n : ℕ) (r : Goes) (f : State K → Goes) → P path n r → ((s : State K) → P path s.rank (f s)) → P path n (r then f)
@@ -125,10 +125,10 @@ module _ {I E K : Type 0} (how : Manner I E K) (plan : PlanView) where
             let here : List ℕ = strand path s in
             let inner : State K = record s { rank = 0 } in
             let opens : Goes = shown (how.opens here) inner in
-            let same : (after_items (how.opens here) (b here calls xs inner then join how plan here) then goes_out how plan path s.rank) ≡ (opens then b here calls xs then leaves how plan path s.rank) =
-            ap (λ (q : Goes). q then goes_out how plan path s.rank) (sym (then-then opens (b here calls xs) (join how plan here)))
-            ∙ then-then (opens then b here calls xs) (join how plan here) (goes_out how plan path s.rank) in
-            subst (P path s.rank) same (c.p-scope path s _ deep (c.pp here 0 (b here calls xs inner) (join how plan here) (fine here calls xs inner) (c.p-join here)))
+            let same : (after_items (how.opens here) (b here calls xs inner then sync_here how plan here) then goes_out how plan path s.rank) ≡ (opens then b here calls xs then leaves how plan path s.rank) =
+            ap (λ (q : Goes). q then goes_out how plan path s.rank) (sym (then-then opens (b here calls xs) (sync_here how plan here)))
+            ∙ then-then (opens then b here calls xs) (sync_here how plan here) (goes_out how plan path s.rank) in
+            subst (P path s.rank) same (c.p-scope path s _ deep (c.pp here 0 (b here calls xs inner) (sync_here how plan here) (fine here calls xs inner) (c.p-join here)))
 
         does-p : (calls : ℕ) (st : Stmt) (a : Act-F Act Stmt) (s : State K) → P path s.rank (does how plan path b calls st a s)
         does-p calls st (act.Let x r) s = set-p calls x r s

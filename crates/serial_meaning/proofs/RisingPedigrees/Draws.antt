@@ -5,7 +5,7 @@ use Rattle.std.specs.Prelude.{Contains}
 use Rattle.serial_meaning.specs.Runs.{done}
 use Rattle.serial_meaning.specs.Functions.{function_at}
 use Rattle.serial_meaning.specs.Plan.{PlanView, functions_of, drawn}
-use Rattle.serial_meaning.specs.Eval.{Evaluation, serial, iteration, turns, first_of, eval_with, eval_below, depth_left, main_origin, elision}
+use Rattle.serial_meaning.specs.Eval.{Evaluation, serial, iteration, loop_evaluation, first_value, eval_with, eval_below, depth_left, main_origin, elision}
 use Rattle.serial_meaning.proofs.OriginFaults.Levels.{every}
 use Rattle.serial_meaning.proofs.Equations.Each.{Each, each-then, each-contained, Parts, instance-each}
 use Rattle.serial_meaning.specs.declared.value.Value.{Value}
@@ -35,15 +35,15 @@ module _ (plan : PlanView) where
       opens = λ here. tt;
       closes = λ here. tt;
       at_sync = λ k. tt;
-      child = λ path n vs s h. each-then IsTrueDraw (child (origin.Instance n vs _)) (λ vs. done (first_of vs, s.spawned)) (fine _) (λ vs. tt);
+      child = λ path n vs s h. each-then IsTrueDraw (child (origin.Instance n vs _)) (λ vs. done (first_value vs, s.spawned)) (fine _) (λ vs. tt);
       iterations = λ path n vs lo hi s h. fine _;
     }
 
-    turns-each : (function : ℕ) (rest : List Value) (first : ℤ) (path : List ℕ) (k n : ℕ) → Each IsTrueDraw (turns child function rest first path k n).items
+    turns-each : (function : ℕ) (rest : List Value) (first : ℤ) (path : List ℕ) (k n : ℕ) → Each IsTrueDraw (loop_evaluation child function rest first path k n).items
     turns-each function rest first path k zero = tt
     turns-each function rest first path k (suc n) =
         each-then IsTrueDraw (child (iteration function rest first path k)) _ (fine (iteration function rest first path k))
-        (λ vs. each-then IsTrueDraw (turns child function rest first path (k + 1) n) _ (turns-each function rest first path (k + 1) n) (λ ws. tt))
+        (λ vs. each-then IsTrueDraw (loop_evaluation child function rest first path (k + 1) n) _ (turns-each function rest first path (k + 1) n) (λ ws. tt))
 
     eval_with-each : (o : Origin) → Each IsTrueDraw (eval_with plan child o).items
     eval_with-each (origin.Instance function args path) = instance-each (serial child) plan IsTrueDraw parts path (function_at (functions_of plan) function) args

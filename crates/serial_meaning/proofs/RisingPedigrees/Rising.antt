@@ -2,7 +2,7 @@
 use Rattle.std.proofs.Common.{◌≡◌, ℕ, zero, suc, ◌<◌, ◌≤◌, List, [], ◌∷◌, ◌++◌, Result, Ok, Err, ◌⊎◌, inl, length, get_or, max, refl, sym, ap, subst, arith}
 use Rattle.std.specs.Prelude.{AllPairs}
 use Rattle.ped_path.specs.Path.{IsBefore}
-use Rattle.serial_meaning.specs.Laws.{places}
+use Rattle.serial_meaning.specs.Laws.{raising_pedigrees}
 use Rattle.serial_meaning.specs.Runs.{Run, goes_on, ◌then◌}
 use Rattle.serial_meaning.proofs.Equations.Each.{Each, each-append}
 use Rattle.serial_meaning.proofs.RisingPedigrees.Order.{before-by_rank}
@@ -50,7 +50,7 @@ pub rise-append : (path : List ℕ) (lo mid hi : ℕ) (xs ys : List (List ℕ)) 
 rise-append path lo mid hi [] ys w v r t = t
 rise-append path lo mid hi (x ∷ xs) ys w v r t = (before-append x xs ys r.0 (let a = w.0 in rw a.2 (before_within path a.0 a.1 mid hi ys (omega (arith, a.4)) v)), rise-append path lo mid hi xs ys w.1 v r.1 t)
 
-pub places-append : (xs ys : List Event) → places (xs ++ ys) ≡ places xs ++ places ys
+pub places-append : (xs ys : List Event) → raising_pedigrees (xs ++ ys) ≡ raising_pedigrees xs ++ raising_pedigrees ys
 places-append [] ys = refl
 places-append (event.Print j v ∷ xs) ys = places-append xs ys
 places-append (event.Draw j n ∷ xs) ys = ap (λ l. j ∷ l) (places-append xs ys)
@@ -86,29 +86,29 @@ Below path rank lo hi js (Err f) = (k : ℕ) × (more : List ℕ) × (f.at ≡ p
 -- The events of a run rise, and stand between the rank with which it began and the one with which it ended.
 pub record Rising {A : Type 0} (path : List ℕ) (rank : A → ℕ) (lo : ℕ) (r : Run Event Fault A) : Type 0 where
   pub hi : ℕ
-  pub below : Below path rank lo hi (places r.items) r.ending
-  pub within : Within path lo hi (places r.items)
-  pub rise : Rise (places r.items)
+  pub below : Below path rank lo hi (raising_pedigrees r.items) r.ending
+  pub within : Within path lo hi (raising_pedigrees r.items)
+  pub rise : Rise (raising_pedigrees r.items)
 
 pub rising-then : {A B : Type 0} (path : List ℕ) (f-rank : A → ℕ) (g-rank : B → ℕ) (lo : ℕ) (r : Run Event Fault A) (f : A → Run Event Fault B) →
     Rising path f-rank lo r → ((a : A) → Rising path g-rank (f-rank a) (f a)) → Rising path g-rank lo (r then f)
 rising-then {A = A} {B = B} path f-rank g-rank lo r f h k = from r.items r.ending h.hi h.below h.within h.rise
   where
-    from : (items : List Event) (e : Result A Fault) (hi : ℕ) → Below path f-rank lo hi (places items) e → Within path lo hi (places items) → Rise (places items) → Rising path g-rank lo (goes_on items e f)
+    from : (items : List Event) (e : Result A Fault) (hi : ℕ) → Below path f-rank lo hi (raising_pedigrees items) e → Within path lo hi (raising_pedigrees items) → Rise (raising_pedigrees items) → Rising path g-rank lo (goes_on items e f)
     from items (Err e) hi b w s = record { hi = hi; below = b; within = w; rise = s }
     from items (Ok a) hi b w s = record {
       hi = max hi (k a).hi;
       below = rw (places-append items (f a).items) (below (f a).ending (k a).below);
-      within = rw (places-append items (f a).items) (within-append path lo (max hi (k a).hi) (places items) (places (f a).items) (within-wider path lo lo hi (max hi (k a).hi) (places items) (omega arith) (omega arith) w) (within-wider path (f-rank a) lo (k a).hi (max hi (k a).hi) (places (f a).items) (omega arith) (omega arith) (k a).within));
-      rise = rw (places-append items (f a).items) (rise-append path lo hi (k a).hi (places items) (places (f a).items) w (rw b.0 (k a).within) s (k a).rise);
+      within = rw (places-append items (f a).items) (within-append path lo (max hi (k a).hi) (raising_pedigrees items) (raising_pedigrees (f a).items) (within-wider path lo lo hi (max hi (k a).hi) (raising_pedigrees items) (omega arith) (omega arith) w) (within-wider path (f-rank a) lo (k a).hi (max hi (k a).hi) (raising_pedigrees (f a).items) (omega arith) (omega arith) (k a).within));
+      rise = rw (places-append items (f a).items) (rise-append path lo hi (k a).hi (raising_pedigrees items) (raising_pedigrees (f a).items) w (rw b.0 (k a).within) s (k a).rise);
     }
       where
-        below : (e : Result B Fault) → Below path g-rank (f-rank a) (k a).hi (places (f a).items) e → Below path g-rank lo (max hi (k a).hi) (places items ++ places (f a).items) e
+        below : (e : Result B Fault) → Below path g-rank (f-rank a) (k a).hi (raising_pedigrees (f a).items) e → Below path g-rank lo (max hi (k a).hi) (raising_pedigrees items ++ raising_pedigrees (f a).items) e
         below (Ok x) c = (omega arith, omega arith)
         below (Err e) c = (
           c.0,
           c.1,
           c.2,
           omega (arith, c.3),
-          each-append (AtMost e.at) (places items) (places (f a).items) (at_most-below path lo hi c.0 c.1 e.at c.2 (omega (arith, c.3, b.0)) (places items) w) c.4,
+          each-append (AtMost e.at) (raising_pedigrees items) (raising_pedigrees (f a).items) (at_most-below path lo hi c.0 c.1 e.at c.2 (omega (arith, c.3, b.0)) (raising_pedigrees items) w) c.4,
         )

@@ -2,7 +2,7 @@
 use Rattle.std.proofs.Common.{◌≡◌, ◌≤◌, ◌<◌, ◌+◌, ◌⊎◌, inl, inr, ℕ, Bool, true, false, nat_lt, List, [], ◌∷◌, ◌++◌, length, length-append, refl, sym, ◌∙◌, ap, subst, arith, append_assoc}
 use Rattle.std.proofs.lemmas.Bool.Decides.{nat_tests}
 use Rattle.std.specs.Prelude.{Contains}
-use Rattle.serial_meaning.specs.Laws.{places}
+use Rattle.serial_meaning.specs.Laws.{raising_pedigrees}
 use Rattle.serial_meaning.proofs.RisingPedigrees.Rising.{Rise}
 use Rattle.serial_meaning.specs.declared.event.Event.{Event}
 use Rattle.serial_meaning.specs.declared.event.Event.TheVariants as event
@@ -16,7 +16,7 @@ use Rattle.span_report.proofs.Nested.Apart.{spawn-no-loop, event-of}
 pub properly : (a b : List ℕ) → BeginsProperly a b → Begins a b
 properly a b h = (h.0 ∷ h.1, h.2)
 
-module _ (all : List Event) (nested : IsClear all (Instance []) [] 0 all) (rise : Rise (places all)) where
+module _ (all : List Event) (nested : IsClear all (Instance []) [] 0 all) (rise : Rise (raising_pedigrees all)) where
   -- Of an instance's events that raise the rank only one begins what lies at or below a rank of a present path, where such an event stands.
   pub begins-child : (home path j : List ℕ) (r : ℕ) (rest : List ℕ) (c : ℕ) (e x : Event) → IsPresent all home path → IsOf all home c e → Raises e j → Contains all x → Raises x (path ++ r ∷ []) → Begins j (path ++ r ∷ rest) → j ≡ path ++ r ∷ []
   begins-child home path j r rest c e x h o raises k at b = by (split (length j) (length path))

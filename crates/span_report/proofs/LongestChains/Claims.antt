@@ -1,7 +1,7 @@
 -- The walk along the events of a run keeps the lengths of the longest chains.
 use Rattle.std.proofs.Common.{◌≡◌, ◌≤◌, ◌<◌, ◌+◌, ◌⊎◌, inl, inr, ℕ, List, [], ◌∷◌, ◌++◌, Some, length, length-append, refl, sym, ◌∙◌, ap, subst, arith, append_assoc}
 use Rattle.std.specs.Prelude.{Contains}
-use Rattle.serial_meaning.specs.Laws.{places}
+use Rattle.serial_meaning.specs.Laws.{raising_pedigrees}
 use Rattle.serial_meaning.specs.Plan.{PlanView}
 use Rattle.serial_meaning.specs.Eval.{elision}
 use Rattle.serial_meaning.proofs.Equations.Each.{Each}
@@ -15,8 +15,8 @@ use Rattle.span_report.specs.declared.instance.Begun.TheVariants.{Spawned, Itera
 use Rattle.span_report.specs.Series.{pedigree_of, Begins, BeginsProperly, IsEvent, IsInstance, Main, Child, Iteration, IsHome, IsOf, IsReady, IsSpan}
 use Rattle.span_report.proofs.LongestChains.Chains.{IsMost}
 use Rattle.span_report.specs.Nested.{RaisesWithoutChild, Draw, New, Sync, Whose, Instance, Iterations}
-use Rattle.span_report.specs.Opens.{begun, joined, went_on, synced, turning}
-use Rattle.span_report.specs.Walks.{OpenInstances, start, left, ended, went, opened_to, path_of, walked, walked_all, walked_span}
+use Rattle.span_report.specs.Opens.{begun, joined, went_on, synced, looping_at}
+use Rattle.span_report.specs.Walks.{OpenInstances, main_alone, left, ended, went, opened_to, path_of, walked, walked_all, walked_span}
 use Rattle.span_report.proofs.Nested.Clear.{NotAt, IsClear, Ends, Prints, Steps, Spawns, Loops, Iterates, Scopes, all-clear}
 use Rattle.span_report.proofs.Nested.Coming.{Past, Coming, coming-here, coming-next, coming-in, past-rank, past-apart}
 use Rattle.span_report.proofs.Belonging.Homes.{begins-begins, event-unique, get-contained, IsPresent}
@@ -30,7 +30,7 @@ use Rattle.span_report.proofs.LongestChains.Ranges.{Between, AreBelow, AreTurns,
 use Rattle.span_report.proofs.LongestChains.Standing.{Holds, HoldsLoop, holds-went, holds-synced, holds-begun, loop-begun, loop-turned, child-ended, turn-before, loop-ended}
 use Rattle.span_report.proofs.LongestChains.Stacks.{stack, leads-below, leads-not, left-here, left-up, ended-left, Same, path-is, path-below, IsQuiet, quiet-none, quiet-loop, entered-turn, walked_append, walked-own}
 
-module _ (all : List Event) (nested : IsClear all (Instance []) [] 0 all) (rise : Rise (places all)) where
+module _ (all : List Event) (nested : IsClear all (Instance []) [] 0 all) (rise : Rise (raising_pedigrees all)) where
   own : (home path : List ℕ) (rank n : ℕ) (e : Event) → IsPresent all home path → pedigree_of e ≡ path ++ rank ∷ [] → IsEvent all n e → IsOf all home n e
   own home path rank n e i p g = record { numbered = g; belongs = subst (λ (j : List ℕ). IsHome all j home) (sym p) (home-is all nested rise home path rank i) }
 
@@ -206,7 +206,7 @@ module _ (all : List Event) (nested : IsClear all (Instance []) [] 0 all) (rise 
       g = own home path rank n e i refl a.0
 
       o1 : OpenInstance
-      o1 = turning j (went_on o)
+      o1 = looping_at j (went_on o)
 
       w1 : walked w e ≡ stack o1 under
       w1 = walked-own (Coming path rank) w o under home path e (path-is e path rank refl) h.at i.begins (coming-here path rank) (q path (coming-here path rank)) s
@@ -351,13 +351,13 @@ module _ (all : List Event) (nested : IsClear all (Instance []) [] 0 all) (rise 
   walk-spans = subst (λ (o : OpenInstance). IsSpan all o.within) (sym last) (most-span all a.o.within (most-as all (λ i. Between all 0 (length all) i) (λ i. i < length all) a.o.within a.holds.within (λ i b. b.2) (λ i l. (omega arith, l, l))))
     where
       w : OpenInstances
-      w = walked_all start all
+      w = walked_all main_alone all
 
       main : OpenInstance
       main = begun [] Spawned 0
 
       a : After 0 (length all) [] [] w [] Spawned
-      a = walks (Instance []) [] 0 all nested 0 0 (length all) 0 start main [] (own-present all [] Main) (omega arith) (omega arith) (fresh-start all) (at-all all 0 [] all refl refl)
+      a = walks (Instance []) [] 0 all nested 0 0 (length all) 0 main_alone main [] (own-present all [] Main) (omega arith) (omega arith) (fresh-start all) (at-all all 0 [] all refl refl)
           (holds-begun all 0 0 [] Spawned (fresh-start all) (most-none all (λ i. IsReady all i 0 []) (λ i r. (let l = r.earlier in absurd (omega (arith, l)))))) (λ p z. quiet-none main refl p) (λ p z. refl)
 
       last : ended w.top w.under ≡ a.o

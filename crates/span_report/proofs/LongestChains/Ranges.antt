@@ -1,7 +1,7 @@
 -- How what is ready, and what is pending, changes with a run of events: an instance's own, those of a child, those of a loop.
 use Rattle.std.proofs.Common.{◌≡◌, ◌≤◌, ◌<◌, ◌+◌, ◌⊎◌, inl, inr, ℕ, List, [], ◌∷◌, ◌++◌, length, length-append, append-nil, refl, sym, ◌∙◌, ap, subst, arith, append_assoc}
 use Rattle.std.specs.Prelude.{Contains}
-use Rattle.serial_meaning.specs.Laws.{places}
+use Rattle.serial_meaning.specs.Laws.{raising_pedigrees}
 use Rattle.serial_meaning.proofs.RisingPedigrees.Rising.{Rise}
 use Rattle.serial_meaning.proofs.LeastFault.Left.{rank-same}
 use Rattle.serial_meaning.specs.declared.event.Event.{Event}
@@ -116,7 +116,7 @@ module _ (all : List Event) where
       let y = begins-length (path ++ rank ∷ []) own (below s own e l q h) in
       let z = begins-length home path a in absurd (omega (arith, x, y, z, length-append path (rank ∷ [])))
 
-  module _ (nested : IsClear all (Instance []) [] 0 all) (rise : Rise (places all)) where
+  module _ (nested : IsClear all (Instance []) [] 0 all) (rise : Rise (raising_pedigrees all)) where
     -- Event number n is the one by which an instance began a child or a loop, at this rank of a present path. Up to number m there are the
     -- events below it.
     module _ (n m : ℕ) (home path : List ℕ) (rank : ℕ) (here : IsPresent all home path) (fresh : Fresh all n path rank) where

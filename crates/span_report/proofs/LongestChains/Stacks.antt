@@ -9,8 +9,8 @@ use Rattle.serial_meaning.specs.declared.event.Event.TheVariants as event
 use Rattle.span_report.specs.declared.instance.OpenInstance.{OpenInstance}
 use Rattle.span_report.specs.Series.{pedigree_of, Begins, BeginsProperly}
 use Rattle.span_report.specs.declared.instance.Begun.TheVariants.{Spawned, Iterated}
-use Rattle.span_report.specs.Opens.{begun, joined, starts, leads, noted, turn_at, turn_on}
-use Rattle.span_report.specs.Walks.{OpenInstances, left, ended, pushed, pushed_turn, opened_to, went, path_of, walked, walked_all}
+use Rattle.span_report.specs.Opens.{begun, joined, starts, leads, after_event, iteration_at, iteration_on}
+use Rattle.span_report.specs.Walks.{OpenInstances, left, ended, pushed, pushed_iteration, opened_to, went, path_of, walked, walked_all}
 
 abbrev pub stack : OpenInstance → List OpenInstance → OpenInstances
 stack o under = record { top = o; under = under }
@@ -97,11 +97,11 @@ quiet-loop o loop path e d j h = subst (λ (l : List ℕ). starts l path ≡ fal
         path_in (Some l) = l
 
 pub entered-open : (path : List ℕ) (o : OpenInstance) (under : List OpenInstance) → IsQuiet o path → opened_to path (stack o under) ≡ stack o under
-entered-open path o under q = ap (λ (t : Option (List ℕ)). pushed_turn t (stack o under)) (by o.looping q)
+entered-open path o under q = ap (λ (t : Option (List ℕ)). pushed_iteration t (stack o under)) (by o.looping q)
   where
-    by : (l : Option (List ℕ)) → ((j : List ℕ) → l ≡ Some j → starts j path ≡ false) → turn_on l path ≡ None
+    by : (l : Option (List ℕ)) → ((j : List ℕ) → l ≡ Some j → starts j path ≡ false) → iteration_on l path ≡ None
     by None h = refl
-    by (Some j) h = ap (λ (b : Bool). cond b (turn_at j (slice_get path (length j))) None) (h j refl)
+    by (Some j) h = ap (λ (b : Bool). cond b (iteration_at j (slice_get path (length j))) None) (h j refl)
 
 pub walked_append : (w : OpenInstances) (xs ys : List Event) → walked_all w (xs ++ ys) ≡ walked_all (walked_all w xs) ys
 walked_append w [] ys = refl
@@ -124,20 +124,20 @@ get-after (suc n) (x ∷ xs) y ys l = get-after n xs y ys (omega (arith, l))
 -- where an iteration begins
 pub entered-turn : (j : List ℕ) (k : ℕ) (path : List ℕ) (o : OpenInstance) (under : List OpenInstance) → o.looping ≡ Some j → Begins (j ++ k ∷ []) path → opened_to path (stack o under) ≡ stack (begun (j ++ k ∷ []) Iterated o.before) (o ∷ under)
 entered-turn j k path o under e b =
-    ap (λ (l : Option (List ℕ)). pushed_turn (turn_on l path) (stack o under)) e
-    ∙ ap (λ (t : Bool). pushed_turn (cond t (turn_at j (slice_get path (length j))) None) (stack o under)) (ap (λ (p : List ℕ). starts j p) q ∙ starts-front j (k ∷ b.0))
-    ∙ ap (λ (m : Option ℕ). pushed_turn (turn_at j m) (stack o under)) (ap (λ (p : List ℕ). slice_get p (length j)) q ∙ get-after (length j) j k b.0 refl)
+    ap (λ (l : Option (List ℕ)). pushed_iteration (iteration_on l path) (stack o under)) e
+    ∙ ap (λ (t : Bool). pushed_iteration (cond t (iteration_at j (slice_get path (length j))) None) (stack o under)) (ap (λ (p : List ℕ). starts j p) q ∙ starts-front j (k ∷ b.0))
+    ∙ ap (λ (m : Option ℕ). pushed_iteration (iteration_at j m) (stack o under)) (ap (λ (p : List ℕ). slice_get p (length j)) q ∙ get-after (length j) j k b.0 refl)
   where
     q : path ≡ j ++ k ∷ b.0
     q = b.1 ∙ append_assoc j (k ∷ []) b.0
 
 -- the steps of the walk at a Spawn
 pub walked-spawn : (old v new : OpenInstances) (e : Event) (j path : List ℕ) (rank : ℕ) (top child : OpenInstance) → e ≡ event.Spawn j → pedigree_of e ≡ path ++ rank ∷ [] →
-    v ≡ opened_to path (left path old.top old.under) → top ≡ noted v.top e → child ≡ begun j Spawned top.before → new ≡ pushed (stack top v.under) child → new ≡ walked old e
+    v ≡ opened_to path (left path old.top old.under) → top ≡ after_event v.top e → child ≡ begun j Spawned top.before → new ≡ pushed (stack top v.under) child → new ≡ walked old e
 walked-spawn old v new e j path rank top child s p hv ht hc hn =
     hn
     ∙ ap (λ (c : OpenInstance). pushed (stack top v.under) c) hc
-    ∙ ap (λ (t : OpenInstance). pushed (stack t v.under) (begun j Spawned t.before)) (ht ∙ ap (λ (x : Event). noted v.top x) s)
+    ∙ ap (λ (t : OpenInstance). pushed (stack t v.under) (begun j Spawned t.before)) (ht ∙ ap (λ (x : Event). after_event v.top x) s)
     ∙ ap (λ (x : Event). went v x) (sym s)
     ∙ ap (λ (u : OpenInstances). went u e) hv
     ∙ ap (λ (l : List ℕ). went (opened_to l (left l old.top old.under)) e) (sym (path-is e path rank p))

@@ -1,6 +1,6 @@
 -- How an open instance's numbers stand to the events so far, and what an event, a child and a loop do to that.
 use Rattle.std.proofs.Common.{◌≡◌, ◌≤◌, ◌<◌, ◌+◌, ◌⊎◌, inl, inr, ℕ, List, [], ◌∷◌, ◌++◌, Some, length, max, refl, sym, subst, arith}
-use Rattle.serial_meaning.specs.Laws.{places}
+use Rattle.serial_meaning.specs.Laws.{raising_pedigrees}
 use Rattle.serial_meaning.proofs.RisingPedigrees.Rising.{Rise}
 use Rattle.serial_meaning.specs.declared.event.Event.{Event}
 use Rattle.serial_meaning.specs.declared.event.Event.TheVariants as event
@@ -11,7 +11,7 @@ use Rattle.span_report.specs.Series.{pedigree_of, Begins, IsOf, IsReady, InSerie
 use Rattle.span_report.proofs.LongestChains.Chains.{IsMost, IsPending, HasSynced}
 use Rattle.span_report.specs.Nested.{Instance}
 use Rattle.span_report.proofs.Nested.Clear.{IsClear}
-use Rattle.span_report.specs.Opens.{begun, joined, went_on, synced, turning}
+use Rattle.span_report.specs.Opens.{begun, joined, went_on, synced, looping_at}
 use Rattle.span_report.proofs.Belonging.Homes.{series-ready, ready-series, IsPresent}
 use Rattle.span_report.proofs.LongestChains.Most.{most-none, most-as, most-either, most-next}
 use Rattle.span_report.proofs.LongestChains.Ready.{ready-later, ready-self, ready-own, pending-ready, ready-synced}
@@ -138,7 +138,7 @@ module _ (all : List Event) where
   }
 
   -- where a loop begins
-  pub loop-begun : (from n m : ℕ) (o : OpenInstance) (path loop : List ℕ) → o.looped ≡ 0 → Holds from n m o path → HoldsLoop from n n m (turning loop o) path loop
+  pub loop-begun : (from n m : ℕ) (o : OpenInstance) (path loop : List ℕ) → o.looped ≡ 0 → Holds from n m o path → HoldsLoop from n n m (looping_at loop o) path loop
   loop-begun from n m o path loop z s = record {
     at = s.at;
     looping = refl;
@@ -163,7 +163,7 @@ module _ (all : List Event) where
   }
 
   -- Event number n is the one by which an instance began a child or a loop at a present path, whose events go on up to number `to`.
-  module _ (nested : IsClear all (Instance []) [] 0 all) (rise : Rise (places all)) (from n to m : ℕ) (home path : List ℕ) (rank : ℕ) (here : IsPresent all home path) (f : Fresh all n path rank) (l : from ≤ n) (u : n + 1 ≤ to) where
+  module _ (nested : IsClear all (Instance []) [] 0 all) (rise : Rise (raising_pedigrees all)) (from n to m : ℕ) (home path : List ℕ) (rank : ℕ) (here : IsPresent all home path) (f : Fresh all n path rank) (l : from ≤ n) (u : n + 1 ≤ to) where
     pub child-ended : (o : OpenInstance) (within : ℕ) → m ≤ n → IsOf all home n (event.Spawn (path ++ rank ∷ [])) → AreBelow all (n + 1) to (path ++ rank ∷ []) → Holds from (n + 1) m o home →
         IsMost all (λ i. Between all (n + 1) to i) within → Holds from to m (joined o Spawned within) home
     child-ended o within q h below s w = record {

@@ -3,7 +3,7 @@ use Rattle.std.proofs.Common.{◌≡◌, ◌≤◌, ◌<◌, ◌⊎◌, inl, inr
 use Rattle.std.proofs.lemmas.Bool.Decides.{nat_tests}
 use Rattle.std.specs.Prelude.{Contains}
 use Rattle.ped_path.specs.Path.{IsBefore}
-use Rattle.serial_meaning.specs.Laws.{places}
+use Rattle.serial_meaning.specs.Laws.{raising_pedigrees}
 use Rattle.serial_meaning.specs.Plan.{PlanView}
 use Rattle.serial_meaning.specs.Eval.{main_origin, elision}
 use Rattle.serial_meaning.proofs.Equations.Each.{each-contained}
@@ -27,27 +27,27 @@ rise-back : (xs ys : List (List ℕ)) → Rise (xs ++ ys) → Rise ys
 rise-back [] ys r = r
 rise-back (x ∷ xs) ys r = rise-back xs ys r.1
 
-before-contained : (i : List ℕ) (es : List Event) (e : Event) (j : List ℕ) → places (e ∷ []) ≡ j ∷ [] → Contains es e → BeforeAll i (places es) → IsBefore i j
+before-contained : (i : List ℕ) (es : List Event) (e : Event) (j : List ℕ) → raising_pedigrees (e ∷ []) ≡ j ∷ [] → Contains es e → BeforeAll i (raising_pedigrees es) → IsBefore i j
 before-contained i [] e j p c b = absurd (omega (arith, c.1))
-before-contained i (x ∷ es) e j p c b = from (cons-contained x e es c) (λ d. before-contained i es e j p d (before-back i (places (x ∷ [])) (places es) parts))
+before-contained i (x ∷ es) e j p c b = from (cons-contained x e es c) (λ d. before-contained i es e j p d (before-back i (raising_pedigrees (x ∷ [])) (raising_pedigrees es) parts))
   where
-    parts : BeforeAll i (places (x ∷ []) ++ places es)
+    parts : BeforeAll i (raising_pedigrees (x ∷ []) ++ raising_pedigrees es)
     parts = subst (BeforeAll i) (places-append (x ∷ []) es) b
 
     from : (x ≡ e) ⊎ Contains es e → (Contains es e → IsBefore i j) → IsBefore i j
-    from (inl q) later = (subst (λ (l : List (List ℕ)). BeforeAll i (l ++ places es)) (ap (λ (y : Event). places (y ∷ [])) q ∙ p) parts).0
+    from (inl q) later = (subst (λ (l : List (List ℕ)). BeforeAll i (l ++ raising_pedigrees es)) (ap (λ (y : Event). raising_pedigrees (y ∷ [])) q ∙ p) parts).0
     from (inr d) later = later d
 
 -- Where pedigrees rise, two different events that are no prints have different ones.
-apart : (es : List Event) (a b : Event) (j : List ℕ) → places (a ∷ []) ≡ j ∷ [] → places (b ∷ []) ≡ j ∷ [] → (a ≡ b → ⊥) → Rise (places es) → Contains es a → Contains es b → ⊥
+apart : (es : List Event) (a b : Event) (j : List ℕ) → raising_pedigrees (a ∷ []) ≡ j ∷ [] → raising_pedigrees (b ∷ []) ≡ j ∷ [] → (a ≡ b → ⊥) → Rise (raising_pedigrees es) → Contains es a → Contains es b → ⊥
 apart [] a b j p q d r c k = absurd (omega (arith, c.1))
-apart (x ∷ es) a b j p q d r c k = from (cons-contained x a es c) (cons-contained x b es k) (λ m n. apart es a b j p q d (rise-back (places (x ∷ [])) (places es) parts) m n)
+apart (x ∷ es) a b j p q d r c k = from (cons-contained x a es c) (cons-contained x b es k) (λ m n. apart es a b j p q d (rise-back (raising_pedigrees (x ∷ [])) (raising_pedigrees es) parts) m n)
   where
-    parts : Rise (places (x ∷ []) ++ places es)
+    parts : Rise (raising_pedigrees (x ∷ []) ++ raising_pedigrees es)
     parts = subst Rise (places-append (x ∷ []) es) r
 
-    first : (e : Event) → x ≡ e → places (e ∷ []) ≡ j ∷ [] → BeforeAll j (places es)
-    first e s t = (subst (λ (l : List (List ℕ)). Rise (l ++ places es)) (ap (λ (y : Event). places (y ∷ [])) s ∙ t) parts).0
+    first : (e : Event) → x ≡ e → raising_pedigrees (e ∷ []) ≡ j ∷ [] → BeforeAll j (raising_pedigrees es)
+    first e s t = (subst (λ (l : List (List ℕ)). Rise (l ++ raising_pedigrees es)) (ap (λ (y : Event). raising_pedigrees (y ∷ [])) s ∙ t) parts).0
 
     from : (x ≡ a) ⊎ Contains es a → (x ≡ b) ⊎ Contains es b → (Contains es a → Contains es b → ⊥) → ⊥
     from (inl e) (inl f) later = d (sym e ∙ f)
@@ -58,7 +58,7 @@ apart (x ∷ es) a b j p q d r c k = from (cons-contained x a es c) (cons-contai
 no-end : (xs : List ℕ) (y : ℕ) → [] ≡ xs ++ y ∷ [] → ⊥
 no-end xs y e = let l : length {A = ℕ} [] ≡ length (xs ++ y ∷ []) = ap (λ (k : List ℕ). length k) e in omega (arith, l, length-append xs (y ∷ []))
 
-module _ (all : List Event) (nested : IsClear all (Instance []) [] 0 all) (rise : Rise (places all)) where
+module _ (all : List Event) (nested : IsClear all (Instance []) [] 0 all) (rise : Rise (raising_pedigrees all)) where
   pub spawn-no-loop : (j : List ℕ) → Contains all (event.Spawn j) → Contains all (event.Loop j) → ⊥
   spawn-no-loop j c k = apart all (event.Spawn j) (event.Loop j) j refl refl (λ e. absurd (cc)) rise c k
 
@@ -141,5 +141,5 @@ module _ (all : List Event) (nested : IsClear all (Instance []) [] 0 all) (rise 
           by false g = fronts other path a.0 (r ∷ k ∷ xs) (sym a.1 ∙ after k xs) (grind (arith, nat_tests))
 
 -- The elision is such a list.
-pub elision-rise : (plan : PlanView) → Rise (places (elision plan).items)
+pub elision-rise : (plan : PlanView) → Rise (raising_pedigrees (elision plan).items)
 elision-rise plan = (eval-rises plan (main_origin plan)).rise

@@ -1,6 +1,6 @@
 -- At the path of a scope no event raises the rank, wherever in the run.
 use Rattle.std.proofs.Common.{◌≡◌, ◌≤◌, ◌<◌, ◌+◌, ℕ, List, [], ◌∷◌, ◌++◌, length, length-append, refl, sym, ◌∙◌, ap, arith, append_assoc}
-use Rattle.serial_meaning.specs.Laws.{places}
+use Rattle.serial_meaning.specs.Laws.{raising_pedigrees}
 use Rattle.serial_meaning.proofs.Equations.Each.{Each, each-append, each-map}
 use Rattle.serial_meaning.proofs.LeastFault.Left.{rank-same}
 use Rattle.serial_meaning.specs.declared.event.Event.{Event}
@@ -12,7 +12,7 @@ use Rattle.span_report.specs.Nested as of
 
 -- an event that raises the rank of the strand with this pedigree
 abbrev pub Raises : Event → List ℕ → Type 0
-Raises e j = places (e ∷ []) ≡ j ∷ []
+Raises e j = raising_pedigrees (e ∷ []) ≡ j ∷ []
 
 abbrev pub NotAt : List ℕ → Event → Type 0
 NotAt j e = Raises e j → ⊥

@@ -4,8 +4,8 @@ use Rattle.std.proofs.Common.{ℤ, pos}
 use Rattle.std.specs.Int.{w64, int_wrapping_add}
 use Rattle.serial_meaning.specs.Runs.{Run, done, after_items, goes_on, ◌then◌}
 use Rattle.serial_meaning.specs.Functions.{function_at}
-use Rattle.serial_meaning.specs.Exec.{State, goes_out, frame, exec, instance, filled}
-use Rattle.serial_meaning.specs.Eval.{Evaluation, serial, turns, eval_with, eval_below, depth_left, first_of, main_origin, elision}
+use Rattle.serial_meaning.specs.Exec.{State, goes_out, frame, exec, instance, with_loop_values}
+use Rattle.serial_meaning.specs.Eval.{Evaluation, serial, loop_evaluation, eval_with, eval_below, depth_left, first_value, main_origin, elision}
 use Rattle.serial_meaning.specs.Plan.{PlanView, functions_of, drawn}
 use Rattle.serial_meaning.proofs.Equations.RunLaws.{then-then}
 use Rattle.serial_meaning.proofs.RisingPedigrees.Closed.{Closed, closed-exec, returned-q}
@@ -96,8 +96,8 @@ module _ (plan : PlanView) (home : List ℕ) (child : Origin → Evaluation) (fi
     q-draw = λ path s. record { goes = λ es n. Steps home path s.rank (event.Draw (path ++ s.rank ∷ []) (drawn plan (path ++ s.rank ∷ []))) es (Draw (path ++ s.rank ∷ []) (drawn plan (path ++ s.rank ∷ []))) n };
     q-new = λ path s. record { goes = λ es n. Steps home path s.rank (event.New (path ++ s.rank ∷ [])) es (New (path ++ s.rank ∷ [])) n };
     p-join = λ path s. record { goes = λ es n. Steps home path s.rank (event.Sync (path ++ s.rank ∷ [])) es (Sync (path ++ s.rank ∷ [])) n };
-    q-child = λ path n vs s _. let o = origin.Instance n vs (path ++ s.rank ∷ []) in subst (λ (r : Run Event Fault (Value × State (Unit {0}))). Nests home path pair_rank s.rank (after_items (event.Spawn (path ++ s.rank ∷ []) ∷ []) r)) (sym (then-then (child o) (λ vs. done (first_of vs, s.spawned)) (λ r. done (r.0, record s { rank = s.rank + 1; spawned = r.1 })))) (with_child path pair_rank s.rank (event.Spawn (path ++ s.rank ∷ [])) (child o).items (child o).ending (λ vs. (first_of vs, record s { rank = s.rank + 1 })) (λ a. refl) (λ es m. Spawns home path s.rank (child o).items es (fine o) m));
-    p-loop = λ path n vs lo hi target s _. let o = origin.Loop n vs lo (path ++ s.rank ∷ []) (record { lo = 0; hi = hi }) in with_child path rank_of s.rank (event.Loop (path ++ s.rank ∷ [])) (child o).items (child o).ending (λ ws. record s { rank = s.rank + 1; env = filled target ws s.env }) (λ a. refl) (λ es m. Loops home path s.rank (child o).items es (fine o) m);
+    q-child = λ path n vs s _. let o = origin.Instance n vs (path ++ s.rank ∷ []) in subst (λ (r : Run Event Fault (Value × State (Unit {0}))). Nests home path pair_rank s.rank (after_items (event.Spawn (path ++ s.rank ∷ []) ∷ []) r)) (sym (then-then (child o) (λ vs. done (first_value vs, s.spawned)) (λ r. done (r.0, record s { rank = s.rank + 1; spawned = r.1 })))) (with_child path pair_rank s.rank (event.Spawn (path ++ s.rank ∷ [])) (child o).items (child o).ending (λ vs. (first_value vs, record s { rank = s.rank + 1 })) (λ a. refl) (λ es m. Spawns home path s.rank (child o).items es (fine o) m));
+    p-loop = λ path n vs lo hi target s _. let o = origin.Loop n vs lo (path ++ s.rank ∷ []) (record { lo = 0; hi = hi }) in with_child path rank_of s.rank (event.Loop (path ++ s.rank ∷ [])) (child o).items (child o).ending (λ ws. record s { rank = s.rank + 1; env = with_loop_values target ws s.env }) (λ a. refl) (λ es m. Loops home path s.rank (child o).items es (fine o) m);
     p-scope = λ path s r _ h. scope-nests path s r h;
     pp = λ path n r f h k. nests-then home path rank_of rank_of n r f h k;
     pq = λ path n r f h k. nests-then home path rank_of pair_rank n r f h k;
@@ -126,7 +126,7 @@ module _ (plan : PlanView) (home : List ℕ) (child : Origin → Evaluation) (fi
   instance-nests o vs = subst (IsNested (Instance home) home 0) (sym (same-items o vs)) (whole home home pair_rank 0 (run_of o vs) (frame-nests o vs start))
 
   -- the iterations of the loop with this pedigree
-  turns-nest : (function : ℕ) (rest : List Value) (first : ℤ) (k n : ℕ) → IsNested Iterations home k (turns child function rest first home k n).items
+  turns-nest : (function : ℕ) (rest : List Value) (first : ℤ) (k n : ℕ) → IsNested Iterations home k (loop_evaluation child function rest first home k n).items
   turns-nest function rest first k zero = Ends Iterations home k
   turns-nest function rest first k (suc n) = from (child o).ending (turns-nest function rest first (k + 1) n)
     where
@@ -134,10 +134,10 @@ module _ (plan : PlanView) (home : List ℕ) (child : Origin → Evaluation) (fi
       o = origin.Instance function (Int (int_wrapping_add w64 first (pos k)) ∷ rest) (home ++ k ∷ [])
 
       later : Evaluation
-      later = turns child function rest first home (k + 1) n
+      later = loop_evaluation child function rest first home (k + 1) n
 
-      from : (q : Result (List Value) Fault) → IsNested Iterations home (k + 1) (turns child function rest first home (k + 1) n).items →
-          IsNested Iterations home k (goes_on (child o).items q (λ vs. turns child function rest first home (k + 1) n then λ ws. done (vs ++ ws))).items
+      from : (q : Result (List Value) Fault) → IsNested Iterations home (k + 1) (loop_evaluation child function rest first home (k + 1) n).items →
+          IsNested Iterations home k (goes_on (child o).items q (λ vs. loop_evaluation child function rest first home (k + 1) n then λ ws. done (vs ++ ws))).items
       from (Ok vs) h = Iterates home k (child o).items (later then λ ws. done (vs ++ ws)).items (fine o) (subst (IsNested Iterations home (k + 1)) (sym (mapped later.items later.ending (λ ws. done (vs ++ ws)) (λ a. refl))) h)
       from (Err e) h = subst (IsNested Iterations home k) (append-nil (child o).items) (Iterates home k (child o).items [] (fine o) (Ends Iterations home (k + 1)))
 

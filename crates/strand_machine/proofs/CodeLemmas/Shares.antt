@@ -16,7 +16,7 @@ use Rattle.std.specs.contracts.option.Option as option
 use Rattle.strand_family.proofs.Shares.{family_sends, give_sends}
 use Rattle.strand_machine.proofs.work.Left.TheSendSync as left_shared
 use Rattle.strand_machine.specs.contracts.body.Body as body
-use Rattle.strand_machine.specs.contracts.destination.Destination as place
+use Rattle.strand_machine.specs.contracts.destination.Destination as destination
 use Rattle.strand_machine.specs.contracts.parts.Parts as parts
 use Rattle.strand_machine.specs.contracts.stop.Paused as paused
 use Rattle.strand_machine.specs.contracts.stop.Resumed as resumed
@@ -30,8 +30,8 @@ use Rattle.strand_machine.specs.contracts.work.InstanceState as stage
 use Rattle.strand_machine.specs.contracts.work.Work as work
 use Rattle.strand_moves.proofs.Shares.{instance_sends, maybe_target_sends}
 
-place_sends : IsSend place.the_row
-place_sends = variants_send place.enum ((search sendable, (maybe_target_sends, tt)), ((maybe_target_sends, tt), (tt, tt)))
+place_sends : IsSend destination.the_row
+place_sends = variants_send destination.enum ((search sendable, (maybe_target_sends, tt)), ((maybe_target_sends, tt), (tt, tt)))
 
 after_sends : IsSend after.the_row
 after_sends = declared_send after.the_type (place_sends, (out_shared.the_send, tt))

@@ -41,11 +41,11 @@ pub loop-is : (b : Body) (s : InstanceState) (i : Instance) (r : MoveOrStop) →
 loop-is b s i r e sound h = let k = stage-sound b s (stage.AtLoop i) e sound in stage-is b s (stage.AtLoop i) r e (wait-is b (work.Runs (stage.AtLoop i)) (work.Runs (stage.AtLoop i)) r k.works refl h)
 
 -- an end by a child's fault
-pub joined-ends : StepsAreSound → (b : Body) (s : InstanceState) (f : Fault) → s ≡ stage.ChildFaulted f → IsSound b (work.Runs s) → CanEnd b (outcome.Fault f)
-joined-ends law b s f e h = end-answers law b (work.Runs (stage.ChildFaulted f)) (outcome.Fault f) (stage-sound b s (stage.ChildFaulted f) e h) refl
+pub child_fault-ends : StepsAreSound → (b : Body) (s : InstanceState) (f : Fault) → s ≡ stage.ChildFaulted f → IsSound b (work.Runs s) → CanEnd b (outcome.Fault f)
+child_fault-ends law b s f e h = end-answers law b (work.Runs (stage.ChildFaulted f)) (outcome.Fault f) (stage-sound b s (stage.ChildFaulted f) e h) refl
 
-pub joined-is : (b : Body) (s : InstanceState) (f : Fault) (r : MoveOrStop) → s ≡ stage.ChildFaulted f → r ≡ ended b (outcome.Fault f) → GoesOn (view_of b (work.Runs s)) r
-joined-is b s f r e h = stage-is b s (stage.ChildFaulted f) r e (end-is b (work.Runs (stage.ChildFaulted f)) (outcome.Fault f) r refl h)
+pub child_fault-is : (b : Body) (s : InstanceState) (f : Fault) (r : MoveOrStop) → s ≡ stage.ChildFaulted f → r ≡ ended b (outcome.Fault f) → GoesOn (view_of b (work.Runs s)) r
+child_fault-is b s f r e h = stage-is b s (stage.ChildFaulted f) r e (end-is b (work.Runs (stage.ChildFaulted f)) (outcome.Fault f) r refl h)
 
 -- a task whose instance doesn't go on makes one move or stop
 pub stage-once : {X E : Type 0} (f : X → MoveOrStop) (b : Body) (s : InstanceState) (r : Result X E) → ((i : Instance) → s ≡ stage.Running i → ⊥) → IfOk r (λ x. GoesOn (view_of b (work.Runs s)) (f x)) → IfOk r (λ x. IsStep (view_of b (work.Runs s)) (f x))
@@ -59,5 +59,5 @@ stage-once f b (stage.ChildFaulted g) r other h = h
 pub work-once : {X E : Type 0} (f : X → MoveOrStop) (b : Body) (w : Work) (r : Result X E) → ((s : InstanceState) → w ≡ work.Runs s → ⊥) → IfOk r (λ x. GoesOn (view_of b w) (f x)) → IfOk r (λ x. IsStep (view_of b w) (f x))
 work-once f b (work.Splits left) r other h = h
 work-once f b (work.Runs s) r other h = absurd (other s refl)
-work-once f b (work.Over v gone_on) r other h = h
+work-once f b (work.Finished v gone_on) r other h = h
 work-once f b (work.Ends ended) r other h = h

@@ -42,7 +42,7 @@ use Rattle.strand_machine.specs.declared.stop.Stop.TheVariants as stop-in
 use Rattle.strand_machine.specs.Tasks.{view_of, fresh, cut_of, AwaitsLast, RunsAt, WorksAt, IsSound, task_of, task_with, work_of, gone, waiting, with_child, ended_by}
 use Rattle.strand_machine.specs.declared.body.Body.{Body}
 use Rattle.strand_machine.specs.declared.destination.Destination.{Destination}
-use Rattle.strand_machine.specs.declared.destination.Destination.TheVariants as place
+use Rattle.strand_machine.specs.declared.destination.Destination.TheVariants as destination
 use Rattle.strand_machine.specs.declared.work.InstanceState.TheVariants as stage
 use Rattle.strand_machine.specs.declared.work.Left.{Left}
 use Rattle.strand_machine.specs.declared.work.Work.{Work}
@@ -84,7 +84,7 @@ pub spawn-sound : StepsAreSound → (b : Body) (w next : Work) (child : Origin) 
     WorksAt b.family.plan b.family.origin next → IsOriginOf b.family.plan child × IsSound (with_child b child p) next
 spawn-sound law b w next child p h e works =
     let s = sound-step law b w (meaning.Stops (meaning.Spawn child (task_of (with_child b child p) next))) h e in
-    (s.0, record { task = s.1; family = awaits-more b.family b.trace.handed (record { child = child; place = destination_of p; after = [] }) h.family; works = works })
+    (s.0, record { task = s.1; family = awaits-more b.family b.trace.handed (record { child = child; destination = destination_of p; after = [] }) h.family; works = works })
 
 -- Ends
 
@@ -115,7 +115,7 @@ end-is b w o s e h = rw h (record { is = e ∙ ends-is (task_of b w) o; keeps = 
 pub works-on : (plan : PlanView) (o : Origin) (w : Work) → WorksAt plan o w → cut_of w ≡ None
 works-on plan o (work.Splits left) h = refl
 works-on plan o (work.Runs s) h = refl
-works-on plan o (work.Over v gone_on) h = refl
+works-on plan o (work.Finished v gone_on) h = refl
 works-on plan o (work.Ends ended) h = absurd h
 
 pub pass-is : (b : Body) (w next : Work) (s : MadeStep) → WorksAt b.family.plan b.family.origin next → meaning.step (task_of b w) ≡ meaning.Passes (task_of (gone b) next) → s ≡ step-in.Passes (view_of (gone b) next) → IsStep (view_of b w) s
@@ -135,18 +135,18 @@ only-half (Instance function args path) left = refl
 only-half (Loop function rest first path range) left = refl
 
 pub split-many : (b : Body) (left upper : Left) (lower : Range) (child : Origin) → 2 ≤ left.range.hi - left.range.lo → lower ≡ lower_half left.range → upper.range ≡ upper_half left.range → child ≡ only b.family.origin lower →
-    meaning.step (task_of b (work.Splits left)) ≡ meaning.Stops (meaning.Spawn child (task_of (with_child b child place.Half) (work.Splits upper)))
+    meaning.step (task_of b (work.Splits left)) ≡ meaning.Stops (meaning.Spawn child (task_of (with_child b child destination.Half) (work.Splits upper)))
 split-many b left upper lower child h l u c = by_size (left.range.hi - left.range.lo) refl h
   where
     same : child ≡ first_half b.family.origin left.range
     same = c ∙ ap (only b.family.origin) l ∙ only-half b.family.origin left.range
 
-    by_size : (n : ℕ) → left.range.hi - left.range.lo ≡ n → 2 ≤ n → split_step (task_of b (work.Splits left)) left.range n ≡ meaning.Stops (meaning.Spawn child (task_of (with_child b child place.Half) (work.Splits upper)))
+    by_size : (n : ℕ) → left.range.hi - left.range.lo ≡ n → 2 ≤ n → split_step (task_of b (work.Splits left)) left.range n ≡ meaning.Stops (meaning.Spawn child (task_of (with_child b child destination.Half) (work.Splits upper)))
     by_size zero e g = absurd (omega arith)
     by_size (suc zero) e g = absurd (omega arith)
     by_size (suc (suc n)) e g =
-        ap (λ (o : Origin). meaning.Stops (meaning.Spawn o (task_with (with_child b o place.Half) (meaning.Splits (upper_half left.range))))) (sym same)
-        ∙ ap (λ (r : Range). meaning.Stops (meaning.Spawn child (task_with (with_child b child place.Half) (meaning.Splits r)))) (sym u)
+        ap (λ (o : Origin). meaning.Stops (meaning.Spawn o (task_with (with_child b o destination.Half) (meaning.Splits (upper_half left.range))))) (sym same)
+        ∙ ap (λ (r : Range). meaning.Stops (meaning.Spawn child (task_with (with_child b child destination.Half) (meaning.Splits r)))) (sym u)
 
 pub split-none : (b : Body) (left : Left) → left.range.hi - left.range.lo ≡ 0 → meaning.step (task_of b (work.Splits left)) ≡ ends (task_of b (work.Splits left)) (outcome.Values b.values)
 split-none b left e = ap (split_step (task_of b (work.Splits left)) left.range) e
@@ -190,16 +190,16 @@ over-ends t v (Loop function rest first path range) h = by_size (range.hi - rang
     by_size (suc (suc n)) g k = absurd (true≢false (long n ∙ rw g at k))
 
 pub over-long : (b : Body) (v : Value) (gone_on : Bool) → gone_on ≡ false → is_long b.family.origin ≡ true →
-    meaning.step (task_of b (work.Over v gone_on)) ≡ meaning.Stops (meaning.Wait (task_of (waiting b) (work.Over v false)))
+    meaning.step (task_of b (work.Finished v gone_on)) ≡ meaning.Stops (meaning.Wait (task_of (waiting b) (work.Finished v false)))
 over-long b v true e h = absurd (true≢false e)
-over-long b v false e h = over-waits (task_of b (work.Over v false)) v b.family.origin h
+over-long b v false e h = over-waits (task_of b (work.Finished v false)) v b.family.origin h
 
 pub over-short : (b : Body) (v : Value) (gone_on : Bool) → gone_on ≡ false → is_long b.family.origin ≡ false →
-    meaning.step (task_of b (work.Over v gone_on)) ≡ ends (task_of b (work.Over v gone_on)) (outcome.Values (b.values ++ v ∷ []))
+    meaning.step (task_of b (work.Finished v gone_on)) ≡ ends (task_of b (work.Finished v gone_on)) (outcome.Values (b.values ++ v ∷ []))
 over-short b v true e h = absurd (true≢false e)
-over-short b v false e h = over-ends (task_of b (work.Over v false)) v b.family.origin h
+over-short b v false e h = over-ends (task_of b (work.Finished v false)) v b.family.origin h
 
-pub over-on : (b : Body) (v : Value) (gone_on : Bool) → gone_on ≡ true → meaning.step (task_of b (work.Over v gone_on)) ≡ ends (task_of b (work.Over v gone_on)) (outcome.Values (b.values ++ v ∷ []))
+pub over-on : (b : Body) (v : Value) (gone_on : Bool) → gone_on ≡ true → meaning.step (task_of b (work.Finished v gone_on)) ≡ ends (task_of b (work.Finished v gone_on)) (outcome.Values (b.values ++ v ∷ []))
 over-on b v true e = refl
 over-on b v false e = absurd (true≢false (sym e))
 
@@ -210,7 +210,7 @@ pub give-instance : (b : Body) (v : Value) (function : ℕ) (args : List Value) 
 give-instance b v function args path e = ap (λ (o : Origin). gave (task_of b (work.Runs (stage.Returned v))) o v) e
 
 pub give-loop : (b : Body) (v : Value) (function : ℕ) (rest : List Value) (first : ℤ) (path : List ℕ) (range : Range) → b.family.origin ≡ Loop function rest first path range →
-    meaning.step (task_of b (work.Runs (stage.Returned v))) ≡ meaning.Passes (task_of (gone b) (work.Over v false))
+    meaning.step (task_of b (work.Runs (stage.Returned v))) ≡ meaning.Passes (task_of (gone b) (work.Finished v false))
 give-loop b v function rest first path range e = ap (λ (o : Origin). gave (task_of b (work.Runs (stage.Returned v))) o v) e
 
 pub fault-alone : (b : Body) (f : Fault) → b.trace.handed ≡ [] → meaning.step (task_of b (work.Runs (stage.Faulted f))) ≡ ends (task_of b (work.Runs (stage.Faulted f))) (outcome.Fault f)

@@ -19,9 +19,9 @@ use Rattle.strand_moves.specs.Machines as moves
 use Rattle.strand_moves.specs.Moves.{IsTrailOf, MovesTrail, ShowsTrail, effects_of, run_of}
 use Rattle.strand_moves.specs.Rows as rows
 use Rattle.strand_moves.specs.Rows.{Row, Still, More, Emits}
-use Rattle.strand_moves.specs.Running as running
+use Rattle.strand_moves.specs.InstanceParts as instance_parts
 use Rattle.strand_moves.specs.declared.instance.Instance.{Instance as RawInstance}
-use Rattle.strand_moves.specs.declared.running.Running.{Running}
+use Rattle.strand_moves.specs.declared.instance_parts.InstanceParts.{InstanceParts}
 use Rattle.strand_moves.proofs.Cursors.Passing.{comes-has, comes-moved, comes-path, comes-sound}
 use Rattle.strand_moves.specs.declared.effects.LoopedChild.{LoopedChild}
 use Rattle.strand_moves.specs.declared.effects.SpawnedChild.{SpawnedChild}
@@ -37,7 +37,7 @@ use Rattle.strand_machine.specs.Stops.{IsStep, KeepsStep, step_of}
 use Rattle.strand_machine.specs.Tasks.{TaskView, task_of, view_of, fresh, cut_of, AwaitsLast, RunsAt, IsSound, gone, waiting, with_child}
 use Rattle.strand_machine.specs.declared.body.Body.{Body}
 use Rattle.strand_machine.specs.declared.destination.Destination.{Destination}
-use Rattle.strand_machine.specs.declared.destination.Destination.TheVariants as place
+use Rattle.strand_machine.specs.declared.destination.Destination.TheVariants as destination
 use Rattle.strand_machine.specs.declared.stop.MoveOrStop.{MoveOrStop as MadeStep}
 use Rattle.strand_machine.specs.declared.stop.MoveOrStop.TheVariants as step-in
 use Rattle.strand_machine.specs.declared.stop.Stop.TheVariants as stop-in
@@ -140,20 +140,20 @@ module _ (b : Body) (i : RawInstance) where
   spawned-trail s e o is h = let k : HasSoundEffects b i (shown-in.Spawned e o) = subst (HasSoundEffects b i) is h in k.trail
 
   spawned-at : (e : Event) (o : SpawnedChild) → HasSoundEffects b i (shown-in.Spawned e o) →
-      IsSound (with_child (with_trace b (emit e b.trace)) o.child.origin (place.Spawned o.height o.target)) goes
+      IsSound (with_child (with_trace b (emit e b.trace)) o.child.origin (destination.Spawned o.height o.target)) goes
   spawned-at e o h = record {
     task = h.task;
-    family = awaits-more b.family (emit e b.trace).handed (record { child = o.child.origin; place = destination_of (place.Spawned o.height o.target); after = [] }) (awaits-emitted b.family b.trace e h.family);
+    family = awaits-more b.family (emit e b.trace).handed (record { child = o.child.origin; destination = destination_of (destination.Spawned o.height o.target); after = [] }) (awaits-emitted b.family b.trace e h.family);
     works = h.runs;
   }
 
   pub spawned-sound : (s : Effects) (e : Event) (o : SpawnedChild) (p : Trace) → s ≡ shown-in.Spawned e o → p ≡ emit e b.trace → HasSoundEffects b i s →
-      IsSound (with_child (with_trace b p) o.child.origin (place.Spawned o.height o.target)) goes
+      IsSound (with_child (with_trace b p) o.child.origin (destination.Spawned o.height o.target)) goes
   spawned-sound s e o p is q h =
-      subst (λ (x : Trace). IsSound (with_child (with_trace b x) o.child.origin (place.Spawned o.height o.target)) goes) (sym q) (spawned-at e o (subst (HasSoundEffects b i) is h))
+      subst (λ (x : Trace). IsSound (with_child (with_trace b x) o.child.origin (destination.Spawned o.height o.target)) goes) (sym q) (spawned-at e o (subst (HasSoundEffects b i) is h))
 
   pub spawned-step : (s : Effects) (e : Event) (o : SpawnedChild) (p : Trace) (r : MadeStep) → s ≡ shown-in.Spawned e o → p ≡ emit e b.trace →
-      r ≡ step-in.Stops (stop-in.Spawn (fresh b.family.plan o.child.origin) (view_of (with_child (with_trace b p) o.child.origin (place.Spawned o.height o.target)) goes)) →
+      r ≡ step-in.Stops (stop-in.Spawn (fresh b.family.plan o.child.origin) (view_of (with_child (with_trace b p) o.child.origin (destination.Spawned o.height o.target)) goes)) →
       step_of r ≡ stops_at (child_in (effects_of s)) (task_after_effects b i s)
   spawned-step s e o p r is q h = rw (h, q, is) refl
 
@@ -169,20 +169,20 @@ module _ (b : Body) (i : RawInstance) where
   looped-trail s e o is h = let k : HasSoundEffects b i (shown-in.Looped e o) = subst (HasSoundEffects b i) is h in k.trail
 
   looped-at : (e : Event) (o : LoopedChild) → HasSoundEffects b i (shown-in.Looped e o) →
-      IsSound (with_child (with_trace b (emit e b.trace)) o.child.origin (place.Looped o.target)) at-loop
+      IsSound (with_child (with_trace b (emit e b.trace)) o.child.origin (destination.Looped o.target)) at-loop
   looped-at e o h = record {
     task = h.task;
-    family = awaits-more b.family (emit e b.trace).handed (record { child = o.child.origin; place = destination_of (place.Looped o.target); after = [] }) (awaits-emitted b.family b.trace e h.family);
+    family = awaits-more b.family (emit e b.trace).handed (record { child = o.child.origin; destination = destination_of (destination.Looped o.target); after = [] }) (awaits-emitted b.family b.trace e h.family);
     works = h.runs;
   }
 
   pub looped-sound : (s : Effects) (e : Event) (o : LoopedChild) (p : Trace) → s ≡ shown-in.Looped e o → p ≡ emit e b.trace → HasSoundEffects b i s →
-      IsSound (with_child (with_trace b p) o.child.origin (place.Looped o.target)) at-loop
+      IsSound (with_child (with_trace b p) o.child.origin (destination.Looped o.target)) at-loop
   looped-sound s e o p is q h =
-      subst (λ (x : Trace). IsSound (with_child (with_trace b x) o.child.origin (place.Looped o.target)) at-loop) (sym q) (looped-at e o (subst (HasSoundEffects b i) is h))
+      subst (λ (x : Trace). IsSound (with_child (with_trace b x) o.child.origin (destination.Looped o.target)) at-loop) (sym q) (looped-at e o (subst (HasSoundEffects b i) is h))
 
   pub looped-step : (s : Effects) (e : Event) (o : LoopedChild) (p : Trace) (r : MadeStep) → s ≡ shown-in.Looped e o → p ≡ emit e b.trace →
-      r ≡ step-in.Stops (stop-in.Spawn (fresh b.family.plan o.child.origin) (view_of (with_child (with_trace b p) o.child.origin (place.Looped o.target)) at-loop)) →
+      r ≡ step-in.Stops (stop-in.Spawn (fresh b.family.plan o.child.origin) (view_of (with_child (with_trace b p) o.child.origin (destination.Looped o.target)) at-loop)) →
       step_of r ≡ stops_at (child_in (effects_of s)) (task_after_effects b i s)
   looped-step s e o p r is q h = rw (h, q, is) refl
 
@@ -320,8 +320,8 @@ module _ (first : TaskView) (b : Body) (i : RawInstance) (h : IsOnRun first b i)
 -- Moves in a row that show nothing, or an event alone
 
 -- the instance with this in its box
-abbrev pub holding : RawInstance → Running → RawInstance
-holding i r = record i { running = record i.running { value = r } }
+abbrev pub holding : RawInstance → InstanceParts → RawInstance
+holding i r = record i { parts = record i.parts { value = r } }
 
 moved-gone : (t : meaning.Task) (effects : List Effect) (ending : Result Reached Fault) → meaning.moved t effects ending ≡ meaning.moved (record t { advanced = true }) effects ending
 moved-gone t effects (Ok (Stands m)) = refl
@@ -366,9 +366,9 @@ abbrev after : Event → Trace → Trace
 after e trace = emit e trace
 
 module _ (law : StepsAreSound) (fall : MovesFall) (plan : PlanView) (first : TaskView) (b : Body) (i : RawInstance) (p : plan ≡ b.family.plan) (h : IsOnRun first (gone b) i) where
-  row-on : (now : Running) (trace : Trace) → Row after plan i.running.value b.trace now trace → IsOnRun first (gone (with_trace b trace)) (holding i now)
+  row-on : (now : InstanceParts) (trace : Trace) → Row after plan i.parts.value b.trace now trace → IsOnRun first (gone (with_trace b trace)) (holding i now)
   row-on now trace (Still _ _ e q) =
-      subst (λ (x : Trace). IsOnRun first (gone (with_trace b x)) (holding i now)) (sym q) (subst (λ (r : Running). IsOnRun first (gone b) (holding i r)) (sym e) h)
+      subst (λ (x : Trace). IsOnRun first (gone (with_trace b x)) (holding i now)) (sym q) (subst (λ (r : InstanceParts). IsOnRun first (gone b) (holding i r)) (sym e) h)
   row-on now trace (More before _ _ row e path sound) =
       let k = row-on before trace row in
       still-on (gone (with_trace b trace)) (holding i before) (holding i now) plan (moved-in.Went shown-in.Nothing) p e k.sound law fall first k.leads shown-in.Nothing refl refl path sound tt
@@ -377,7 +377,7 @@ module _ (law : StepsAreSound) (fall : MovesFall) (plan : PlanView) (first : Tas
       tells-on (gone (with_trace b heard)) (holding i before) (holding i now) plan (moved-in.Went (shown-in.Emitted t)) p e k.sound law fall first k.leads (shown-in.Emitted t) t trace refl refl q path sound tt
 
 -- where the moves in a row came to, before the last one
-pub row-run : StepsAreSound → MovesFall → (plan : PlanView) (b : Body) (i : RawInstance) → plan ≡ b.family.plan → IsSound b (work.Runs (stage.Running i)) → (now : Running) (trace : Trace) → Row after plan i.running.value b.trace now trace →
+pub row-run : StepsAreSound → MovesFall → (plan : PlanView) (b : Body) (i : RawInstance) → plan ≡ b.family.plan → IsSound b (work.Runs (stage.Running i)) → (now : InstanceParts) (trace : Trace) → Row after plan i.parts.value b.trace now trace →
     IsOnRun (view_of b (work.Runs (stage.Running i))) (gone (with_trace b trace)) (holding i now)
 row-run law fall plan b i p sound now trace row =
     let first = view_of b (work.Runs (stage.Running i)) in
@@ -396,28 +396,28 @@ pub record IsLast (first : TaskView) (b : Body) (left : ℕ) (plan : PlanView) (
   pub sound : moves.IsInstance plan new
 
 -- The instance to which moves in a row came, which a spawn may have looked at since, and one move more of it.
-module _ (law : StepsAreSound) (fall : MovesFall) (plan : PlanView) (first : TaskView) (b : Body) (i : RawInstance) (p : plan ≡ b.family.plan) (h : IsOnRun first b i) (now : RawInstance) (sent : Trace) (next : Option Stmt) (came : moves.ComesToStatement after plan i b.trace now sent next) (from : RawInstance) (same : from.running.value ≡ now.running.value) where
+module _ (law : StepsAreSound) (fall : MovesFall) (plan : PlanView) (first : TaskView) (b : Body) (i : RawInstance) (p : plan ≡ b.family.plan) (h : IsOnRun first b i) (now : RawInstance) (sent : Trace) (next : Option Stmt) (came : moves.ComesToStatement after plan i b.trace now sent next) (from : RawInstance) (same : from.parts.value ≡ now.parts.value) where
   pub came-sound : moves.IsInstance plan from
-  came-sound = subst (λ (r : Running). running.IsInstance plan r) (sym same) (comes-sound after plan i.running.value b.trace now.running.value sent next came)
+  came-sound = subst (λ (r : InstanceParts). instance_parts.IsInstance plan r) (sym same) (comes-sound after plan i.parts.value b.trace now.parts.value sent next came)
 
   pub came-has : (at : Option Stmt) → next ≡ at → moves.HasPassedStatement plan from at
   came-has at is =
-      subst (λ (o : Option Stmt). rows.HasPassedStatement plan from.running.value o) is
-      (subst (λ (r : Running). rows.HasPassedStatement plan r next) (sym same) (comes-has after plan i.running.value b.trace now.running.value sent next came))
+      subst (λ (o : Option Stmt). rows.HasPassedStatement plan from.parts.value o) is
+      (subst (λ (r : InstanceParts). rows.HasPassedStatement plan r next) (sym same) (comes-has after plan i.parts.value b.trace now.parts.value sent next came))
 
   pub one-more : (at : Option Stmt) → next ≡ at → (new : RawInstance) (m : MoveResult) → move plan (moves.path_of from) (moves.unpassed plan from at) ≡ run_of m (moves.machine_of plan new) → moves.path_of new ≡ moves.path_of from → moves.IsInstance plan new →
       IsLast first (gone (with_trace b sent)) (moves_left (task_of b (work.Runs (stage.Running i)))) plan m new
   one-more at is new m e path sound =
-      let k : move plan (running.path_of now.running.value) (rows.unpassed plan now.running.value next) ≡ run_of m (moves.machine_of plan new) =
-      subst (λ (o : Option Stmt). move plan (running.path_of now.running.value) (rows.unpassed plan now.running.value o) ≡ run_of m (moves.machine_of plan new)) (sym is)
-      (subst (λ (r : Running). move plan (running.path_of r) (rows.unpassed plan r at) ≡ run_of m (moves.machine_of plan new)) same e) in
-      let r : moves.RunsOn after plan i b.trace m new sent = comes-moved after plan i.running.value b.trace now.running.value sent next came {E = Unit {0}} (Ok m) new.running.value k in
+      let k : move plan (instance_parts.path_of now.parts.value) (rows.unpassed plan now.parts.value next) ≡ run_of m (moves.machine_of plan new) =
+      subst (λ (o : Option Stmt). move plan (instance_parts.path_of now.parts.value) (rows.unpassed plan now.parts.value o) ≡ run_of m (moves.machine_of plan new)) (sym is)
+      (subst (λ (r : InstanceParts). move plan (instance_parts.path_of r) (rows.unpassed plan r at) ≡ run_of m (moves.machine_of plan new)) same e) in
+      let r : moves.RunsOn after plan i b.trace m new sent = comes-moved after plan i.parts.value b.trace now.parts.value sent next came {E = Unit {0}} (Ok m) new.parts.value k in
       let q = row-run law fall plan b i p h.sound r.before sent r.row in
       record {
         before = holding i r.before;
         runs = on-run-over first b (gone (with_trace b sent)) i (holding i r.before) h q;
         fewer = q.leads.fewer;
         last = r.last;
-        path = path ∙ ap (λ (r : Running). running.path_of r) same ∙ comes-path after plan i.running.value b.trace now.running.value sent next came ∙ h.sound.works.at ∙ sym q.sound.works.at;
+        path = path ∙ ap (λ (r : InstanceParts). instance_parts.path_of r) same ∙ comes-path after plan i.parts.value b.trace now.parts.value sent next came ∙ h.sound.works.at ∙ sym q.sound.works.at;
         sound = sound;
       }

@@ -10,7 +10,7 @@ use Rattle.strand_meaning.specs.Sound.{IsTask}
 use Rattle.strand_meaning.specs.Task as meaning
 use Rattle.strand_meaning.specs.Task.{Task, start, begun_work}
 use Rattle.strand_meaning.specs.Laws.{TasksBegin, ValidPlansAreClear}
-use Rattle.strand_machine.specs.Family.{FamilyView, alone}
+use Rattle.strand_machine.specs.Family.{FamilyView, childless}
 use Rattle.strand_machine.specs.Tasks.{fresh, cut_of, work_of, task_of, view_of, WorksAt, IsSound}
 use Rattle.strand_machine.specs.declared.body.Body.{Body}
 use Rattle.strand_machine.specs.declared.work.Work.{Work}
@@ -18,11 +18,11 @@ use Rattle.strand_machine.specs.declared.work.Work.{Work}
 abbrev pub new_body : FamilyView → Trace → Body
 new_body family trace = record { family = family; trace = trace; values = []; waiting = false; advanced = false }
 
-module _ (plan : PlanView) (o : Origin) (w : Work) (family : FamilyView) (trace : Trace) (f : family ≡ alone plan o) (p : trace ≡ no_trace) (e : work_of plan w ≡ begun_work plan o) where
-  same : new_body family trace ≡ new_body (alone plan o) no_trace
-  same = ap (λ g. new_body g trace) f ∙ ap (new_body (alone plan o)) p
+module _ (plan : PlanView) (o : Origin) (w : Work) (family : FamilyView) (trace : Trace) (f : family ≡ childless plan o) (p : trace ≡ no_trace) (e : work_of plan w ≡ begun_work plan o) where
+  same : new_body family trace ≡ new_body (childless plan o) no_trace
+  same = ap (λ g. new_body g trace) f ∙ ap (new_body (childless plan o)) p
 
-  task-is : task_of (new_body (alone plan o) no_trace) w ≡ start plan o
+  task-is : task_of (new_body (childless plan o) no_trace) w ≡ start plan o
   task-is = ap (λ (work : meaning.Work). record { plan = plan; origin = o; trace = no_trace; values = []; work = work; waiting = false; advanced = false }) e
 
   pub start-view : cut_of w ≡ None → view_of (new_body family trace) w ≡ fresh plan o

@@ -22,7 +22,8 @@ use Rattle.strand_meaning.specs.Task as meaning
 use Rattle.strand_meaning.specs.Task.{Task, Stop, IsNext, Now, Later, own_instance, stage_after, child_in, stops_at, passing, moved, ends_unless, faults_after, gave, stage_step, split_step, over_step, work_step}
 use Rattle.strand_machine.specs.Family.{tag}
 use Rattle.strand_machine.specs.Made.{IsRun, LeadsTo, GoesOn, stage_goes_on, work_goes_on}
-use Rattle.strand_machine.specs.Stops.{IsStep, IsStop, IsKnownStop, Advances, advances, Keeps, stop_of}
+use Rattle.strand_machine.specs.Stops.{IsStep, IsStop, IsKnownStop, Advances, Keeps, stop_of}
+use Rattle.strand_machine.proofs.NextStops.ByCut.{advances-so}
 use Rattle.strand_machine.specs.Tasks.{TaskView, Holds, IsCutShort, IsSound, fresh, is_cut_short, cut_of, view_of}
 use Rattle.strand_machine.specs.declared.body.Body.{Body}
 use Rattle.strand_machine.specs.declared.work.Work.{Work}
@@ -85,8 +86,8 @@ module _ (t : Task) where
   of-work : (work : meaning.Work) → KeepsOf t (work_step t work)
   of-work (meaning.Splits left) = of-split left (left.hi - left.lo)
   of-work (meaning.Runs stage) = of-stage stage
-  of-work (meaning.Over v true) = of-ends t.trace.fault _
-  of-work (meaning.Over v false) = of-over v t.origin
+  of-work (meaning.Finished v true) = of-ends t.trace.fault _
+  of-work (meaning.Finished v false) = of-over v t.origin
 
 pass-of : (t next : Task) → meaning.step t ≡ meaning.Passes next → IsOf t next
 pass-of t next e = subst (KeepsOf t) e (of-work t t.work)
@@ -166,7 +167,7 @@ runs now s goes g = by_work now.task.work g
     by_work : (work : meaning.Work) → work_goes_on work now s → IsRun now s
     by_work (meaning.Splits left) h = one-step now s goes h
     by_work (meaning.Runs stage) h = by_stage stage h
-    by_work (meaning.Over v gone_on) h = one-step now s goes h
+    by_work (meaning.Finished v gone_on) h = one-step now s goes h
 
 pub run-leads : MovesFall → (first now next : TaskView) (s : MadeStep) → LeadsTo first now → GoesOn now s → s ≡ step-in.Passes next → LeadsTo first next
 run-leads law first now next s h g e =
@@ -186,13 +187,13 @@ run-stops law first now s stop sound h g e =
 pub holds-sound : (b : Body) (w : Work) → cut_of w ≡ None → Holds b w → IsSound b w
 holds-sound b (work.Splits left) e h = h
 holds-sound b (work.Runs s) e h = h
-holds-sound b (work.Over v gone_on) e h = h
+holds-sound b (work.Finished v gone_on) e h = h
 holds-sound b (work.Ends ended) e h = absurd (cc)
 
 pub sound_holds : (b : Body) (w : Work) → IsSound b w → Holds b w
 sound_holds b (work.Splits left) h = h
 sound_holds b (work.Runs s) h = h
-sound_holds b (work.Over v gone_on) h = h
+sound_holds b (work.Finished v gone_on) h = h
 sound_holds b (work.Ends ended) h = absurd h.works
 
 pub is-sound : (b : Body) (w : Work) (t : TaskView) → view_of b w ≡ t → t.cut ≡ None → Holds b w → IsSound b w
@@ -205,7 +206,7 @@ is-task b w t view goes h = subst (λ (v : TaskView). IsTask v.task) view (is-so
 pub waits-sound : (b : Body) (w : Work) (t : TaskView) → view_of b w ≡ t → t.task.waiting ≡ true → Holds b w → IsSound b w
 waits-sound b (work.Splits left) t view waits h = h
 waits-sound b (work.Runs s) t view waits h = h
-waits-sound b (work.Over v gone_on) t view waits h = h
+waits-sound b (work.Finished v gone_on) t view waits h = h
 waits-sound b (work.Ends ended) t view waits h = absurd (true≢false (sym waits ∙ ap (λ (v : TaskView). v.task.waiting) (sym view) ∙ h.waits))
 
 -- one that took none, and one that did
@@ -217,7 +218,7 @@ pub goes-on-uncut : (o : Option Outcome) (r : Bool) → r ≡ is_cut_short o →
 goes-on-uncut o r e f = not-cut o (sym e ∙ f)
 
 pub advances-uncut : (t : TaskView) (stop : MadeStop) → t.cut ≡ None → IsStop t stop → Advances t stop
-advances-uncut t stop e h = subst (λ (o : Option Outcome). advances o t stop) (sym e) h
+advances-uncut t stop e h = advances-so t stop None e h
 
 -- one that took a cut ends so
 
@@ -227,7 +228,7 @@ is-short b w t view short other = by_work w (ap (λ (v : TaskView). is_cut_short
     by_work : (x : Work) → is_cut_short (cut_of x) ≡ true → ((o : Outcome) → x ≡ work.Ends o → ⊥) → ⊥
     by_work (work.Splits left) e h = true≢false (sym e)
     by_work (work.Runs s) e h = true≢false (sym e)
-    by_work (work.Over v gone_on) e h = true≢false (sym e)
+    by_work (work.Finished v gone_on) e h = true≢false (sym e)
     by_work (work.Ends o) e h = h o refl
 
 held-short : (b : Body) (w : Work) (o : Outcome) → w ≡ work.Ends o → Holds b w → IsCutShort b o
@@ -238,8 +239,8 @@ short-answers b w o prefix is same h = subst (λ (es : List Event). IsAnswer b.f
 
 pub short-ends : (b : Body) (w : Work) (o : Outcome) (t : TaskView) → view_of b w ≡ t → w ≡ work.Ends o → Holds b w → (prefix : List Event) (answer : AnswerView) (give : AnswerTag) → prefix ≡ b.trace.prefix →
     answer ≡ record { plan = b.family.plan; origin = b.family.origin; out = prefix; outcome = o } → give ≡ tag b.family.plan b.family.origin → Advances t (stop-in.Done answer give)
-short-ends b w o t view is h prefix answer give same e g = subst (λ (v : TaskView). Advances v (stop-in.Done answer give)) view (subst (λ (x : Work). Advances (view_of b x) (stop-in.Done answer give)) (sym is) (record {
+short-ends b w o t view is h prefix answer give same e g = subst (λ (v : TaskView). Advances v (stop-in.Done answer give)) view (subst (λ (x : Work). Advances (view_of b x) (stop-in.Done answer give)) (sym is) (advances-so (view_of b (work.Ends o)) (stop-in.Done answer give) (Some o) refl (record {
   is = ap (λ (a : AnswerView). stop-in.Done a give) (e ∙ ap (λ (es : List Event). record { plan = b.family.plan; origin = b.family.origin; out = es; outcome = o }) same)
       ∙ ap (λ (y : AnswerTag). stop-in.Done (record { plan = b.family.plan; origin = b.family.origin; out = b.trace.prefix; outcome = o }) y) g;
   known = (held-short b w o is h).known;
-}))
+})))

@@ -8,7 +8,7 @@ use Rattle.strand_meaning.specs.Cuts.{IsByFaultOf}
 use Rattle.strand_meaning.specs.Laws.{IsFaultOf}
 use Rattle.strand_machine.specs.Family.{FamilyView, tag}
 use Rattle.strand_machine.specs.Made.{KeepsAnswer, KnowsEnd, PausesAs, StopsSo, made}
-use Rattle.strand_machine.specs.Stops.{Advances, HasEnded, IsCutEnd, IsStop, Pauses, advances}
+use Rattle.strand_machine.specs.Stops.{Advances, HasEnded, IsCutEnd, IsStop, Pauses}
 use Rattle.strand_machine.specs.Tasks.{Holds, TaskView, cut_of, ended_by, is_cut_short, view_of}
 use Rattle.strand_machine.specs.declared.body.Body.{Body}
 use Rattle.strand_machine.specs.declared.parts.Parts.{Parts}
@@ -51,7 +51,7 @@ kept-end t rest a give h k =
 -- What a task answers that has ended is its next stop.
 pub ended-stop : (t rest : TaskView) (s : Stop) → HasEnded t rest → Advances rest s → IsStop t s
 ended-stop t rest s h a =
-    let end : IsCutEnd rest h.outcome s = subst (λ (o : Option Outcome). advances o rest s) h.cut a in
+    let end : IsCutEnd rest h.outcome s = a.has_ended h.outcome h.cut in
     subst (IsStop t) (sym end.is) h.stop
 
 -- What the code makes of a stop.

@@ -1,10 +1,10 @@
 -- What is seen of a pedigree, item by item.
 use Rattle.std.proofs.Common.{◌≡◌, ℕ, zero, suc, ◌+◌, ◌-◌, ◌<◌, ◌≤◌, Bool, true, false, ◌||◌, ◌&&◌, nat_eq, nat_lt, bytes_eq, List, [], ◌∷◌, ◌++◌, Option, Some, None, refl, sym, ap, ◌∙◌, arith, if◌then◌else◌}
 use Rattle.std.proofs.lemmas.Bool.{eq-eqb, eqb-true, lt-ltb, ltb-false, ltb-true}
-use Rattle.serial_meaning.specs.Open.{Item, Happened, Child, Opened, Closed, led_to, risen, without_last}
+use Rattle.serial_meaning.specs.Open.{Item, Happened, Child, Opened, Closed, led_to, raised, without_last}
 use Rattle.serial_meaning.specs.declared.event.Event.TheVariants as event
 use Rattle.serial_meaning.specs.declared.event.Event.{Event}
-use Rattle.strand_meaning.specs.Strands.{ended_before, is_one_of, last_place, own_events, pedigree_of}
+use Rattle.strand_meaning.specs.Strands.{ended_before, is_one_of, last_pedigree, own_events, pedigree_of}
 use Rattle.strand_meaning.proofs.Unfilled.Clears.{or-assoc}
 use Rattle.strand_machine.specs.Eyes.{ahead_of, goes_to, is_none_ahead, less, eye_after, rises, rises_to}
 use Rattle.strand_machine.specs.declared.eye.Eye.{Eye}
@@ -14,7 +14,7 @@ looks-append j eye [] ys = refl
 looks-append j eye (Happened e ∷ xs) ys = looks-append j (rises e (record eye { past = ended_before (pedigree_of e) j })) xs ys
 looks-append j eye (Child o ∷ xs) ys = looks-append j eye xs ys
 looks-append j eye (Opened k ∷ xs) ys = looks-append j (goes_to (ahead_of (k ++ 0 ∷ []) j) eye) xs ys
-looks-append j eye (Closed k ∷ xs) ys = looks-append j (goes_to (ahead_of (risen k) j) eye) xs ys
+looks-append j eye (Closed k ∷ xs) ys = looks-append j (goes_to (ahead_of (raised k) j) eye) xs ys
 
 pub own-append : (xs ys : List Item) → own_events (xs ++ ys) ≡ own_events xs ++ own_events ys
 own-append [] ys = refl
@@ -29,11 +29,11 @@ last-first : (xs : List ℕ) (r : ℕ) → (k : ℕ) × ((ks : List ℕ) × (xs 
 last-first [] r = (r, ([], refl))
 last-first (x ∷ xs) r = (x, (xs ++ r ∷ [], refl))
 
-pub risen-last : (xs : List ℕ) (r : ℕ) → risen (xs ++ r ∷ []) ≡ xs ++ (r + 1) ∷ []
+pub risen-last : (xs : List ℕ) (r : ℕ) → raised (xs ++ r ∷ []) ≡ xs ++ (r + 1) ∷ []
 risen-last [] r = refl
 risen-last (x ∷ xs) r = let t = last-first xs r in from (xs ++ r ∷ []) t.0 t.1.0 t.1.1 ∙ ap (λ (l : List ℕ). x ∷ l) (risen-last xs r)
   where
-    from : (l : List ℕ) (k : ℕ) (ks : List ℕ) → l ≡ k ∷ ks → risen (x ∷ l) ≡ x ∷ risen l
+    from : (l : List ℕ) (k : ℕ) (ks : List ℕ) → l ≡ k ∷ ks → raised (x ∷ l) ≡ x ∷ raised l
     from l k ks e = rw e refl
 
 ahead-later : (x y : ℕ) (ms ns : List ℕ) (k t : ℕ) (ks ts : List ℕ) → ms ≡ k ∷ ks → ns ≡ t ∷ ts → ahead_of (x ∷ ms) (y ∷ ns) ≡ (if nat_eq x y then ahead_of ms ns else None)
@@ -81,7 +81,7 @@ pub ahead-other : (p q : List ℕ) (r s : ℕ) → (p ≡ q → ⊥) → ahead_o
 ahead-other p q r s h = ahead-past p q r s (λ e. absurd (h e))
 
 -- the strand after one
-pub ahead-after : (p q : List ℕ) (r s : ℕ) → p ≡ q → r < s → ahead_of (risen (p ++ r ∷ [])) (q ++ s ∷ []) ≡ Some (s - r - 1)
+pub ahead-after : (p q : List ℕ) (r s : ℕ) → p ≡ q → r < s → ahead_of (raised (p ++ r ∷ [])) (q ++ s ∷ []) ≡ Some (s - r - 1)
 ahead-after p q r s e l =
     let n : s - (r + 1) ≡ s - r - 1 = omega arith in
     ap (λ (k : List ℕ). ahead_of k (q ++ s ∷ [])) (risen-last p r)
@@ -90,7 +90,7 @@ ahead-after p q r s e l =
     ∙ rises-within (r + 1) s (omega arith)
     ∙ ap (λ (k : ℕ). Some k) n
 
-pub ahead-after-past : (p q : List ℕ) (r s : ℕ) → (p ≡ q → s ≤ r) → ahead_of (risen (p ++ r ∷ [])) (q ++ s ∷ []) ≡ None
+pub ahead-after-past : (p q : List ℕ) (r s : ℕ) → (p ≡ q → s ≤ r) → ahead_of (raised (p ++ r ∷ [])) (q ++ s ∷ []) ≡ None
 ahead-after-past p q r s h =
     ap (λ (k : List ℕ). ahead_of k (q ++ s ∷ [])) (risen-last p r) ∙ ahead-past p q (r + 1) s (λ e. let l = h e in omega arith)
 
@@ -121,7 +121,7 @@ if-less : (b : Bool) (o p : Option ℕ) → o ≡ less p → (if b then o else N
 if-less true o p e = e
 if-less false o p e = refl
 
-pub ahead-risen : (k j : List ℕ) → ahead_of (risen k) j ≡ less (ahead_of k j)
+pub ahead-risen : (k j : List ℕ) → ahead_of (raised k) j ≡ less (ahead_of k j)
 ahead-risen [] j = refl
 ahead-risen (r ∷ []) [] = refl
 ahead-risen (r ∷ []) (s ∷ []) = rises-less r s
@@ -179,7 +179,7 @@ module _ (s : ℕ) (js : List ℕ) where
   step-on place eye came rest e c =
       or-assoc eye.came (bytes_eq place j) rest ∙ ap (λ (b : Bool). (eye.came || b) || rest) (sym (ap is_none_ahead e ∙ ahead-none place s js)) ∙ ap (λ (b : Bool). b || rest) (sym c)
 
-  next-ahead : (place : List ℕ) (eye : Eye) → eye.ahead ≡ ahead_of place j → less eye.ahead ≡ ahead_of (risen place) j
+  next-ahead : (place : List ℕ) (eye : Eye) → eye.ahead ≡ ahead_of place j → less eye.ahead ≡ ahead_of (raised place) j
   next-ahead place eye e = ap less e ∙ sym (ahead-risen place j)
 
   -- whether one of the places is the pedigree
@@ -190,23 +190,23 @@ module _ (s : ℕ) (js : List ℕ) where
   places-seen place eye (Opened k ∷ items) e =
       step-on place eye _ (is_one_of j ((k ++ 0 ∷ []) ∷ led_to (k ++ 0 ∷ []) items)) e refl ∙ places-seen (k ++ 0 ∷ []) (goes_to (ahead_of (k ++ 0 ∷ []) j) eye) items refl
   places-seen place eye (Closed k ∷ items) e =
-      step-on place eye _ (is_one_of j (risen k ∷ led_to (risen k) items)) e refl ∙ places-seen (risen k) (goes_to (ahead_of (risen k) j) eye) items refl
+      step-on place eye _ (is_one_of j (raised k ∷ led_to (raised k) items)) e refl ∙ places-seen (raised k) (goes_to (ahead_of (raised k) j) eye) items refl
   places-seen place eye (Happened (event.Print k v) ∷ items) e = places-seen place (record eye { past = ended_before k j }) items e
   places-seen place eye (Happened (event.Draw k n) ∷ items) e =
-      step-on place eye _ (is_one_of j (risen place ∷ led_to (risen place) items)) e refl
-      ∙ places-seen (risen place) (goes_to (less eye.ahead) (record eye { past = ended_before k j })) items (next-ahead place eye e)
+      step-on place eye _ (is_one_of j (raised place ∷ led_to (raised place) items)) e refl
+      ∙ places-seen (raised place) (goes_to (less eye.ahead) (record eye { past = ended_before k j })) items (next-ahead place eye e)
   places-seen place eye (Happened (event.New k) ∷ items) e =
-      step-on place eye _ (is_one_of j (risen place ∷ led_to (risen place) items)) e refl
-      ∙ places-seen (risen place) (goes_to (less eye.ahead) (record eye { past = ended_before k j })) items (next-ahead place eye e)
+      step-on place eye _ (is_one_of j (raised place ∷ led_to (raised place) items)) e refl
+      ∙ places-seen (raised place) (goes_to (less eye.ahead) (record eye { past = ended_before k j })) items (next-ahead place eye e)
   places-seen place eye (Happened (event.Spawn k) ∷ items) e =
-      step-on place eye _ (is_one_of j (risen place ∷ led_to (risen place) items)) e refl
-      ∙ places-seen (risen place) (goes_to (less eye.ahead) (record eye { past = ended_before k j })) items (next-ahead place eye e)
+      step-on place eye _ (is_one_of j (raised place ∷ led_to (raised place) items)) e refl
+      ∙ places-seen (raised place) (goes_to (less eye.ahead) (record eye { past = ended_before k j })) items (next-ahead place eye e)
   places-seen place eye (Happened (event.Sync k) ∷ items) e =
-      step-on place eye _ (is_one_of j (risen place ∷ led_to (risen place) items)) e refl
-      ∙ places-seen (risen place) (goes_to (less eye.ahead) (record eye { past = ended_before k j })) items (next-ahead place eye e)
+      step-on place eye _ (is_one_of j (raised place ∷ led_to (raised place) items)) e refl
+      ∙ places-seen (raised place) (goes_to (less eye.ahead) (record eye { past = ended_before k j })) items (next-ahead place eye e)
   places-seen place eye (Happened (event.Loop k) ∷ items) e =
-      step-on place eye _ (is_one_of j (risen place ∷ led_to (risen place) items)) e refl
-      ∙ places-seen (risen place) (goes_to (less eye.ahead) (record eye { past = ended_before k j })) items (next-ahead place eye e)
+      step-on place eye _ (is_one_of j (raised place ∷ led_to (raised place) items)) e refl
+      ∙ places-seen (raised place) (goes_to (less eye.ahead) (record eye { past = ended_before k j })) items (next-ahead place eye e)
 
   -- and whether one of them without the last one is
   pub places-without : (place : List ℕ) (eye : Eye) (items : List Item) → eye.ahead ≡ ahead_of place j → (eye.came || is_one_of j (without_last (place ∷ led_to place items))) ≡ (eye_after j eye items).came
@@ -215,30 +215,30 @@ module _ (s : ℕ) (js : List ℕ) where
   places-without place eye (Opened k ∷ items) e =
       step-on place eye _ (is_one_of j (without_last ((k ++ 0 ∷ []) ∷ led_to (k ++ 0 ∷ []) items))) e refl ∙ places-without (k ++ 0 ∷ []) (goes_to (ahead_of (k ++ 0 ∷ []) j) eye) items refl
   places-without place eye (Closed k ∷ items) e =
-      step-on place eye _ (is_one_of j (without_last (risen k ∷ led_to (risen k) items))) e refl ∙ places-without (risen k) (goes_to (ahead_of (risen k) j) eye) items refl
+      step-on place eye _ (is_one_of j (without_last (raised k ∷ led_to (raised k) items))) e refl ∙ places-without (raised k) (goes_to (ahead_of (raised k) j) eye) items refl
   places-without place eye (Happened (event.Print k v) ∷ items) e = places-without place (record eye { past = ended_before k j }) items e
   places-without place eye (Happened (event.Draw k n) ∷ items) e =
-      step-on place eye _ (is_one_of j (without_last (risen place ∷ led_to (risen place) items))) e refl
-      ∙ places-without (risen place) (goes_to (less eye.ahead) (record eye { past = ended_before k j })) items (next-ahead place eye e)
+      step-on place eye _ (is_one_of j (without_last (raised place ∷ led_to (raised place) items))) e refl
+      ∙ places-without (raised place) (goes_to (less eye.ahead) (record eye { past = ended_before k j })) items (next-ahead place eye e)
   places-without place eye (Happened (event.New k) ∷ items) e =
-      step-on place eye _ (is_one_of j (without_last (risen place ∷ led_to (risen place) items))) e refl
-      ∙ places-without (risen place) (goes_to (less eye.ahead) (record eye { past = ended_before k j })) items (next-ahead place eye e)
+      step-on place eye _ (is_one_of j (without_last (raised place ∷ led_to (raised place) items))) e refl
+      ∙ places-without (raised place) (goes_to (less eye.ahead) (record eye { past = ended_before k j })) items (next-ahead place eye e)
   places-without place eye (Happened (event.Spawn k) ∷ items) e =
-      step-on place eye _ (is_one_of j (without_last (risen place ∷ led_to (risen place) items))) e refl
-      ∙ places-without (risen place) (goes_to (less eye.ahead) (record eye { past = ended_before k j })) items (next-ahead place eye e)
+      step-on place eye _ (is_one_of j (without_last (raised place ∷ led_to (raised place) items))) e refl
+      ∙ places-without (raised place) (goes_to (less eye.ahead) (record eye { past = ended_before k j })) items (next-ahead place eye e)
   places-without place eye (Happened (event.Sync k) ∷ items) e =
-      step-on place eye _ (is_one_of j (without_last (risen place ∷ led_to (risen place) items))) e refl
-      ∙ places-without (risen place) (goes_to (less eye.ahead) (record eye { past = ended_before k j })) items (next-ahead place eye e)
+      step-on place eye _ (is_one_of j (without_last (raised place ∷ led_to (raised place) items))) e refl
+      ∙ places-without (raised place) (goes_to (less eye.ahead) (record eye { past = ended_before k j })) items (next-ahead place eye e)
   places-without place eye (Happened (event.Loop k) ∷ items) e =
-      step-on place eye _ (is_one_of j (without_last (risen place ∷ led_to (risen place) items))) e refl
-      ∙ places-without (risen place) (goes_to (less eye.ahead) (record eye { past = ended_before k j })) items (next-ahead place eye e)
+      step-on place eye _ (is_one_of j (without_last (raised place ∷ led_to (raised place) items))) e refl
+      ∙ places-without (raised place) (goes_to (less eye.ahead) (record eye { past = ended_before k j })) items (next-ahead place eye e)
 
 -- whether the last event is before the pedigree
-pub past-seen : (j last : List ℕ) (eye : Eye) (items : List Item) → eye.past ≡ ended_before last j → (eye_after j eye items).past ≡ ended_before (last_place last (own_events items)) j
+pub past-seen : (j last : List ℕ) (eye : Eye) (items : List Item) → eye.past ≡ ended_before last j → (eye_after j eye items).past ≡ ended_before (last_pedigree last (own_events items)) j
 past-seen j last eye [] e = e
 past-seen j last eye (Child o ∷ items) e = past-seen j last eye items e
 past-seen j last eye (Opened k ∷ items) e = past-seen j last (goes_to (ahead_of (k ++ 0 ∷ []) j) eye) items e
-past-seen j last eye (Closed k ∷ items) e = past-seen j last (goes_to (ahead_of (risen k) j) eye) items e
+past-seen j last eye (Closed k ∷ items) e = past-seen j last (goes_to (ahead_of (raised k) j) eye) items e
 past-seen j last eye (Happened (event.Print k v) ∷ items) e = past-seen j k (record eye { past = ended_before k j }) items refl
 past-seen j last eye (Happened (event.Draw k n) ∷ items) e = past-seen j k (goes_to (less eye.ahead) (record eye { past = ended_before k j })) items refl
 past-seen j last eye (Happened (event.New k) ∷ items) e = past-seen j k (goes_to (less eye.ahead) (record eye { past = ended_before k j })) items refl

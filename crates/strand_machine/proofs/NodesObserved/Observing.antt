@@ -1,4 +1,4 @@
--- What is noted of a step.
+-- What is observed of a step.
 use Rattle.std.proofs.Common.{◌≡◌, ℕ, List, [], ◌++◌, Option, Some, None, refl, sym, ap, ◌∙◌, subst}
 use Rattle.serial_meaning.specs.declared.event.Event.{Event}
 use Rattle.serial_meaning.specs.declared.event.Fault.{Fault}
@@ -29,9 +29,9 @@ newest-none (Some f) = refl
 
 also-nothing : (later : meaning.Observation) → later ≡ also no_observation later
 also-nothing later =
-    ap (λ (f : Option Fault). record later { fault = f }) (sym (newest-none later.fault)) ∙ ap (λ (f : Option Fault). record later { fault = newest None later.fault; joined = f }) (sym (newest-none later.joined))
+    ap (λ (f : Option Fault). record later { fault = f }) (sym (newest-none later.fault)) ∙ ap (λ (f : Option Fault). record later { fault = newest None later.fault; child_fault = f }) (sym (newest-none later.child_fault))
 
--- What comes next of a task comes next of the first one, after what is noted, of which the notes have what is of the pedigree j.
+-- What comes next of a task comes next of the first one, after what is observed, of which the eye and the events have what is of the pedigree j.
 pub record LeadsObserved (first : TaskView) (j : List ℕ) (before : Eye) (now : TaskView) (observation : Observed) : Type 0 where
   pub leads : LeadsTo first now
   pub front : meaning.Observation
@@ -39,17 +39,17 @@ pub record LeadsObserved (first : TaskView) (j : List ℕ) (before : Eye) (now :
   pub eye : observation.eye ≡ eye_after j before front.items
   pub events : observation.events ≡ events_at j (own_events front.items)
   pub fault : observation.fault ≡ front.fault
-  pub joined : observation.joined ≡ front.joined
+  pub child_fault : observation.child_fault ≡ front.child_fault
 
-pub noted-start : (t : TaskView) (j : List ℕ) (eye : Eye) (observation : Observed) → t.cut ≡ None → observation ≡ record { eye = eye; events = []; fault = None; joined = None } → LeadsObserved t j eye t observation
-noted-start t j eye observation goes h = record {
+pub observed-start : (t : TaskView) (j : List ℕ) (eye : Eye) (observation : Observed) → t.cut ≡ None → observation ≡ record { eye = eye; events = []; fault = None; child_fault = None } → LeadsObserved t j eye t observation
+observed-start t j eye observation goes h = record {
   leads = leads-start t goes;
   front = no_observation;
   shows = λ later stop s. subst (λ (n : meaning.Observation). Shows t.task n stop) (also-nothing later) s;
   eye = ap (λ (n : Observed). n.eye) h;
   events = ap (λ (n : Observed). n.events) h;
   fault = ap (λ (n : Observed). n.fault) h;
-  joined = ap (λ (n : Observed). n.joined) h;
+  child_fault = ap (λ (n : Observed). n.child_fault) h;
 }
 
 module _ (first : TaskView) (j : List ℕ) (eye : Eye) (now : TaskView) (observation after : Observed) (h : LeadsObserved first j eye now observation) (same : after ≡ with_step j (step_observation now.task) observation) where
@@ -66,8 +66,8 @@ module _ (first : TaskView) (j : List ℕ) (eye : Eye) (now : TaskView) (observa
       ∙ sym (events_at-append j (own_events h.front.items) (own_events step-shows.items))
       ∙ ap (events_at j) (sym (own-append h.front.items step-shows.items))
 
-  pub noted-on : MovesFall → (next : TaskView) (s : MadeStep) → IsStep now s → s ≡ step-in.Passes next → LeadsObserved first j eye next after
-  noted-on law next s g e =
+  pub observed-on : MovesFall → (next : TaskView) (s : MadeStep) → IsStep now s → s ≡ step-in.Passes next → LeadsObserved first j eye next after
+  observed-on law next s g e =
       let k : IsStep now (step-in.Passes next) = subst (IsStep now) e g in
       record {
         leads = leads-on law first now next s h.leads g e;
@@ -76,12 +76,12 @@ module _ (first : TaskView) (j : List ℕ) (eye : Eye) (now : TaskView) (observa
         eye = more-seen;
         events = more-events;
         fault = ap (λ (n : Observed). n.fault) same ∙ ap (λ (f : Option Fault). newest f step-shows.fault) h.fault;
-        joined = ap (λ (n : Observed). n.joined) same ∙ ap (λ (f : Option Fault). newest f step-shows.joined) h.joined;
+        child_fault = ap (λ (n : Observed). n.child_fault) same ∙ ap (λ (f : Option Fault). newest f step-shows.child_fault) h.child_fault;
       }
 
-  pub noted-stop : StopsAreSound → IsTask first.task → (stop : MadeStop) (s : MadeStep) → IsStep now s → s ≡ step-in.Stops stop →
-      IsObserved first j eye (record { stop = stop; eye = after.eye; events = after.events; fault = after.fault; joined = after.joined })
-  noted-stop sounds sound stop s g e =
+  pub observed-stop : StopsAreSound → IsTask first.task → (stop : MadeStop) (s : MadeStep) → IsStep now s → s ≡ step-in.Stops stop →
+      IsObserved first j eye (record { stop = stop; eye = after.eye; events = after.events; fault = after.fault; child_fault = after.child_fault })
+  observed-stop sounds sound stop s g e =
       let k : IsStep now (step-in.Stops stop) = subst (IsStep now) e g in
       record {
         stop = stops-there sounds first now s stop sound h.leads g e;
@@ -90,5 +90,5 @@ module _ (first : TaskView) (j : List ℕ) (eye : Eye) (now : TaskView) (observa
         eye = more-seen;
         events = more-events;
         fault = ap (λ (n : Observed). n.fault) same ∙ ap (λ (f : Option Fault). newest f step-shows.fault) h.fault;
-        joined = ap (λ (n : Observed). n.joined) same ∙ ap (λ (f : Option Fault). newest f step-shows.joined) h.joined;
+        child_fault = ap (λ (n : Observed). n.child_fault) same ∙ ap (λ (f : Option Fault). newest f step-shows.child_fault) h.child_fault;
       }

@@ -21,8 +21,8 @@ use Rattle.strand_machine.specs.Family.{FamilyView, tag, tags, origins}
 use Rattle.strand_machine.specs.Merge.{AreSaid, BecomesWork, EndsShort, IsShort, KeepsRest, Merge, Takes, TakesAnswers, WorkFindsAll, Works, end_of, ended_of, result_of_outcome, meanings, merge_of, trace_of, with_stage}
 use Rattle.strand_machine.specs.Parts.{awaited, awaited_child, awaited_children, destination_of}
 use Rattle.strand_machine.specs.declared.destination.Destination.{Destination}
-use Rattle.strand_machine.specs.declared.destination.Destination.TheVariants as place
-use Rattle.strand_machine.specs.Stops.{IsCutOn, WentOn, answer_tags, any_cut, is_cut, prefix_with, view_on, went}
+use Rattle.strand_machine.specs.declared.destination.Destination.TheVariants as destination
+use Rattle.strand_machine.specs.Stops.{IsCutOn, WentOn, answer_tags, any_cut, is_cut, prefix_with, view_on}
 use Rattle.strand_machine.specs.Tasks.{TaskView, IsCutShort, task_of, view_of, work_of}
 use Rattle.strand_machine.specs.declared.body.Body.{Body}
 use Rattle.strand_machine.specs.declared.merge.Heard.{Heard}
@@ -62,8 +62,8 @@ heard-front p e before after h =
     ∙ ap (λ (ps : List AwaitedChild). record (heard p e before) { handed = ps }) (sym (heard-none before.fault before.prefix p e.items e.ending))
 
 pub takes-answer : (p : AwaitedChild) (a : AnswerView) (before after : Merge) → trace_of after ≡ heard p (record { items = a.out; ending = result_of_outcome a.outcome }) (trace_of before) →
-    ended_of after ≡ or_ends (ended_of before) a.outcome → after.cut ≡ (before.cut || is_cut a.outcome) → after.values ≡ more_values p.place (result_of_outcome a.outcome) before.values →
-    BecomesWork (with_stage (takes p.place (result_of_outcome a.outcome))) before.work after.work → IsAnswer a.plan a.origin a.out a.outcome → TakesAnswers (p ∷ []) (a ∷ []) before after
+    ended_of after ≡ or_ends (ended_of before) a.outcome → after.cut ≡ (before.cut || is_cut a.outcome) → after.values ≡ more_values p.destination (result_of_outcome a.outcome) before.values →
+    BecomesWork (with_stage (takes p.destination (result_of_outcome a.outcome))) before.work after.work → IsAnswer a.plan a.origin a.out a.outcome → TakesAnswers (p ∷ []) (a ∷ []) before after
 takes-answer p a before after trace ended cut values work said = record {
   takes = subst (λ (e : Evaluation). Takes (p ∷ []) (e ∷ []) before after) (sym (says a.out a.outcome)) (record { trace = trace; values = values; work = work });
   ended = ended;
@@ -72,10 +72,10 @@ takes-answer p a before after trace ended cut values work said = record {
 }
 
 -- a part of a loop changes the values alone
-pub half-values : (p : Destination) (ending : Result (List Value) Fault) (values after : List Value) → p ≡ place.Half → after ≡ more_values Half ending values → after ≡ more_values (destination_of p) ending values
+pub half-values : (p : Destination) (ending : Result (List Value) Fault) (values after : List Value) → p ≡ destination.Half → after ≡ more_values Half ending values → after ≡ more_values (destination_of p) ending values
 half-values p ending values after at is = subst (λ (q : Destination). after ≡ more_values (destination_of q) ending values) (sym at) is
 
-pub half-work : (p : Destination) (ending : Result (List Value) Fault) (w : Work) → p ≡ place.Half → BecomesWork (with_stage (takes (destination_of p) ending)) w w
+pub half-work : (p : Destination) (ending : Result (List Value) Fault) (w : Work) → p ≡ destination.Half → BecomesWork (with_stage (takes (destination_of p) ending)) w w
 half-work p ending w at =
     let stays : BecomesWork (with_stage (takes Half ending)) w w = record { is = λ plan. sym (same-stage (work_of plan w)); works = λ plan o h. h } in
     subst (λ (q : Destination). BecomesWork (with_stage (takes (destination_of q) ending)) w w) (sym at) stays
@@ -162,10 +162,10 @@ pub own-children : (b : Body) (os : List Origin) (bs : List AfterChild) (ts : Li
 own-children b os bs ts parts same e = ap origins e ∙ origins-tags b.family.plan (awaited b.trace.handed) ∙ ap awaited (sym parts) ∙ awaited_parts os bs same
 
 pub went-whole : (answers : List AnswerView) (t next : TaskView) → any_cut answers ≡ false → next ≡ view_on t → WentOn answers t next
-went-whole answers t next whole h = subst (λ (cut : Bool). went cut answers t next) (sym whole) h
+went-whole answers t next whole h = record { whole = λ _. h; cut = λ is. absurd (true≢false (sym is ∙ whole)) }
 
 pub went-short : (answers : List AnswerView) (t next : TaskView) → any_cut answers ≡ true → IsCutOn answers t next × (next.loads ≡ t.loads) → WentOn answers t next
-went-short answers t next cut h = subst (λ (c : Bool). went c answers t next) (sym cut) h
+went-short answers t next cut h = record { whole = λ none. absurd (true≢false (sym cut ∙ none)); cut = λ _. h }
 
 -- Answers change the trace and the values of a body, and what remains.
 
@@ -182,7 +182,7 @@ pub found-then : (p q : Parts) (heard after : Heard) (child : AwaitedChild) (a :
     WorkFindsAll p.body.family.plan bs (work_of p.body.family.plan p.work) → WorkFindsAll q.body.family.plan bs (work_of q.body.family.plan q.work)
 found-then p q heard after child a bs kept h found =
     subst (λ (f : FamilyView). WorkFindsAll f.plan bs (work_of f.plan q.work)) (sym (ap (λ (b : Body). b.family) kept.body))
-    (found-kept p.body.family.plan child.place (evaluation_of a.out a.outcome).ending p.work q.work bs h.takes.work found)
+    (found-kept p.body.family.plan child.destination (evaluation_of a.out a.outcome).ending p.work q.work bs h.takes.work found)
 
 pub kept-body : (p q : Parts) → KeepsRest p q → q.body ≡ record p.body { trace = record q.body.trace { handed = [] }; values = q.body.values }
 kept-body p q k = k.body ∙ ap (λ (ps : List AwaitedChild). record p.body { trace = record q.body.trace { handed = ps }; values = q.body.values }) k.handed

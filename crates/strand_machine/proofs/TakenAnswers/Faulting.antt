@@ -23,7 +23,7 @@ use Rattle.strand_meaning.specs.Task.{Task}
 use Rattle.strand_machine.specs.Family.{tag, tags}
 use Rattle.strand_machine.specs.Faults.{is_fault, EndsByFault}
 use Rattle.strand_machine.specs.Parts.{awaited}
-use Rattle.strand_machine.specs.Stops.{WentOn, answer_tags, any_cut, is_cut, view_on, went}
+use Rattle.strand_machine.specs.Stops.{WentOn, answer_tags, any_cut, is_cut, view_on}
 use Rattle.strand_machine.specs.Tasks.{TaskView, task_of, view_of, IsSound}
 use Rattle.strand_machine.specs.declared.body.Body.{Body}
 use Rattle.strand_machine.specs.declared.work.Work.{Work}
@@ -114,7 +114,7 @@ whole-more (x ∷ xs) a f h = or-both (is_cut x.outcome) (any_cut xs) (any_cut (
 
 pub goes-whole : (xs ys given : List AnswerView) (a : AnswerView) (t next : TaskView) → ys ≡ xs ++ a ∷ [] → xs ≡ given → any_cut given ≡ false → is_fault a.outcome ≡ true → WentOn ys t next → next ≡ view_on t
 goes-whole xs ys given a t next e same whole f on =
-    let none : any_cut ys ≡ false = ap any_cut e ∙ whole-more xs a f (ap any_cut same ∙ whole) in subst (λ (b : Bool). went b ys t next) none on
+    let none : any_cut ys ≡ false = ap any_cut e ∙ whole-more xs a f (ap any_cut same ∙ whole) in on.whole none
 
 -- once its children's answers are taken, of which the last is a fault, there is one in a task's trace
 pub not-none : (v begun after : TaskView) (ts : List AnswerTag) (t : AnswerTag) → begun ≡ v → after ≡ view_on begun → ts ++ t ∷ [] ≡ tags v.task.plan (awaited v.task.trace.handed) →

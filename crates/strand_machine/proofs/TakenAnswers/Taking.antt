@@ -5,7 +5,7 @@ use Rattle.std.specs.Prelude.{OnOk}
 use Rattle.std.specs.Borrow.{Bor}
 use Rattle.std.specs.Option.{option_copied}
 use Rattle.script_grammar.specs.declared.tree.Name.{Name}
-use Rattle.serial_meaning.specs.Eval.{Evaluation, first_of, eval}
+use Rattle.serial_meaning.specs.Eval.{Evaluation, first_value, eval}
 use Rattle.serial_meaning.specs.Eval as origins-of
 use Rattle.serial_meaning.specs.Plan.{PlanView}
 use Rattle.serial_meaning.specs.declared.value.Value.{Value}
@@ -19,19 +19,19 @@ use Rattle.strand_meaning.specs.Laws.{AnswersKeepTasks}
 use Rattle.strand_meaning.specs.Rest.{evaluations}
 use Rattle.strand_meaning.specs.Sound.{IsTask}
 use Rattle.strand_meaning.specs.Task as meaning
-use Rattle.strand_meaning.specs.Task.{Splits, Runs, Over, Task, changed, frame_with_answer, with_values, joins, resumed, takes, takes_all, more_values, all_values, resumed_work, on, own_instance}
+use Rattle.strand_meaning.specs.Task.{Splits, Runs, Finished, Task, changed, frame_with_answer, with_values, joins, resumed, takes, takes_all, more_values, all_values, resumed_work, on, own_instance}
 use Rattle.strand_machine.specs.Family.{FamilyView, HasPassed, HasStopped, tags, origins}
 use Rattle.strand_machine.specs.Merge.{BecomesStage, BecomesWork, Merge, Stands, Takes, HasTakenAnswers, Works, with_stage, trace_of, meanings}
 use Rattle.strand_machine.specs.Parts.{awaited, awaited_children, destination_of}
 use Rattle.strand_meaning.specs.Cuts.{AreAnswersOf}
-use Rattle.strand_machine.specs.Stops.{WentOn, any_cut, resumes, view_on, went}
+use Rattle.strand_machine.specs.Stops.{IsCutOn, IsOn, ResumesBy, WentOn, any_cut, view_on}
 use Rattle.strand_moves.specs.Machines.{IsInstance, machine_of, path_of}
 use Rattle.strand_moves.specs.declared.instance.Instance.{Instance}
 use Rattle.strand_machine.specs.Tasks.{TaskView, cut_of, work_of, task_of, view_of, AwaitsLast, IsSound, RunsAt, StandsAt, WorksAt}
 use Rattle.strand_machine.specs.declared.body.Body.{Body}
 use Rattle.strand_machine.specs.declared.trace.AfterChild.{AfterChild}
 use Rattle.strand_machine.specs.declared.destination.Destination.{Destination}
-use Rattle.strand_machine.specs.declared.destination.Destination.TheVariants as place
+use Rattle.strand_machine.specs.declared.destination.Destination.TheVariants as destination
 use Rattle.strand_machine.specs.declared.work.InstanceState.{InstanceState}
 use Rattle.strand_machine.specs.declared.work.InstanceState.TheVariants as stage
 use Rattle.strand_machine.specs.declared.work.Work.{Work}
@@ -43,17 +43,17 @@ use Rattle.strand_machine.proofs.Moves.Handed.{awaited_parts}
 pub same-stage : (w : meaning.Work) → with_stage (λ s. s) w ≡ w
 same-stage (Splits left) = refl
 same-stage (Runs stage) = refl
-same-stage (Over v gone_on) = refl
+same-stage (Finished v gone_on) = refl
 
 two-stages : (f g : meaning.InstanceState → meaning.InstanceState) (w : meaning.Work) → with_stage g (with_stage f w) ≡ with_stage (λ s. g (f s)) w
 two-stages f g (Splits left) = refl
 two-stages f g (Runs stage) = refl
-two-stages f g (Over v gone_on) = refl
+two-stages f g (Finished v gone_on) = refl
 
 resumed-stage : (ps : List AwaitedChild) (es : List Evaluation) (w : meaning.Work) → resumed_work [] [] (with_stage (takes_all ps es) w) ≡ resumed_work ps es w
 resumed-stage ps es (Splits left) = refl
 resumed-stage ps es (Runs stage) = refl
-resumed-stage ps es (Over v gone_on) = refl
+resumed-stage ps es (Finished v gone_on) = refl
 
 -- An instance
 
@@ -172,10 +172,10 @@ on-both (Err x) P Q R f h k = tt
 
 -- One child
 
-pub other-values : (p : Destination) → (p ≡ place.Half → ⊥) → (ending : Result (List Value) Fault) (values : List Value) → more_values (destination_of p) ending values ≡ values
-other-values (place.Spawned height target) h ending values = refl
-other-values (place.Looped target) h ending values = refl
-other-values place.Half h ending values = absurd (h refl)
+pub other-values : (p : Destination) → (p ≡ destination.Half → ⊥) → (ending : Result (List Value) Fault) (values : List Value) → more_values (destination_of p) ending values ≡ values
+other-values (destination.Spawned height target) h ending values = refl
+other-values (destination.Looped target) h ending values = refl
+other-values destination.Half h ending values = absurd (h refl)
 
 -- One child, and then the others
 
@@ -185,7 +185,7 @@ takes-then p ps e es before between after h k = record {
   trace = k.trace ∙ ap (heard_all ps es) h.trace;
   values = k.values ∙ ap (all_values ps es) h.values;
   work = record {
-    is = λ plan. k.work.is plan ∙ ap (with_stage (takes_all ps es)) (h.work.is plan) ∙ two-stages (takes p.place e.ending) (takes_all ps es) (work_of plan before.work);
+    is = λ plan. k.work.is plan ∙ ap (with_stage (takes_all ps es)) (h.work.is plan) ∙ two-stages (takes p.destination e.ending) (takes_all ps es) (work_of plan before.work);
     works = λ plan o w. k.work.works plan o (h.work.works plan o w);
   };
 }
@@ -308,8 +308,8 @@ taken-view b w g k ready loads e d t view =
 
 pub resumed-on : (b : Body) (w : Work) (g k : FamilyView) (ready : Bool) (loads : List ℕ) → g ≡ record b.family { ready = ready; loads = loads } → k ≡ record g { taken = k.taken } →
     (t next : TaskView) → view_of b w ≡ t → t.cut ≡ None → (answers : List AnswerView) → AreAnswersOf k.plan b.trace.handed answers → WentOn answers (view_of (record b { family = k }) w) next → HasPassed b.family.loads g.loads →
-    (xs : List AnswerView) × AreAnswersOf t.task.plan t.task.trace.handed xs × resumes (any_cut xs) xs t next × HasPassed t.loads next.loads
-resumed-on b w g k ready loads e d t next view goes answers are went-on passed = (answers, frame_with_answer, both.0, both.1)
+    (xs : List AnswerView) × AreAnswersOf t.task.plan t.task.trace.handed xs × ResumesBy xs t next × HasPassed t.loads next.loads
+resumed-on b w g k ready loads e d t next view goes answers are went-on passed = (answers, frame_with_answer, record { whole = λ none. (whole none).0; cut = λ is. (short is).0 }, by_cut (any_cut answers) refl)
   where
     plan : k.plan ≡ t.task.plan
     plan = ap (λ (f : FamilyView). f.plan) d ∙ ap (λ (f : FamilyView). f.plan) e ∙ ap (λ (v : TaskView). v.task.plan) view
@@ -317,30 +317,35 @@ resumed-on b w g k ready loads e d t next view goes answers are went-on passed =
     frame_with_answer : AreAnswersOf t.task.plan t.task.trace.handed answers
     frame_with_answer = subst (λ (v : TaskView). AreAnswersOf t.task.plan v.task.trace.handed answers) view (subst (λ (p : PlanView). AreAnswersOf p b.trace.handed answers) plan are)
 
-    there : went (any_cut answers) answers (record t { loads = g.loads }) next
+    there : WentOn answers (record t { loads = g.loads }) next
     there = subst (λ (v : TaskView). WentOn answers v next) (taken-view b w g k ready loads e d t view) went-on
 
     read : next.loads ≡ g.loads → HasPassed t.loads next.loads
     read same = subst (λ (l : List ℕ). HasPassed t.loads l) (sym same) (subst (λ (l : List ℕ). HasPassed l g.loads) (ap (λ (v : TaskView). v.loads) view) passed)
 
-    by_cut : (cut : Bool) → went cut answers (record t { loads = g.loads }) next → resumes cut answers t next × HasPassed t.loads next.loads
-    by_cut false h = (
-      (ap (λ (v : TaskView). v.task) h, ap (λ (v : TaskView). v.children) h, ap (λ (v : TaskView). v.cut) h ∙ goes),
-      read (ap (λ (v : TaskView). v.loads) h),
-    )
-    by_cut true h = (
-      record {
-        plan = h.0.plan;
-        origin = h.0.origin;
-        prefix = h.0.prefix;
-        handed = h.0.handed;
-        waits = h.0.waits;
-        advanced = h.0.advanced;
-        cut = h.0.cut;
-        children = h.0.children;
-      },
-      read h.1,
-    )
+    whole : any_cut answers ≡ false → IsOn t next × HasPassed t.loads next.loads
+    whole none =
+        let h = there.whole none in (
+          record { task = ap (λ (v : TaskView). v.task) h; children = ap (λ (v : TaskView). v.children) h; cut = ap (λ (v : TaskView). v.cut) h ∙ goes },
+          read (ap (λ (v : TaskView). v.loads) h),
+        )
 
-    both : resumes (any_cut answers) answers t next × HasPassed t.loads next.loads
-    both = by_cut (any_cut answers) there
+    short : any_cut answers ≡ true → IsCutOn answers t next × HasPassed t.loads next.loads
+    short is =
+        let h = there.cut is in (
+          record {
+            plan = h.0.plan;
+            origin = h.0.origin;
+            prefix = h.0.prefix;
+            handed = h.0.handed;
+            waits = h.0.waits;
+            advanced = h.0.advanced;
+            cut = h.0.cut;
+            children = h.0.children;
+          },
+          read h.1,
+        )
+
+    by_cut : (cut : Bool) → any_cut answers ≡ cut → HasPassed t.loads next.loads
+    by_cut false none = (whole none).1
+    by_cut true is = (short is).1

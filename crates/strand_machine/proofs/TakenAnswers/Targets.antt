@@ -9,7 +9,7 @@ use Rattle.strand_meaning.specs.Found.{FindsTargets, FindsDestination, functions
 use Rattle.strand_meaning.specs.Machine as machine
 use Rattle.strand_meaning.specs.Machine.{Spawned, Looped, Half, Frame, Machine}
 use Rattle.strand_meaning.specs.Task as meaning
-use Rattle.strand_meaning.specs.Task.{Splits, Runs, Over, frame_with_answer, changed, changed_at, takes}
+use Rattle.strand_meaning.specs.Task.{Splits, Runs, Finished, frame_with_answer, changed, changed_at, takes}
 use Rattle.strand_moves.specs.Machines.{machine_of}
 use Rattle.strand_moves.specs.declared.instance.Instance.{Instance}
 use Rattle.strand_machine.specs.Merge.{BecomesWork, StageFinds, WorkFinds, WorkFindsAll, with_stage}
@@ -23,18 +23,18 @@ use Rattle.strand_machine.specs.declared.work.Work.TheVariants as work
 
 -- An instance
 
-module _ (plan : PlanView) (s : InstanceState) (i : Instance) (place : machine.Destination) (h : StageFinds plan place (stage_of plan s)) where
+module _ (plan : PlanView) (s : InstanceState) (i : Instance) (destination : machine.Destination) (h : StageFinds plan destination (stage_of plan s)) where
   abbrev IsFound : Type 0
-  IsFound = FindsDestination plan (functions_in (machine_of plan i)) place
+  IsFound = FindsDestination plan (functions_in (machine_of plan i)) destination
 
   pub goes-found : s ≡ stage.Running i → IsFound
-  goes-found is = subst (λ (y : InstanceState). StageFinds plan place (stage_of plan y)) is h
+  goes-found is = subst (λ (y : InstanceState). StageFinds plan destination (stage_of plan y)) is h
 
   pub sync-found : s ≡ stage.AtSync i → IsFound
-  sync-found is = subst (λ (y : InstanceState). StageFinds plan place (stage_of plan y)) is h
+  sync-found is = subst (λ (y : InstanceState). StageFinds plan destination (stage_of plan y)) is h
 
   pub loop-found : s ≡ stage.AtLoop i → IsFound
-  loop-found is = subst (λ (y : InstanceState). StageFinds plan place (stage_of plan y)) is h
+  loop-found is = subst (λ (y : InstanceState). StageFinds plan destination (stage_of plan y)) is h
 
 -- the same by the child's place
 pub found-at : (plan : PlanView) (p q : machine.Destination) (s : meaning.InstanceState) → p ≡ q → StageFinds plan p s → StageFinds plan q s
@@ -68,17 +68,17 @@ module _ (owner : ℕ) (change : Frame → Frame) (same : (a : Frame) → (chang
       by_place true = ap (λ (f : ℕ). f ∷ functions m.below) (same m.top)
       by_place false = ap (λ (fs : List ℕ). m.top.function ∷ fs) (below-same m.below)
 
-module _ (plan : PlanView) (place : machine.Destination) where
+module _ (plan : PlanView) (destination : machine.Destination) where
   -- where no frame remains nothing is asked
   none-found : (p : machine.Destination) → FindsDestination plan [] p
   none-found (Spawned owner to) = tt
   none-found (Looped to) = tt
   none-found Half = tt
 
-  changed-found : (owner : ℕ) (to : Option Name) (q : Result (List Value) Fault) (m : Machine) → FindsDestination plan (functions_in m) place → FindsDestination plan (functions_in (changed owner (frame_with_answer to q) m)) place
-  changed-found owner to q m h = subst (λ (fs : List ℕ). FindsDestination plan fs place) (sym (changed-same owner (frame_with_answer to q) (answered-same to q) m)) h
+  changed-found : (owner : ℕ) (to : Option Name) (q : Result (List Value) Fault) (m : Machine) → FindsDestination plan (functions_in m) destination → FindsDestination plan (functions_in (changed owner (frame_with_answer to q) m)) destination
+  changed-found owner to q m h = subst (λ (fs : List ℕ). FindsDestination plan fs destination) (sym (changed-same owner (frame_with_answer to q) (answered-same to q) m)) h
 
-  stage-keeps : (p : machine.Destination) (q : Result (List Value) Fault) (s : meaning.InstanceState) → StageFinds plan place s → StageFinds plan place (takes p q s)
+  stage-keeps : (p : machine.Destination) (q : Result (List Value) Fault) (s : meaning.InstanceState) → StageFinds plan destination s → StageFinds plan destination (takes p q s)
   stage-keeps (Spawned owner to) q (meaning.Running m) h = changed-found owner to q m h
   stage-keeps (Spawned owner to) q (meaning.AtSync m) h = changed-found owner to q m h
   stage-keeps (Spawned owner to) q (meaning.AtLoop m) h = changed-found owner to q m h
@@ -87,17 +87,17 @@ module _ (plan : PlanView) (place : machine.Destination) where
   stage-keeps (Looped to) (Ok vs) (meaning.AtSync m) h = h
   stage-keeps (Looped to) (Ok vs) (meaning.AtLoop m) h = h
   stage-keeps (Looped to) (Ok vs) (meaning.Ended e) h = h
-  stage-keeps (Looped to) (Err f) s h = none-found place
+  stage-keeps (Looped to) (Err f) s h = none-found destination
   stage-keeps Half q s h = h
 
-  work-keeps : (p : machine.Destination) (q : Result (List Value) Fault) (w : meaning.Work) → WorkFinds plan place w → WorkFinds plan place (with_stage (takes p q) w)
+  work-keeps : (p : machine.Destination) (q : Result (List Value) Fault) (w : meaning.Work) → WorkFinds plan destination w → WorkFinds plan destination (with_stage (takes p q) w)
   work-keeps p q (Splits left) h = h
   work-keeps p q (Runs s) h = stage-keeps p q s h
-  work-keeps p q (Over v gone_on) h = h
+  work-keeps p q (Finished v gone_on) h = h
 
 all-keep : (plan : PlanView) (p : machine.Destination) (q : Result (List Value) Fault) (w : meaning.Work) (bs : List AfterChild) → WorkFindsAll plan bs w → WorkFindsAll plan bs (with_stage (takes p q) w)
 all-keep plan p q w [] h = tt
-all-keep plan p q w (b ∷ bs) h = (work-keeps plan (destination_of b.place) p q w h.0, all-keep plan p q w bs h.1)
+all-keep plan p q w (b ∷ bs) h = (work-keeps plan (destination_of b.destination) p q w h.0, all-keep plan p q w bs h.1)
 
 pub found-kept : (plan : PlanView) (p : machine.Destination) (q : Result (List Value) Fault) (before after : Work) (bs : List AfterChild) → BecomesWork (with_stage (takes p q)) before after →
     WorkFindsAll plan bs (work_of plan before) → WorkFindsAll plan bs (work_of plan after)

@@ -29,7 +29,7 @@ use Rattle.script_check.proofs.FewerPending.Linear.{loop_closed}
 use Rattle.script_check.proofs.FewerPending.Induction.{Each, Inside, statement, induct, induct_each, judge_open}
 use Rattle.serial_meaning.specs.Names.{Names, names_in}
 use Rattle.serial_meaning.specs.Plan.{PlanView, functions_of}
-use Rattle.strand_meaning.specs.Clear.{IsWithin, IsApart, IsClear, Nothing, Simple, Branches, Turns, Levels, IsSimple, touched, pending_right, pending_after, names_in_all, names_in_right, target_names, IsClearFunction, IsClearPlan}
+use Rattle.strand_meaning.specs.Clear.{IsWithin, IsApart, IsClear, Nothing, Simple, Branches, Repetitions, Levels, IsSimple, touched, pending_right, pending_after, names_in_all, names_in_right, target_names, IsClearFunction, IsClearPlan}
 use Rattle.strand_meaning.proofs.Unfilled.Clears.{within-itself, clear-within, nothing-within}
 use Rattle.strand_meaning.proofs.Unfilled.Variables.{is-itself, same-name}
 use Rattle.strand_meaning.proofs.ClearPlans.FreeNames.{Free, free-none, free-append, free-cons, single-name, not-broken, scalar-free, array-free, wanted-left, two-free, read-free, call-free, loop-call-free, target-free, right-free, wanted-as-left}
@@ -87,7 +87,7 @@ clear-ends : {pending ends : Names} {sts : List Stmt} (more : Names) → IsWithi
 clear-ends more w (Nothing h) = Nothing (λ name c. w name (h name c))
 clear-ends more w (Simple a e s apart rest) = Simple a e s apart (clear-ends more w rest)
 clear-ends more w (Branches e a b all h apart c d rest) = Branches e a b all h apart c d (clear-ends more w rest)
-clear-ends more w (Turns e body all h g apart c rest) = Turns e body all h g apart c (clear-ends more w rest)
+clear-ends more w (Repetitions e body all h g apart c rest) = Repetitions e body all h g apart c (clear-ends more w rest)
 clear-ends more w (Levels block left h c rest) = Levels block left h c (clear-ends more w rest)
 
 -- Known variables
@@ -357,7 +357,7 @@ good-while at e a g = record {
   knows = λ context known p k f. subst (IsKnown (union p (after a p))) (sym (stays-all a g (record context { in_block = true }) known (union p (after a p)) refl (body-of context known p f))) (all-known context known p k f);
   clears = λ all w context known p k f sts ends rest.
       let q : check.NameSet = union p (after a p) in
-      Turns e a (kept q all) (opens at (act.While e a)) (kept-within p q all (λ y u. or-left (p y) (after a p y) u))
+      Repetitions e a (kept q all) (opens at (act.While e a)) (kept-within p q all (λ y u. or-left (p y) (after a p y) u))
       (free-apart q (names_in e) all (read-free e known q (wanted-left Int (read e) known q (nothing_left (wanted Int (read e) known q) (block_violations (judge_all a) context known q) f))))
       (clear-ends (kept q all) (kept-within (after a q) q all (loop_closed a p))
       (clears-all a g all w (record context { in_block = true }) known q (all-known context known p k f) (body-of context known p f)))

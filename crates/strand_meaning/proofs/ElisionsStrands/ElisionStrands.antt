@@ -8,7 +8,7 @@ use Rattle.std.proofs.lemmas.List.{take-append-drop, take-append-le, take_all}
 use Rattle.serial_meaning.specs.Laws.{IsOriginOf, Main, ChildOf}
 use Rattle.serial_meaning.specs.Plan.{PlanView}
 use Rattle.serial_meaning.specs.Eval.{Evaluation, iteration, path_of, eval, depth_left, main_origin, elision}
-use Rattle.serial_meaning.specs.Open.{Item, Happened, Child, Opened, Closed, opened, places_of}
+use Rattle.serial_meaning.specs.Open.{Item, Happened, Child, Opened, Closed, opened, strand_pedigrees}
 use Rattle.serial_meaning.proofs.LeastFault.Children.{children, node-spread}
 use Rattle.serial_meaning.proofs.Equations.Each.{Each}
 use Rattle.serial_meaning.proofs.LeastFault.Sim.{eval-cuts}
@@ -16,7 +16,7 @@ use Rattle.serial_meaning.specs.declared.value.Value.{Value}
 use Rattle.serial_meaning.specs.declared.event.Fault.{Fault}
 use Rattle.serial_meaning.specs.declared.origin.Origin.{Origin}
 use Rattle.serial_meaning.specs.declared.origin.Origin.TheVariants.{Instance, Loop}
-use Rattle.strand_meaning.specs.Strands.{events_at, own_events, own_fault_at, is_below, child_on_way, Strand, Found, Reached, Missing, Blocked, strand_of, last_step, blocks, entered_child, iteration_on_way, next_step, by_child, is_one_of, walk_in, strand_at}
+use Rattle.strand_meaning.specs.Strands.{events_at, own_events, own_fault_at, is_below, child_on_way, Strand, Found, FoundStrand, Missing, Blocked, strand_of, last_step, blocking_fault, entered_child, iteration_on_way, next_step, by_child, is_one_of, walk_in, strand_at}
 use Rattle.strand_meaning.specs.Rest.{children_of}
 use Rattle.strand_meaning.specs.StrandLaws.{IsWholeUpTo, fault_at, strand_in}
 use Rattle.strand_meaning.proofs.SoundSteps.Depth.{loop-of-plan, same-answer}
@@ -107,8 +107,8 @@ agreed j r s strand a h = h ∙ ap (λ l. record { events = l; fault = fault_at 
 
 -- the strand of the last instance on the way
 last-walked : (plan : PlanView) (j : List ℕ) (o : Origin) (strand : Strand) → child_on_way j (opened plan o).items ≡ None → IsWholeUpTo j (eval plan o).ending →
-    last_step (blocks (opened plan o) j) (strand_of o (opened plan o) j) ≡ Reached strand → IsElisions plan j o strand
-last-walked plan j o strand none w e = by_blocks (blocks (opened plan o) j) (strand_of o (opened plan o) j) refl e
+    last_step (blocking_fault (opened plan o) j) (strand_of o (opened plan o) j) ≡ FoundStrand strand → IsElisions plan j o strand
+last-walked plan j o strand none w e = by_blocks (blocking_fault (opened plan o) j) (strand_of o (opened plan o) j) refl e
   where
     elisions : record { events = events_at j (own_events (opened plan o).items); fault = own_fault_at j (opened plan o).ending } ≡ strand_in j (eval plan o)
     elisions =
@@ -117,7 +117,7 @@ last-walked plan j o strand none w e = by_blocks (blocks (opened plan o) j) (str
         own-strand child (children-under plan (depth_left plan o)) j (path_of o) (opened plan o).items (eval plan o) (opened plan o).ending (items-rise plan child o) s.stops (none-below j (opened plan o).items none) (eval-cuts plan o) w
 
     strand-or : Found → Strand
-    strand-or (Reached s) = s
+    strand-or (FoundStrand s) = s
     strand-or Missing = strand
     strand-or (Blocked f) = strand
 
@@ -130,12 +130,12 @@ last-walked plan j o strand none w e = by_blocks (blocks (opened plan o) j) (str
         or_this (Some t) = t
     by_one false s h = absurd (cc)
 
-    by_blocks : (f : Option Fault) (s : Option Strand) → strand_of o (opened plan o) j ≡ s → last_step f s ≡ Reached strand → IsElisions plan j o strand
+    by_blocks : (f : Option Fault) (s : Option Strand) → strand_of o (opened plan o) j ≡ s → last_step f s ≡ FoundStrand strand → IsElisions plan j o strand
     by_blocks (Some f) s t h = absurd (cc)
     by_blocks None None t h = absurd (cc)
-    by_blocks None (Some s) t h = sym (ap strand-or h) ∙ by_one (is_one_of j (places_of o (opened plan o))) s t ∙ elisions
+    by_blocks None (Some s) t h = sym (ap strand-or h) ∙ by_one (is_one_of j (strand_pedigrees o (opened plan o))) s t ∙ elisions
 
-next-is : (o : Option Origin) (go : Origin → Found) (strand : Strand) → next_step o go ≡ Reached strand → (c : Origin) × (o ≡ Some c) × (go c ≡ Reached strand)
+next-is : (o : Option Origin) (go : Origin → Found) (strand : Strand) → next_step o go ≡ FoundStrand strand → (c : Origin) × (o ≡ Some c) × (go c ≡ FoundStrand strand)
 next-is None go strand h = absurd (cc)
 next-is (Some c) go strand h = (c, refl, h)
 
@@ -185,9 +185,9 @@ enters-turn j function rest first path count k more c e h = by_test (nat_lt k co
 
 -- so many steps from an origin lead to what the elision has
 abbrev Walks : PlanView → ℕ → List ℕ → Strand → Type 0
-Walks plan steps j strand = (o : Origin) → IsOriginOf plan o → IsWholeUpTo j (eval plan o).ending → walk_in plan steps j o ≡ Reached strand → IsElisions plan j o strand
+Walks plan steps j strand = (o : Origin) → IsOriginOf plan o → IsWholeUpTo j (eval plan o).ending → walk_in plan steps j o ≡ FoundStrand strand → IsElisions plan j o strand
 
-walked : (plan : PlanView) (steps : ℕ) (j : List ℕ) (o : Origin) (strand : Strand) → IsOriginOf plan o → IsWholeUpTo j (eval plan o).ending → walk_in plan steps j o ≡ Reached strand → IsElisions plan j o strand
+walked : (plan : PlanView) (steps : ℕ) (j : List ℕ) (o : Origin) (strand : Strand) → IsOriginOf plan o → IsWholeUpTo j (eval plan o).ending → walk_in plan steps j o ≡ FoundStrand strand → IsElisions plan j o strand
 walked plan zero j o strand known w e = absurd (cc)
 walked plan (suc steps) j o strand known w e = by_way (λ c. walked plan steps j c strand) (child_on_way j (opened plan o).items) refl e
   where
@@ -195,7 +195,7 @@ walked plan (suc steps) j o strand known w e = by_way (λ c. walked plan steps j
     by-child : (c : Origin) → Contains (opened plan o).items (Child c) → (k : ℕ) (more : List ℕ) → j ≡ path_of c ++ k ∷ more → (IsWholeUpTo j (eval plan c).ending → IsElisions plan j c strand) → IsElisions plan j o strand
     by-child c among k more below go = let a = into-child plan j o c k more known among below w in agreed j (eval plan o) (eval plan c) strand a (go a.whole)
 
-    by_kind : Walks plan steps j strand → (c : Origin) → OnWay j (opened plan o).items c → next_step (entered_child j c) (walk_in plan steps j) ≡ Reached strand → IsElisions plan j o strand
+    by_kind : Walks plan steps j strand → (c : Origin) → OnWay j (opened plan o).items c → next_step (entered_child j c) (walk_in plan steps j) ≡ FoundStrand strand → IsElisions plan j o strand
     by_kind later (Instance function args path) way h =
         let c : Origin = Instance function args path in
         let b = below-of path j way.below in
@@ -215,10 +215,10 @@ walked plan (suc steps) j o strand known w e = by_way (λ c. walked plan steps j
         (later i (ChildOf c i of_plan there) a.whole (ap (walk_in plan steps j) (sym turn.is) ∙ next.2)))
 
     by_way : Walks plan steps j strand → (q : Option Origin) → child_on_way j (opened plan o).items ≡ q →
-        by_child q j (last_step (blocks (opened plan o) j) (strand_of o (opened plan o) j)) (walk_in plan steps j) ≡ Reached strand → IsElisions plan j o strand
+        by_child q j (last_step (blocking_fault (opened plan o) j) (strand_of o (opened plan o) j)) (walk_in plan steps j) ≡ FoundStrand strand → IsElisions plan j o strand
     by_way later None t h = last-walked plan j o strand t w h
     by_way later (Some c) t h = by_kind later c (on-way j (opened plan o).items c (items-rise plan (children_of plan o) o) t) h
 
-pub strands_are_the_elisions : (plan : PlanView) (j : List ℕ) (strand : Strand) → IsWholeUpTo j (elision plan).ending → strand_at plan j ≡ Reached strand →
+pub strands_are_the_elisions : (plan : PlanView) (j : List ℕ) (strand : Strand) → IsWholeUpTo j (elision plan).ending → strand_at plan j ≡ FoundStrand strand →
     strand ≡ strand_in j (elision plan)
 strands_are_the_elisions plan j strand w e = walked plan (length j) j (main_origin plan) strand Main w e

@@ -5,8 +5,8 @@ use Rattle.script_grammar.specs.declared.tree.Function.{Function}
 use Rattle.serial_meaning.specs.Runs.{Run, done, after_items, goes_on, ◌then◌}
 use Rattle.serial_meaning.specs.Functions.{function_at}
 use Rattle.serial_meaning.specs.Plan.{PlanView, functions_of}
-use Rattle.serial_meaning.specs.Exec.{State, strand, goes_out, frame, exec, instance, filled, bound}
-use Rattle.serial_meaning.specs.Eval.{Evaluation, first_of, serial, iteration, turns, eval_with, eval_below, path_of}
+use Rattle.serial_meaning.specs.Exec.{State, strand, goes_out, frame, exec, instance, with_loop_values, bound}
+use Rattle.serial_meaning.specs.Eval.{Evaluation, first_value, serial, iteration, loop_evaluation, eval_with, eval_below, path_of}
 use Rattle.serial_meaning.proofs.Equations.Each.{Each, each-append}
 use Rattle.serial_meaning.proofs.RisingPedigrees.Closed.{Closed, closed-exec, returned-q}
 use Rattle.serial_meaning.proofs.OriginFaults.Levels.{every}
@@ -84,8 +84,8 @@ module _ (plan : PlanView) (child : Origin → Evaluation) (fine : (o : Origin) 
     q-draw = λ path s. record { events = (here path s, tt); ends = tt };
     q-new = λ path s. record { events = (here path s, tt); ends = tt };
     p-join = λ path s. record { events = (here path s, tt); ends = tt };
-    q-child = λ path n vs s _. let o = origin.Instance n vs (strand path s) in event-first path (event.Spawn (strand path s)) _ (here path s) (under-then path (child o then λ vs. done (first_of vs, s.spawned)) (λ r. done (r.0, record s { rank = s.rank + 1; spawned = r.1 })) (under-then path (child o) (λ vs. done (first_of vs, s.spawned)) (child-under path s.rank (child o) (fine o)) (λ vs. nothing path (first_of vs, s.spawned))) (λ r. nothing path (r.0, record s { rank = s.rank + 1; spawned = r.1 })));
-    p-loop = λ path n vs lo hi target s _. let o = origin.Loop n vs lo (strand path s) (record { lo = 0; hi = hi }) in event-first path (event.Loop (strand path s)) _ (here path s) (under-then path (child o) (λ ws. done (record s { rank = s.rank + 1; env = filled target ws s.env })) (child-under path s.rank (child o) (fine o)) (λ ws. nothing path (record s { rank = s.rank + 1; env = filled target ws s.env })));
+    q-child = λ path n vs s _. let o = origin.Instance n vs (strand path s) in event-first path (event.Spawn (strand path s)) _ (here path s) (under-then path (child o then λ vs. done (first_value vs, s.spawned)) (λ r. done (r.0, record s { rank = s.rank + 1; spawned = r.1 })) (under-then path (child o) (λ vs. done (first_value vs, s.spawned)) (child-under path s.rank (child o) (fine o)) (λ vs. nothing path (first_value vs, s.spawned))) (λ r. nothing path (r.0, record s { rank = s.rank + 1; spawned = r.1 })));
+    p-loop = λ path n vs lo hi target s _. let o = origin.Loop n vs lo (strand path s) (record { lo = 0; hi = hi }) in event-first path (event.Loop (strand path s)) _ (here path s) (under-then path (child o) (λ ws. done (record s { rank = s.rank + 1; env = with_loop_values target ws s.env })) (child-under path s.rank (child o) (fine o)) (λ ws. nothing path (record s { rank = s.rank + 1; env = with_loop_values target ws s.env })));
     p-scope = λ path s r _ h. under-then path r (goes_out (serial child) plan path s.rank) (child-under path s.rank r h) (λ a. nothing path (record a { rank = s.rank + 1 }));
     pp = λ path n r f h k. under-then path r f h k;
     pq = λ path n r f h k. under-then path r f h k;
@@ -108,12 +108,12 @@ module _ (plan : PlanView) (child : Origin → Evaluation) (fine : (o : Origin) 
       begins : S
       begins = record { env = []; rank = 0; steps = plan.limits.budget; spawned = tt }
 
-  turns-under : (path : List ℕ) (function : ℕ) (rest : List Value) (first : ℤ) (k n : ℕ) → StaysUnder path (turns child function rest first path k n)
+  turns-under : (path : List ℕ) (function : ℕ) (rest : List Value) (first : ℤ) (k n : ℕ) → StaysUnder path (loop_evaluation child function rest first path k n)
   turns-under path function rest first k zero = nothing path []
   turns-under path function rest first k (suc n) =
       let o = iteration function rest first path k in
-      under-then path (child o) (λ vs. turns child function rest first path (k + 1) n then λ ws. done (vs ++ ws)) (child-under path k (child o) (fine o))
-      (λ vs. under-then path (turns child function rest first path (k + 1) n) (λ ws. done (vs ++ ws)) (turns-under path function rest first (k + 1) n) (λ ws. nothing path (vs ++ ws)))
+      under-then path (child o) (λ vs. loop_evaluation child function rest first path (k + 1) n then λ ws. done (vs ++ ws)) (child-under path k (child o) (fine o))
+      (λ vs. under-then path (loop_evaluation child function rest first path (k + 1) n) (λ ws. done (vs ++ ws)) (turns-under path function rest first (k + 1) n) (λ ws. nothing path (vs ++ ws)))
 
 with-under : (plan : PlanView) (child : Origin → Evaluation) → ((o : Origin) → StaysUnder (path_of o) (child o)) → (o : Origin) → StaysUnder (path_of o) (eval_with plan child o)
 with-under plan child fine (origin.Instance function args path) = instance-under plan child fine path (function_at (functions_of plan) function) args

@@ -7,9 +7,9 @@ use Rattle.serial_meaning.specs.Runs.{Run, done, after_items, goes_on, ◌then�
 use Rattle.serial_meaning.specs.Values.{Env}
 use Rattle.serial_meaning.specs.Functions.{function_at}
 use Rattle.serial_meaning.specs.Plan.{PlanView, functions_of}
-use Rattle.serial_meaning.specs.Exec.{State, strand, goes_out, frame, exec, instance, filled}
+use Rattle.serial_meaning.specs.Exec.{State, strand, goes_out, frame, exec, instance, with_loop_values}
 use Rattle.serial_meaning.specs.Eval.{Evaluation, path_of, iteration}
-use Rattle.serial_meaning.specs.Open.{Item, Happened, Child, Opened, Closed, NodeFault, Node, put_off_all, joined, loop_end, is_empty_loop, iterations, node_with}
+use Rattle.serial_meaning.specs.Open.{Item, Happened, Child, Opened, Closed, NodeFault, Node, put_off_all, unless_child_faulted, loop_end, is_empty_loop, iterations, node_with}
 use Rattle.serial_meaning.proofs.Equations.RunLaws.{then-then}
 use Rattle.serial_meaning.proofs.RisingPedigrees.Closed.{closed-exec, returned-q}
 use Rattle.serial_meaning.proofs.RisingPedigrees.Closed as Of
@@ -216,7 +216,7 @@ module _ (plan : PlanView) (child : Origin → Evaluation) where
     rise = ((not-itself (pedigree_of e) (path_of o) (h ∙ sym g), tt), (tt, w, tt));
   }
 
-  sync-spread : (path : List ℕ) (s : S) (k : Option Fault) → P path s.rank (after_items (Happened (event.Sync (strand path s)) ∷ []) (joined k then λ k. done (record s { rank = s.rank + 1; spawned = k })))
+  sync-spread : (path : List ℕ) (s : S) (k : Option Fault) → P path s.rank (after_items (Happened (event.Sync (strand path s)) ∷ []) (unless_child_faulted k then λ k. done (record s { rank = s.rank + 1; spawned = k })))
   sync-spread path s None = prefix path rank_of s.rank (s.rank + 1) (event.Sync (strand path s)) (Ok (record s { rank = s.rank + 1; spawned = None })) refl (omega arith) refl
   sync-spread path s (Some f) = record { hi = s.rank; up = omega arith; ends = tt; placed = (event-at path s.rank s.rank (omega arith), tt); rise = (tt, tt) }
 
@@ -253,7 +253,7 @@ module _ (plan : PlanView) (child : Origin → Evaluation) where
     q-new = λ path s. prefix path pair_rank s.rank (s.rank + 1) (event.New (strand path s)) (Ok (_, record s { rank = s.rank + 1 })) refl (omega arith) refl;
     p-join = λ path s. sync-spread path s s.spawned;
     q-child = λ path n vs s _. begins_child path pair_rank s.rank (event.Spawn (strand path s)) (origin.Instance n vs (strand path s)) _ refl refl tt refl;
-    p-loop = λ path n vs lo hi target s _. let o = origin.Loop n vs lo (strand path s) (record { lo = 0; hi = hi }) in loop-spread path (is_empty_loop o) (child o).ending o s (λ ws. filled target ws s.env) refl refl;
+    p-loop = λ path n vs lo hi target s _. let o = origin.Loop n vs lo (strand path s) (record { lo = 0; hi = hi }) in loop-spread path (is_empty_loop o) (child o).ending o s (λ ws. with_loop_values target ws s.env) refl refl;
     p-scope = λ path s r _ h. scope-spread path s r h;
     pp = λ path n r f h k. spread-then path rank_of rank_of n r f h k;
     pq = λ path n r f h k. spread-then path rank_of pair_rank n r f h k;

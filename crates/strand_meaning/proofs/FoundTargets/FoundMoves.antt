@@ -15,7 +15,7 @@ use Rattle.serial_meaning.specs.Runs.{Run, done, ◌then◌}
 use Rattle.serial_meaning.specs.Values.{value_of, values_of, slot_of, items_of, as_integer, is_true, at_index}
 use Rattle.serial_meaning.specs.Functions.{number_of, function_at}
 use Rattle.serial_meaning.specs.Plan.{PlanView, functions_of}
-use Rattle.serial_meaning.specs.Exec.{State, Manner, unless_fault, paid_from, tested, has_room, fits_depth, spawn, join_at, goes_out, implied, frame, called, right_side, found, looped, does, count_of}
+use Rattle.serial_meaning.specs.Exec.{State, Manner, unless_fault, paid_from, tested, has_room, fits_depth, spawn, sync_at, goes_out, implied, frame, called, right_side, found, looped, does, count_of}
 use Rattle.serial_meaning.specs.Open.{is_empty_loop}
 use Rattle.serial_meaning.specs.declared.value.Value.{Value}
 use Rattle.serial_meaning.specs.declared.value.Value.TheVariants.{Int}
@@ -37,7 +37,7 @@ use Rattle.strand_meaning.proofs.FoundTargets.LeftStatements.{spawned-found, nex
 use Rattle.strand_meaning.proofs.Unfilled.RestAfterEffects.{effect_parts}
 
 -- Where the innermost frame finds this variable, all children are found that a run with it hands out; and none is, where the run goes inside.
-module _ (plan : PlanView) (path : List ℕ) (functions : List ℕ) (place : Destination) (finds : FindsDestination plan functions place) where
+module _ (plan : PlanView) (path : List ℕ) (functions : List ℕ) (destination : Destination) (finds : FindsDestination plan functions destination) where
   abbrev HandsFound : {A : Type 0} → List Effect → Result A Exit → Type 0
   HandsFound ts (Ok a) = FindsTargets plan functions (effect_parts ts)
   HandsFound ts (Err (Faulted f)) = Unit {0}
@@ -47,7 +47,7 @@ module _ (plan : PlanView) (path : List ℕ) (functions : List ℕ) (place : Des
   Hands r = HandsFound r.items r.ending
 
   abbrev what : Manner Effect Exit Bool
-  what = handing plan place
+  what = handing plan destination
 
   hands-then : {A B : Type 0} (r : Run Effect Exit A) (go : A → B) → Hands r → Hands (r then λ a. done (go a))
   hands-then {A} {B} r go h = from r.ending h
@@ -69,7 +69,7 @@ module _ (plan : PlanView) (path : List ℕ) (functions : List ℕ) (place : Des
   hands-paid zero s go h = tt
   hands-paid (suc n) s go h = h (record s { steps = n })
 
-  hands-join : (here : List ℕ) (s : State Bool) → Hands (join_at what plan path here s)
+  hands-join : (here : List ℕ) (s : State Bool) → Hands (sync_at what plan path here s)
   hands-join here s = from s.spawned
     where
       from : (b : Bool) → FindsTargets plan functions (effect_parts (Emitted (event.Sync (here ++ s.rank ∷ [])) ∷ (sync_effects b ++ [])))
@@ -103,7 +103,7 @@ module _ (plan : PlanView) (path : List ℕ) (functions : List ℕ) (place : Des
       o : Origin
       o = origin.Loop (number_of (functions_of plan) c.name.bytes) vs lo (path ++ s.rank ∷ []) (record { lo = 0; hi = hi })
 
-      by_size : (b : Bool) → FindsTargets plan functions (effect_parts (Emitted (event.Loop (path ++ s.rank ∷ [])) ∷ (loop_effects b o place ++ [])))
+      by_size : (b : Bool) → FindsTargets plan functions (effect_parts (Emitted (event.Loop (path ++ s.rank ∷ [])) ∷ (loop_effects b o destination ++ [])))
       by_size true = tt
       by_size false = (finds, tt)
 
@@ -142,13 +142,13 @@ module _ (plan : PlanView) (path : List ℕ) (parts : List AwaitedChild) (m : Ma
   height = length m.below
 
   -- whatever a run leaves, where the frames stay when it ends
-  moved-found : (place : Destination) (finds : FindsDestination plan (functions_in m) place) (on : State Bool → Machine) → ((s : State Bool) → functions_in (on s) ≡ functions_in m) →
+  moved-found : (destination : Destination) (finds : FindsDestination plan (functions_in m) destination) (on : State Bool → Machine) → ((s : State Bool) → functions_in (on s) ≡ functions_in m) →
       (into : List Stmt → State Bool → Machine) → ((inner : List Stmt) (s : State Bool) → FindsTargets plan (functions_in (into inner s)) parts) →
-      (ts : List Effect) (e : Result (State Bool) Exit) → HandsFound plan path (functions_in m) place finds ts e → FoundEnd plan parts ts (reached plan on into e)
-  moved-found place finds on stays into inside-found ts (Ok s) h =
+      (ts : List Effect) (e : Result (State Bool) Exit) → HandsFound plan path (functions_in m) destination finds ts e → FoundEnd plan parts ts (reached plan on into e)
+  moved-found destination finds on stays into inside-found ts (Ok s) h =
       subst (λ (fs : List ℕ). FindsTargets plan fs (parts ++ effect_parts ts)) (sym (stays s)) (found-append plan (functions_in m) parts (effect_parts ts) before h)
-  moved-found place finds on stays into inside-found ts (Err (Faulted f)) h = tt
-  moved-found place finds on stays into inside-found ts (Err (Inside here calls inner s)) h =
+  moved-found destination finds on stays into inside-found ts (Err (Faulted f)) h = tt
+  moved-found destination finds on stays into inside-found ts (Err (Inside here calls inner s)) h =
       found-append plan (functions_in (into inner s)) parts (effect_parts ts) (inside-found inner s) (subst (FindsTargets plan (functions_in (into inner s))) (sym h) tt)
 
   -- a callee is begun
@@ -183,10 +183,10 @@ module _ (plan : PlanView) (path : List ℕ) (parts : List AwaitedChild) (m : Ma
   statement-found : (st : Stmt) (left : List Stmt) → FindsDestination plan (functions_in m) (destination_of height (act_of st)) →
       FoundEnd plan parts (statement_move plan path m st left).items (statement_move plan path m st left).ending
   statement-found st left finds =
-      let place = destination_of height (act_of st) in
+      let destination = destination_of height (act_of st) in
       let r = act_run plan path m st (act_of st) in
-      moved-found place finds (with_left m left) (λ s. refl) (machine_inside plan st (act_of st) left m) (entered-found st (act_of st) left) r.items r.ending
-      (hands-paid plan (here_of path m) (functions_in m) place finds m.steps (state_of m) _ (λ s. hands-does plan (here_of path m) (functions_in m) place finds height st (act_of st) s))
+      moved-found destination finds (with_left m left) (λ s. refl) (machine_inside plan st (act_of st) left m) (entered-found st (act_of st) left) r.items r.ending
+      (hands-paid plan (here_of path m) (functions_in m) destination finds m.steps (state_of m) _ (λ s. hands-does plan (here_of path m) (functions_in m) destination finds height st (act_of st) s))
 
   -- the value of a return
   value-found : FoundEnd plan parts (return_move plan path m true).items (return_move plan path m true).ending
@@ -223,7 +223,7 @@ module _ (plan : PlanView) (path : List ℕ) (parts : List AwaitedChild) (m : Ma
   level-found : (l : Level) (ls : List Level) (b : Bool) → FoundEnd plan parts (level_move plan path m l ls b).items (level_move plan path m l ls b).ending
   level-found l ls true = still-found (out_of_level m l ls) (λ s. refl) (goes_out (handing plan (Spawned height None)) plan (inside_of (present path m.below) ls) l.rank (state_of m)) tt
   level-found l ls false =
-      still-found (with_leaving m) (λ s. refl) (join_at (handing plan (Spawned height None)) plan (present path m.below) (here_of path m) (state_of m))
+      still-found (with_leaving m) (λ s. refl) (sync_at (handing plan (Spawned height None)) plan (present path m.below) (here_of path m) (state_of m))
       (hands-join plan (present path m.below) (functions_in m) (Spawned height None) none-found (here_of path m) (state_of m))
 
   pub found-move : IsFoundPlan plan → UnfilledArePending plan parts (Running m) → FoundEnd plan parts (move plan path m).items (move plan path m).ending
@@ -244,6 +244,6 @@ functions-after [] k = refl
 functions-after (Opens j ∷ ts) k = functions-after ts k
 functions-after (Closes j ∷ ts) k = functions-after ts k
 functions-after (Emitted e ∷ ts) k = functions-after ts k
-functions-after (Handed o place ∷ ts) k = functions-after ts k
+functions-after (Handed o destination ∷ ts) k = functions-after ts k
 functions-after (Syncs ∷ ts) k = refl
 functions-after (Loops ∷ ts) k = refl

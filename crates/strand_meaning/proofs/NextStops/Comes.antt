@@ -13,7 +13,7 @@ use Rattle.serial_meaning.specs.declared.origin.Origin.TheVariants.{Instance, Lo
 use Rattle.serial_meaning.specs.declared.answer.Outcome.{Outcome}
 use Rattle.strand_meaning.specs.Machine.{Effect, Opens, Closes, Emitted, Handed, Syncs, Loops, Machine, Reached, Stands, Gives, begun, move}
 use Rattle.strand_meaning.specs.Trace.{AwaitedChild}
-use Rattle.strand_meaning.specs.Task.{InstanceState, Running, AtSync, AtLoop, Ended, Work, Splits, Runs, Over, Task, begun_stage, own_instance, begins_last, MoveOrStop, Passes, Stops, Stop, IsNext, Now, Later, stage_after, child_in, stops_at, passing, moved, ends_unless, faults_after, gave, stage_step, split_step, over_step, work_step, step}
+use Rattle.strand_meaning.specs.Task.{InstanceState, Running, AtSync, AtLoop, Ended, Work, Splits, Runs, Finished, Task, begun_stage, own_instance, begins_last, MoveOrStop, Passes, Stops, Stop, IsNext, Now, Later, stage_after, child_in, stops_at, passing, moved, ends_unless, faults_after, gave, stage_step, split_step, over_step, work_step, step}
 use Rattle.strand_meaning.specs.Left.{moves_of, stage_moves, work_moves, moves_left}
 use Rattle.strand_meaning.proofs.NextStops.Falls.{Falls, move-falls}
 
@@ -27,7 +27,7 @@ stage-after-falls [] k n h = h
 stage-after-falls (Opens j ∷ ts) k n h = stage-after-falls ts k n h
 stage-after-falls (Closes j ∷ ts) k n h = stage-after-falls ts k n h
 stage-after-falls (Emitted e ∷ ts) k n h = stage-after-falls ts k n h
-stage-after-falls (Handed o place ∷ ts) k n h = stage-after-falls ts k n h
+stage-after-falls (Handed o destination ∷ ts) k n h = stage-after-falls ts k n h
 stage-after-falls (Syncs ∷ ts) k n h = omega arith
 stage-after-falls (Loops ∷ ts) k n h = omega arith
 
@@ -90,8 +90,8 @@ module _ (t : Task) where
   work-falls : (work : Work) → StepFalls (work_moves t.plan work) (work_step t work)
   work-falls (Splits left) = split-falls left (left.hi - left.lo)
   work-falls (Runs stage) = stage-falls stage
-  work-falls (Over v true) = ends-fall 0 t.trace.fault _
-  work-falls (Over v false) = over-falls v t.origin
+  work-falls (Finished v true) = ends-fall 0 t.trace.fault _
+  work-falls (Finished v false) = over-falls v t.origin
 
 -- a move leaves fewer
 pub moves_fall : (t next : Task) → step t ≡ Passes next → moves_left next < moves_left t

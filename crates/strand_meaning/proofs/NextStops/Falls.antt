@@ -51,42 +51,42 @@ Falls m (Err f) = Unit {0}
 
 module _ (plan : PlanView) (path : List ℕ) where
   abbrev what : Destination → Manner Effect Exit Bool
-  what place = handing plan place
+  what destination = handing plan destination
 
-  within-given : {A B : Type 0} (steps : B → ℕ) (n : ℕ) (place : Destination) (o : Result A FaultKind) (s : State Bool) (f : A → Run Effect Exit B) → ((a : A) → Within steps n (f a).ending) → Within steps n (unless_fault (what place) plan path o s f).ending
-  within-given steps n place (Ok a) s f h = h a
-  within-given steps n place (Err k) s f h = tt
+  within-given : {A B : Type 0} (steps : B → ℕ) (n : ℕ) (destination : Destination) (o : Result A FaultKind) (s : State Bool) (f : A → Run Effect Exit B) → ((a : A) → Within steps n (f a).ending) → Within steps n (unless_fault (what destination) plan path o s f).ending
+  within-given steps n destination (Ok a) s f h = h a
+  within-given steps n destination (Err k) s f h = tt
 
-  within-tested : {B : Type 0} (steps : B → ℕ) (n : ℕ) (place : Destination) (b : Bool) (k : FaultKind) (s : State Bool) (f : Run Effect Exit B) → Within steps n f.ending → Within steps n (tested (what place) plan path b k s f).ending
-  within-tested steps n place true k s f h = h
-  within-tested steps n place false k s f h = tt
+  within-tested : {B : Type 0} (steps : B → ℕ) (n : ℕ) (destination : Destination) (b : Bool) (k : FaultKind) (s : State Bool) (f : Run Effect Exit B) → Within steps n f.ending → Within steps n (tested (what destination) plan path b k s f).ending
+  within-tested steps n destination true k s f h = h
+  within-tested steps n destination false k s f h = tt
 
   module _ (n : ℕ) where
-    spawn-within : (place : Destination) (c : CallText) (s : State Bool) → s.steps ≤ n → Within pair_steps n (spawn (what place) plan path c s).ending
-    spawn-within place c s h = within-given pair_steps n place (values_of c.args s.env) s _ (λ vs. within-tested pair_steps n place (nat_lt (length path + 1) plan.limits.depth) Depth s _ h)
+    spawn-within : (destination : Destination) (c : CallText) (s : State Bool) → s.steps ≤ n → Within pair_steps n (spawn (what destination) plan path c s).ending
+    spawn-within destination c s h = within-given pair_steps n destination (values_of c.args s.env) s _ (λ vs. within-tested pair_steps n destination (nat_lt (length path + 1) plan.limits.depth) Depth s _ h)
 
-    called-within : (place : Destination) (calls : ℕ) (c : CallText) (s : State Bool) → s.steps ≤ n → Within pair_steps n (called (what place) plan path inside calls c s).ending
-    called-within place calls c s h =
-        within-given pair_steps n place (values_of c.args s.env) s _ (λ vs. within-tested pair_steps n place (nat_lt calls 256) Calls s _
-        (within-then pair_steps pair_steps n (frame (what place) plan path inside (calls + 1) callee vs s) _ (by_function vs callee) (λ p g. g)))
+    called-within : (destination : Destination) (calls : ℕ) (c : CallText) (s : State Bool) → s.steps ≤ n → Within pair_steps n (called (what destination) plan path inside calls c s).ending
+    called-within destination calls c s h =
+        within-given pair_steps n destination (values_of c.args s.env) s _ (λ vs. within-tested pair_steps n destination (nat_lt calls 256) Calls s _
+        (within-then pair_steps pair_steps n (frame (what destination) plan path inside (calls + 1) callee vs s) _ (by_function vs callee) (λ p g. g)))
       where
         callee : Option Function
         callee = function_at (functions_of plan) (number_of (functions_of plan) c.name.bytes)
 
-        by_function : (vs : List Value) (o : Option Function) → Within pair_steps n (frame (what place) plan path inside (calls + 1) o vs s).ending
+        by_function : (vs : List Value) (o : Option Function) → Within pair_steps n (frame (what destination) plan path inside (calls + 1) o vs s).ending
         by_function vs None = h
         by_function vs (Some f) = h
 
-    right-within : (place : Destination) (calls : ℕ) (r : Right) (s : State Bool) → s.steps ≤ n → Within pair_steps n (right_side (what place) plan path inside calls r s).ending
-    right-within place calls (right.Value e) s h = within-given pair_steps n place (value_of e s.env) s _ (λ v. h)
-    right-within place calls (right.Draw at) s h = h
-    right-within place calls (right.New at) s h = h
-    right-within place calls (right.Call at c) s h = called-within place calls c s h
-    right-within place calls (right.Spawn at c) s h = spawn-within place c s h
+    right-within : (destination : Destination) (calls : ℕ) (r : Right) (s : State Bool) → s.steps ≤ n → Within pair_steps n (right_side (what destination) plan path inside calls r s).ending
+    right-within destination calls (right.Value e) s h = within-given pair_steps n destination (value_of e s.env) s _ (λ v. h)
+    right-within destination calls (right.Draw at) s h = h
+    right-within destination calls (right.New at) s h = h
+    right-within destination calls (right.Call at c) s h = called-within destination calls c s h
+    right-within destination calls (right.Spawn at c) s h = spawn-within destination c s h
 
-    looped-within : (place : Destination) (lo : ℤ) (hi : ℕ) (vs : List Value) (target : Option Name) (c : CallText) (s : State Bool) → s.steps ≤ n → Within steps_of n (looped (what place) plan path lo hi vs target c s).ending
-    looped-within place lo hi vs target c s h =
-        within-tested steps_of n place (nat_lt hi (s.steps + 1)) Budget s _ (within-tested steps_of n place (has_room target hi s.env) Index _ _ (within-tested steps_of n place (fits_depth (what place) plan path hi) Depth _ _ fewer))
+    looped-within : (destination : Destination) (lo : ℤ) (hi : ℕ) (vs : List Value) (target : Option Name) (c : CallText) (s : State Bool) → s.steps ≤ n → Within steps_of n (looped (what destination) plan path lo hi vs target c s).ending
+    looped-within destination lo hi vs target c s h =
+        within-tested steps_of n destination (nat_lt hi (s.steps + 1)) Budget s _ (within-tested steps_of n destination (has_room target hi s.env) Index _ _ (within-tested steps_of n destination (fits_depth (what destination) plan path hi) Depth _ _ fewer))
       where
         fewer : s.steps - hi ≤ n
         fewer = omega arith

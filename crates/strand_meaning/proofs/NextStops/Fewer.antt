@@ -15,7 +15,7 @@ use Rattle.serial_meaning.specs.declared.answer.Outcome.{Outcome}
 use Rattle.script_grammar.specs.declared.tree.Name.{Name}
 use Rattle.strand_meaning.specs.Machine.{Destination, Spawned, Looped, Half, Effect, Opens, Closes, Emitted, Handed, Syncs, Loops, loop_effects, sync_effects, Machine, Reached, Stands, Gives, begun, move}
 use Rattle.strand_meaning.specs.Trace.{AwaitedChild, with_effects}
-use Rattle.strand_meaning.specs.Task.{InstanceState, Running, AtSync, AtLoop, Ended, Work, Splits, Runs, Over, Task, begun_stage, begins_last, own_instance, MoveOrStop, Passes, Stops, Stop, Spawn, Wait, End, IsNext, Now, Later, stage_after, child_in, stops_at, passing, moved, waits, ends_unless, faults_after, gave, stage_step, split_step, over_step, work_step, step, takes, takes_all, joins, resumed, resumed_work, on}
+use Rattle.strand_meaning.specs.Task.{InstanceState, Running, AtSync, AtLoop, Ended, Work, Splits, Runs, Finished, Task, begun_stage, begins_last, own_instance, MoveOrStop, Passes, Stops, Stop, Spawn, Wait, End, IsNext, Now, Later, stage_after, child_in, stops_at, passing, moved, waits, ends_unless, faults_after, gave, stage_step, split_step, over_step, work_step, step, takes, takes_all, joins, resumed, resumed_work, on}
 use Rattle.strand_meaning.specs.Rest.{children_of, evaluations, rest_of_stage, rest_open}
 use Rattle.strand_meaning.specs.Sound.{AreHalves, IsSoundStage, IsSoundWork, IsTask}
 use Rattle.strand_meaning.specs.Left.{item_stops, at_end, stage_stops, work_stops, stops_of, stops_left}
@@ -37,7 +37,7 @@ waits_in [] = 0
 waits_in (Opens j ∷ ts) = waits_in ts
 waits_in (Closes j ∷ ts) = waits_in ts
 waits_in (Emitted e ∷ ts) = waits_in ts
-waits_in (Handed o place ∷ ts) = waits_in ts
+waits_in (Handed o destination ∷ ts) = waits_in ts
 waits_in (Syncs ∷ ts) = 1
 waits_in (Loops ∷ ts) = 1
 
@@ -56,7 +56,7 @@ effects-append [] ys = omega arith
 effects-append (Opens j ∷ xs) ys = effects-append xs ys
 effects-append (Closes j ∷ xs) ys = effects-append xs ys
 effects-append (Emitted e ∷ xs) ys = let h : item_stops (effect_items (xs ++ ys)) ≡ item_stops (effect_items xs) + item_stops (effect_items ys) = effects-append xs ys in omega arith
-effects-append (Handed o place ∷ xs) ys = let h : item_stops (effect_items (xs ++ ys)) ≡ item_stops (effect_items xs) + item_stops (effect_items ys) = effects-append xs ys in omega arith
+effects-append (Handed o destination ∷ xs) ys = let h : item_stops (effect_items (xs ++ ys)) ≡ item_stops (effect_items xs) + item_stops (effect_items ys) = effects-append xs ys in omega arith
 effects-append (Syncs ∷ xs) ys = effects-append xs ys
 effects-append (Loops ∷ xs) ys = effects-append xs ys
 
@@ -65,7 +65,7 @@ waits-append [] ys = omega arith
 waits-append (Opens j ∷ xs) ys = waits-append xs ys
 waits-append (Closes j ∷ xs) ys = waits-append xs ys
 waits-append (Emitted e ∷ xs) ys = waits-append xs ys
-waits-append (Handed o place ∷ xs) ys = waits-append xs ys
+waits-append (Handed o destination ∷ xs) ys = waits-append xs ys
 waits-append (Syncs ∷ xs) ys = omega arith
 waits-append (Loops ∷ xs) ys = omega arith
 
@@ -99,7 +99,7 @@ child-paid [] o h = absurd (cc)
 child-paid (Opens j ∷ ts) o h = child-paid ts o h
 child-paid (Closes j ∷ ts) o h = child-paid ts o h
 child-paid (Emitted e ∷ ts) o h = let k : 2 ≤ item_stops (effect_items ts) = child-paid ts o h in omega arith
-child-paid (Handed c place ∷ ts) o h = omega arith
+child-paid (Handed c destination ∷ ts) o h = omega arith
 child-paid (Syncs ∷ ts) o h = child-paid ts o h
 child-paid (Loops ∷ ts) o h = child-paid ts o h
 
@@ -108,7 +108,7 @@ few-waits [] = omega arith
 few-waits (Opens j ∷ ts) = few-waits ts
 few-waits (Closes j ∷ ts) = few-waits ts
 few-waits (Emitted e ∷ ts) = few-waits ts
-few-waits (Handed o place ∷ ts) = few-waits ts
+few-waits (Handed o destination ∷ ts) = few-waits ts
 few-waits (Syncs ∷ ts) = omega arith
 few-waits (Loops ∷ ts) = omega arith
 
@@ -123,7 +123,7 @@ stage-stops plan child path parts [] k = omega arith
 stage-stops plan child path parts (Opens j ∷ ts) k = stage-stops plan child path parts ts k
 stage-stops plan child path parts (Closes j ∷ ts) k = stage-stops plan child path parts ts k
 stage-stops plan child path parts (Emitted e ∷ ts) k = stage-stops plan child path parts ts k
-stage-stops plan child path parts (Handed o place ∷ ts) k = stage-stops plan child path parts ts k
+stage-stops plan child path parts (Handed o destination ∷ ts) k = stage-stops plan child path parts ts k
 stage-stops plan child path parts (Syncs ∷ ts) k = omega arith
 stage-stops plan child path parts (Loops ∷ ts) k = omega arith
 
@@ -240,7 +240,7 @@ module _ (t : Task) (is : IsTask t) (idle : t.waiting ≡ false) where
 
   fewer-gave : (o : Origin) (v : Value) → t.work ≡ Runs (Ended (Ok v)) → FewerStep t (gave t o v)
   fewer-gave (Instance function args path) v at = fewer-ends t.trace.fault _
-  fewer-gave (Loop function rest first path range) v at = fewer-work (Runs (Ended (Ok v))) (Over v false) at (from ps)
+  fewer-gave (Loop function rest first path range) v at = fewer-work (Runs (Ended (Ok v))) (Finished v false) at (from ps)
     where
       from : (qs : List AwaitedChild) → 1 + 1 ≤ 2 + at_end false qs
       from [] = omega arith
@@ -254,14 +254,14 @@ module _ (t : Task) (is : IsTask t) (idle : t.waiting ≡ false) where
   fewer-stage (Ended (Err (Own f))) at sound = fewer-faults f ps refl at
   fewer-stage (Ended (Err (ChildFaulted f))) at sound = fewer-ends t.trace.fault _
 
-  fewer-over : (v : Value) (o : Origin) → t.work ≡ Over v false → FewerStep t (over_step t v o)
+  fewer-over : (v : Value) (o : Origin) → t.work ≡ Finished v false → FewerStep t (over_step t v o)
   fewer-over v (Instance function args path) at = fewer-ends t.trace.fault _
   fewer-over v (Loop function rest first path range) at = by_size (range.hi - range.lo) refl
     where
       by_size : (n : ℕ) → range.hi - range.lo ≡ n → FewerStep t (over_step t v (Loop function rest first path range))
       by_size zero g = rw g (fewer-ends t.trace.fault _)
       by_size (suc zero) g = rw g (fewer-ends t.trace.fault _)
-      by_size (suc (suc n)) g = rw g (fewer-wait (Over v false) at (omega arith))
+      by_size (suc (suc n)) g = rw g (fewer-wait (Finished v false) at (omega arith))
 
   -- parts of a loop don't count before the first move of its last iteration
   begun-few : (child : Origin → Evaluation) (path : List ℕ) → AreHalves ps → (r : Reached) → stage_stops t.plan child path false ps (begun_stage r) ≤ 1 + stage_stops t.plan child path false [] (begun_stage r)
@@ -297,8 +297,8 @@ module _ (t : Task) (is : IsTask t) (idle : t.waiting ≡ false) where
   fewer-of : (work : Work) → t.work ≡ work → IsSoundWork t.plan t.origin ps work → FewerStep t (work_step t work)
   fewer-of (Splits left) at sound = fewer-split left (left.hi - left.lo) refl at sound.1
   fewer-of (Runs stage) at sound = fewer-stage stage at sound.2
-  fewer-of (Over v true) at sound = fewer-ends t.trace.fault _
-  fewer-of (Over v false) at sound = fewer-over v t.origin at
+  fewer-of (Finished v true) at sound = fewer-ends t.trace.fault _
+  fewer-of (Finished v false) at sound = fewer-over v t.origin at
 
   fewer-step : FewerStep t (step t)
   fewer-step = fewer-of t.work refl is.work
@@ -337,10 +337,10 @@ module _ (plan : PlanView) (child : Origin → Evaluation) (path : List ℕ) whe
   ended-few : (ps : List AwaitedChild) (answers : List Evaluation) (e : Result Value NodeFault) → stage_stops plan child path false [] (resumed (takes_all ps answers (Ended e))) ≤ 1
   ended-few [] answers e = omega arith
   ended-few (p ∷ ps) [] e = omega arith
-  ended-few (p ∷ ps) (answer ∷ answers) e = from p.place answer.ending (ended-few ps answers)
+  ended-few (p ∷ ps) (answer ∷ answers) e = from p.destination answer.ending (ended-few ps answers)
     where
-      from : (place : Destination) (q : Result (List Value) Fault) → ((e : Result Value NodeFault) → stage_stops plan child path false [] (resumed (takes_all ps answers (Ended e))) ≤ 1) →
-          stage_stops plan child path false [] (resumed (takes_all ps answers (takes place q (Ended e)))) ≤ 1
+      from : (destination : Destination) (q : Result (List Value) Fault) → ((e : Result Value NodeFault) → stage_stops plan child path false [] (resumed (takes_all ps answers (Ended e))) ≤ 1) →
+          stage_stops plan child path false [] (resumed (takes_all ps answers (takes destination q (Ended e)))) ≤ 1
       from (Spawned owner target) q later = later e
       from (Looped target) (Ok vs) later = later e
       from (Looped target) (Err f) later = later (Err (ChildFaulted f))
@@ -388,8 +388,8 @@ answers_leave_no_more t is stands = whole (by_work t.work)
     by_work : (work : Work) → stops_of t.plan t.origin false [] (resumed_work ps answers work) ≤ stops_of t.plan t.origin true ps work
     by_work (Splits left) = omega arith
     by_work (Runs stage) = two _ _ (by_stage stage)
-    by_work (Over v true) = omega arith
-    by_work (Over v false) = omega arith
+    by_work (Finished v true) = omega arith
+    by_work (Finished v false) = omega arith
 
     whole : stops_of t.plan t.origin false [] (resumed_work ps answers t.work) ≤ stops_of t.plan t.origin true ps t.work → stops_left (on answers t) ≤ stops_left t
     whole h =

@@ -13,7 +13,7 @@ use Rattle.serial_meaning.specs.declared.origin.Origin.TheVariants.{Instance, Lo
 use Rattle.serial_meaning.specs.declared.answer.Outcome.{Outcome}
 use Rattle.strand_meaning.specs.Machine.{Effect, Reached, Stands, Gives, move}
 use Rattle.strand_meaning.specs.Trace.{AwaitedChild}
-use Rattle.strand_meaning.specs.Task.{InstanceState, Running, AtSync, AtLoop, Ended, Work, Splits, Runs, Over, Task, own_instance, MoveOrStop, Passes, Stops, Stop, Spawn, Wait, End, IsNext, Now, Later, stage_after, child_in, stops_at, passing, moved, ends_unless, faults_after, gave, stage_step, split_step, over_step, work_step, step}
+use Rattle.strand_meaning.specs.Task.{InstanceState, Running, AtSync, AtLoop, Ended, Work, Splits, Runs, Finished, Task, own_instance, MoveOrStop, Passes, Stops, Stop, Spawn, Wait, End, IsNext, Now, Later, stage_after, child_in, stops_at, passing, moved, ends_unless, faults_after, gave, stage_step, split_step, over_step, work_step, step}
 use Rattle.strand_meaning.specs.Sound.{IsTask}
 use Rattle.strand_meaning.specs.Laws.{IsSoundStop, IsSoundStep, IsFaultOf, IsOf, KeepsOrigin}
 use Rattle.strand_meaning.proofs.SoundSteps.Ends.{steps_are_sound}
@@ -69,8 +69,8 @@ module _ (t : Task) where
   keeps-work : (work : Work) → KeepsStep t (work_step t work)
   keeps-work (Splits left) = keeps-split left (left.hi - left.lo)
   keeps-work (Runs stage) = keeps-stage stage
-  keeps-work (Over v true) = keeps-ends t.trace.fault _
-  keeps-work (Over v false) = keeps-over v t.origin
+  keeps-work (Finished v true) = keeps-ends t.trace.fault _
+  keeps-work (Finished v false) = keeps-over v t.origin
 
 pub step-keeps : (t : Task) → KeepsStep t (step t)
 step-keeps t = keeps-work t t.work

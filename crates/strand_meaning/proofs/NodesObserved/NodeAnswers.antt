@@ -10,7 +10,7 @@ use Rattle.serial_meaning.specs.declared.origin.Origin.{Origin}
 use Rattle.serial_meaning.specs.declared.origin.Origin.TheVariants.{Instance, Loop}
 use Rattle.strand_meaning.specs.Machine.{Destination, Spawned, Looped, Half, Machine}
 use Rattle.strand_meaning.specs.Trace.{AwaitedChild}
-use Rattle.strand_meaning.specs.Task.{InstanceState, Running, AtSync, AtLoop, Ended, Work, Splits, Runs, Over, Task, in_machine, takes, takes_all, joins, resumed, on}
+use Rattle.strand_meaning.specs.Task.{InstanceState, Running, AtSync, AtLoop, Ended, Work, Splits, Runs, Finished, Task, in_machine, takes, takes_all, joins, resumed, on}
 use Rattle.strand_meaning.specs.Rest.{evaluations}
 use Rattle.strand_meaning.specs.Sound.{IsSoundStage, IsTask}
 use Rattle.strand_meaning.specs.Observation.{IsInstance, work_left, Observation, stage_fault, IsOnWay}
@@ -25,7 +25,7 @@ in-none change (AtSync m) h = refl
 in-none change (AtLoop m) h = refl
 in-none change (Ended e) h = h
 
-takes-none : (place : Destination) (ended : Result (List Value) Fault) (stage : InstanceState) → stage_fault stage ≡ None → stage_fault (takes place ended stage) ≡ None
+takes-none : (destination : Destination) (ended : Result (List Value) Fault) (stage : InstanceState) → stage_fault stage ≡ None → stage_fault (takes destination ended stage) ≡ None
 takes-none (Spawned height target) ended stage h = in-none _ stage h
 takes-none (Looped target) (Ok vs) stage h = in-none _ stage h
 takes-none (Looped target) (Err f) stage h = refl
@@ -33,7 +33,7 @@ takes-none Half ended stage h = h
 
 all-none : (child : Origin → Evaluation) (ps : List AwaitedChild) (stage : InstanceState) → stage_fault stage ≡ None → stage_fault (takes_all ps (evaluations child ps) stage) ≡ None
 all-none child [] stage h = h
-all-none child (p ∷ ps) stage h = all-none child ps (takes p.place (child p.child).ending stage) (takes-none p.place (child p.child).ending stage h)
+all-none child (p ∷ ps) stage h = all-none child ps (takes p.destination (child p.child).ending stage) (takes-none p.destination (child p.child).ending stage h)
 
 joins-none : (f : Option Fault) (m : Machine) → stage_fault (joins f m) ≡ None
 joins-none None m = refl
@@ -62,7 +62,7 @@ stage-answers : (t : Task) (function : ℕ) (args : List Value) (path : List ℕ
 stage-answers t function args path stage observation is h = record {
   node = h.node ∙ ap (after_items observation.items) same;
   fault = h.fault ∙ stays t.plan (eval t.plan) t.trace.handed stage is.work.2;
-  joined = h.joined;
+  child_fault = h.child_fault;
 }
   where
     u : Task
@@ -88,5 +88,5 @@ answers_show_nothing t observation is inst h = by_origin t.origin is inst h
             let u : Task = record t { origin = Instance function args path; work = work } in IsOnWay observation (on (evaluations (eval u.plan) u.trace.handed) u)
         by_work (Splits left) is h = absurd is.work.0
         by_work (Runs stage) is h = stage-answers t function args path stage observation is h
-        by_work (Over v true) is h = absurd is.work.0
-        by_work (Over v false) is h = absurd is.work.0
+        by_work (Finished v true) is h = absurd is.work.0
+        by_work (Finished v false) is h = absurd is.work.0

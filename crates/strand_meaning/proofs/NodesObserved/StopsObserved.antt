@@ -1,4 +1,4 @@
--- What is noted of a task on its way.
+-- What is observed of a task on its way.
 use Rattle.std.proofs.Common.{◌≡◌, ℕ, Bool, true, false, List, [], ◌∷◌, ◌++◌, Option, Some, None, Result, Ok, Err, refl, sym, ap, ◌∙◌, subst, append_assoc, append-nil, length}
 use Rattle.script_grammar.specs.declared.tree.Function.{Function}
 use Rattle.serial_meaning.specs.Runs.{Run, done, after_items, ◌then◌}
@@ -13,11 +13,11 @@ use Rattle.serial_meaning.specs.declared.origin.Origin.TheVariants.{Instance, Lo
 use Rattle.serial_meaning.specs.declared.answer.Outcome.{Outcome}
 use Rattle.strand_meaning.specs.Machine.{Effect, Opens, Closes, Emitted, Handed, Syncs, Loops, Machine, Reached, Stands, Gives, begun, move}
 use Rattle.strand_meaning.specs.Trace.{AwaitedChild, Trace, with_effects}
-use Rattle.strand_meaning.specs.Task.{InstanceState, Running, AtSync, AtLoop, Ended, Work, Splits, Runs, Over, Task, MoveOrStop, Passes, Stops, Stop, Spawn, Wait, End, IsNext, Now, Later, stage_after, child_in, stops_at, passing, moved, ends_unless, faults_after, resumed, begun_stage, start, step}
+use Rattle.strand_meaning.specs.Task.{InstanceState, Running, AtSync, AtLoop, Ended, Work, Splits, Runs, Finished, Task, MoveOrStop, Passes, Stops, Stop, Spawn, Wait, End, IsNext, Now, Later, stage_after, child_in, stops_at, passing, moved, ends_unless, faults_after, resumed, begun_stage, start, step}
 use Rattle.strand_meaning.specs.Rest.{children_of, rest_of_stage, rest_open}
 use Rattle.strand_meaning.specs.Laws.{IsSoundStep, IsOf}
 use Rattle.strand_meaning.specs.Sound.{AreDestinations, AreHalves, IsSoundStage, IsTask}
-use Rattle.strand_meaning.specs.Strands.{joined_fault}
+use Rattle.strand_meaning.specs.Strands.{fault_of_child}
 use Rattle.strand_meaning.specs.Observation.{IsInstance, work_left, Observation, no_observation, newest, also, effect_items, move_fault, stage_observation, step_observation, Shows, Now as ShownNow, Later as ShownLater, own_fault_of, stage_fault, IsOnWay, IsAllObserved, OnWay}
 use Rattle.strand_meaning.proofs.UnfilledPending.AlikeButEvents.{alike-effects, alike-takes}
 use Rattle.strand_meaning.proofs.SoundSteps.Closing.{after-then}
@@ -29,7 +29,7 @@ use Rattle.strand_meaning.proofs.SoundSteps.Starts.{begun-whole, halves-rest}
 use Rattle.strand_meaning.proofs.NextStops.Stops.{KeepsStep, step-keeps}
 use Rattle.strand_meaning.proofs.Unfilled.MovesBeforeAnswers.{shown_with, open-move, none-known}
 
--- Notes one after another
+-- Observations one after another
 
 newest-assoc : (a b c : Option Fault) → newest (newest a b) c ≡ newest a (newest b c)
 newest-assoc a b None = refl
@@ -37,9 +37,9 @@ newest-assoc a b (Some f) = refl
 
 pub also-assoc : (a b c : Observation) → also (also a b) c ≡ also a (also b c)
 also-assoc a b c =
-    ap (λ (l : List Item). record { items = l; fault = newest (newest a.fault b.fault) c.fault; joined = newest (newest a.joined b.joined) c.joined }) (append_assoc a.items b.items c.items)
-    ∙ ap (λ (f : Option Fault). record { items = a.items ++ (b.items ++ c.items); fault = f; joined = newest (newest a.joined b.joined) c.joined }) (newest-assoc a.fault b.fault c.fault)
-    ∙ ap (λ (f : Option Fault). record { items = a.items ++ (b.items ++ c.items); fault = newest a.fault (newest b.fault c.fault); joined = f }) (newest-assoc a.joined b.joined c.joined)
+    ap (λ (l : List Item). record { items = l; fault = newest (newest a.fault b.fault) c.fault; child_fault = newest (newest a.child_fault b.child_fault) c.child_fault }) (append_assoc a.items b.items c.items)
+    ∙ ap (λ (f : Option Fault). record { items = a.items ++ (b.items ++ c.items); fault = f; child_fault = newest (newest a.child_fault b.child_fault) c.child_fault }) (newest-assoc a.fault b.fault c.fault)
+    ∙ ap (λ (f : Option Fault). record { items = a.items ++ (b.items ++ c.items); fault = newest a.fault (newest b.fault c.fault); child_fault = f }) (newest-assoc a.child_fault b.child_fault c.child_fault)
 
 pub also-nothing : (observation : Observation) → also observation no_observation ≡ observation
 also-nothing observation = ap (λ (l : List Item). record observation { items = l }) (append-nil observation.items)
@@ -60,7 +60,7 @@ after-fault [] k = refl
 after-fault (Opens j ∷ ts) k = after-fault ts k
 after-fault (Closes j ∷ ts) k = after-fault ts k
 after-fault (Emitted e ∷ ts) k = after-fault ts k
-after-fault (Handed o place ∷ ts) k = after-fault ts k
+after-fault (Handed o destination ∷ ts) k = after-fault ts k
 after-fault (Syncs ∷ ts) k = refl
 after-fault (Loops ∷ ts) k = refl
 
@@ -73,7 +73,7 @@ moved-fault ts (Err f) = refl
 record Way (plan : PlanView) (o : Origin) (ps : List AwaitedChild) (stage : InstanceState) (observation : Observation) : Type 0 where
   node : opened plan o ≡ after_items observation.items (work_left plan o ps (Runs stage))
   fault : observation.fault ≡ stage_fault stage
-  joined : observation.joined ≡ None
+  child_fault : observation.child_fault ≡ None
 
 module _ (plan : PlanView) (o : Origin) where
   abbrev path : List ℕ
@@ -103,7 +103,7 @@ module _ (plan : PlanView) (o : Origin) where
 
     way-moved : (m : Machine) (observation : Observation) (ts : List Effect) (e : Result Reached Fault) → SoundEnd plan ps ts e →
         rest_open plan kids path ps (Running m) ≡ after_items (effect_items ts) (shown_with plan kids path ps ts e) → Way plan o ps (Running m) observation →
-        Way plan o (with_effects ts trace).handed (stage_moved ts e) (also observation (record { items = effect_items ts; fault = move_fault e; joined = None }))
+        Way plan o (with_effects ts trace).handed (stage_moved ts e) (also observation (record { items = effect_items ts; fault = move_fault e; child_fault = None }))
     way-moved m observation ts e fits leaves w = record {
       node =
           w.node
@@ -111,7 +111,7 @@ module _ (plan : PlanView) (o : Origin) where
           ∙ ap (after_items observation.items) (after-then (effect_items ts) (rest_open plan kids path (with_effects ts trace).handed (stage_moved ts e)) all_of)
           ∙ after-after observation.items (effect_items ts) (rest_open plan kids path (with_effects ts trace).handed (stage_moved ts e) then all_of);
       fault = ap (λ (f : Option Fault). newest f (move_fault e)) w.fault ∙ moved-fault ts e;
-      joined = w.joined;
+      child_fault = w.child_fault;
     }
       where
         all_of : Value → Run Item NodeFault (List Value)
@@ -146,22 +146,22 @@ module _ (plan : PlanView) (o : Origin) (ps : List AwaitedChild) (height : ℕ) 
       by_end (Ok v) same fault = record {
         items = ap (λ (n : Node). n.items) same;
         fault = ap (λ (n : Node). own_fault_of n.ending) same ∙ sym fault;
-        joined = ap (λ (n : Node). joined_fault n.ending) same ∙ sym w.joined;
+        child_fault = ap (λ (n : Node). fault_of_child n.ending) same ∙ sym w.child_fault;
       }
       by_end (Err (Own f)) same fault = record {
         items = ap (λ (n : Node). n.items) same;
         fault = ap (λ (n : Node). own_fault_of n.ending) same ∙ sym fault;
-        joined = ap (λ (n : Node). joined_fault n.ending) same ∙ sym w.joined;
+        child_fault = ap (λ (n : Node). fault_of_child n.ending) same ∙ sym w.child_fault;
       }
       by_end (Err (ChildFaulted f)) same fault = record {
         items = ap (λ (n : Node). n.items) same;
         fault = ap (λ (n : Node). own_fault_of n.ending) same ∙ sym fault;
-        joined = ap (λ (n : Node). joined_fault n.ending) same;
+        child_fault = ap (λ (n : Node). fault_of_child n.ending) same;
       }
 
 -- One step
 
--- a step of a task of which this is noted after it
+-- a step of a task of which this is observed after it
 abbrev OnStep : Observation → Task → MoveOrStop → Type 0
 OnStep observation t (Passes next) = IsOnWay observation next
 OnStep observation t (Stops stop) = OnWay observation t stop
@@ -182,11 +182,11 @@ module _ (t : Task) (function : ℕ) (args : List Value) (at : List ℕ) where
   Going = Way t.plan own t.trace.handed
 
   way-of : (stage : InstanceState) (observation : Observation) → IsOnWay observation (with_stage stage) → Going stage observation
-  way-of stage observation h = record { node = h.node; fault = h.fault; joined = h.joined }
+  way-of stage observation h = record { node = h.node; fault = h.fault; child_fault = h.child_fault }
 
   on-way : (trace : Trace) (waiting : Bool) (stage : InstanceState) (observation : Observation) → Way t.plan own trace.handed stage observation →
       IsOnWay observation (record t { origin = own; trace = trace; work = Runs stage; waiting = waiting; advanced = true })
-  on-way trace waiting stage observation w = record { node = w.node; fault = w.fault; joined = w.joined }
+  on-way trace waiting stage observation w = record { node = w.node; fault = w.fault; child_fault = w.child_fault }
 
   moves-on : (m : Machine) → IsTask (with_stage (Running m)) → (observation : Observation) → IsOnWay observation (with_stage (Running m)) → OnStep (also observation (step_observation (with_stage (Running m)))) (with_stage (Running m)) (step (with_stage (Running m)))
   moves-on m is observation h = by_end r.items r.ending (way-moved t.plan own t.trace m observation r.items r.ending fits leaves (way-of (Running m) observation h))
@@ -209,12 +209,12 @@ module _ (t : Task) (function : ℕ) (args : List Value) (at : List ℕ) where
           (λ e. (sound.1.leaving e).1)
 
       by_end : (ts : List Effect) (e : Result Reached Fault) →
-          let later : Observation = also observation (record { items = effect_items ts; fault = move_fault e; joined = None }) in
+          let later : Observation = also observation (record { items = effect_items ts; fault = move_fault e; child_fault = None }) in
           Way t.plan own (with_effects ts t.trace).handed (stage_moved ts e) later → OnStep later (with_stage (Running m)) (moved (with_stage (Running m)) ts e)
       by_end ts (Ok (Stands k)) w = by_child (child_in ts)
         where
           later : Observation
-          later = also observation (record { items = effect_items ts; fault = None; joined = None })
+          later = also observation (record { items = effect_items ts; fault = None; child_fault = None })
 
           by_child : (c : Option Origin) → OnStep later (with_stage (Running m)) (stops_at c (passing (with_stage (Running m)) ts (Runs (stage_after ts k))))
           by_child None = on-way (with_effects ts t.trace) t.waiting (stage_after ts k) later w
@@ -252,8 +252,8 @@ step-on t is inst observation h = by_origin t.origin is inst h
             let u : Task = record t { origin = Instance function args at; work = work } in OnStep (also observation (step_observation u)) u (step u)
         by_work (Splits left) is h = absurd is.work.0
         by_work (Runs stage) is h = stage-on t function args at stage is observation h
-        by_work (Over v true) is h = absurd is.work.0
-        by_work (Over v false) is h = absurd is.work.0
+        by_work (Finished v true) is h = absurd is.work.0
+        by_work (Finished v false) is h = absurd is.work.0
 
 -- Up to the next stop
 
@@ -282,7 +282,7 @@ observation_begins plan (Instance function args path) inst = record {
       begun-whole plan function args path
       ∙ ap (λ (r : Run Item NodeFault Value). r then λ v. done (v ∷ [])) (sym (halves-rest plan (children_of plan (Instance function args path)) path [] tt (begun plan function args)));
   fault = fault (function_at (functions_of plan) function) refl;
-  joined = refl;
+  child_fault = refl;
 }
   where
     fault : (f : Option Function) → function_at (functions_of plan) function ≡ f → None ≡ stage_fault (begun_stage (begun plan function args))

@@ -2,7 +2,7 @@
 use Rattle.std.proofs.Common.{◌≡◌, ℕ, Bool, true, false, List, [], ◌∷◌, ◌++◌, Option, None, refl, sym, ap, ◌∙◌, subst, append_assoc, append-nil}
 use Rattle.std.specs.Prelude.{Contains}
 use Rattle.std.proofs.lemmas.List.Elements.{Contains-append_right}
-use Rattle.serial_meaning.specs.Laws.{places}
+use Rattle.serial_meaning.specs.Laws.{raising_pedigrees}
 use Rattle.serial_meaning.specs.Plan.{PlanView}
 use Rattle.serial_meaning.specs.Eval.{path_of}
 use Rattle.serial_meaning.proofs.RisingPedigrees.Rising.{places-append}
@@ -24,12 +24,12 @@ front_of events [] = events
 front_of events (p ∷ ps) = front_of p.after ps
 
 pub shown-more : (plan : PlanView) (o : Origin) (front : List AwaitedChild) (events : List Event) (ps : List AwaitedChild) (q : AwaitedChild) → AreShownBy plan o front events ps →
-    IsShownAs q.place plan o (front ++ ps) (front_of events ps) q.child → AreShownBy plan o front events (ps ++ q ∷ [])
-shown-more plan o front events [] q h k = (subst (λ (l : List AwaitedChild). IsShownAs q.place plan o l events q.child) (append-nil front) k, tt)
+    IsShownAs q.destination plan o (front ++ ps) (front_of events ps) q.child → AreShownBy plan o front events (ps ++ q ∷ [])
+shown-more plan o front events [] q h k = (subst (λ (l : List AwaitedChild). IsShownAs q.destination plan o l events q.child) (append-nil front) k, tt)
 shown-more plan o front events (p ∷ ps) q h k = (
   h.0,
   shown-more plan o (front ++ p ∷ []) p.after ps q h.1
-      (subst (λ (l : List AwaitedChild). IsShownAs q.place plan o l (front_of p.after ps) q.child) (sym (append_assoc front (p ∷ []) ps)) k),
+      (subst (λ (l : List AwaitedChild). IsShownAs q.destination plan o l (front_of p.after ps) q.child) (sym (append_assoc front (p ∷ []) ps)) k),
 )
 
 -- An event of the task's own
@@ -46,7 +46,7 @@ effects-fault [] trace = refl
 effects-fault (Opens j ∷ ts) trace = effects-fault ts trace
 effects-fault (Closes j ∷ ts) trace = effects-fault ts trace
 effects-fault (Emitted e ∷ ts) trace = effects-fault ts (emit e trace) ∙ emit-fault e trace
-effects-fault (Handed o place ∷ ts) trace = effects-fault ts (add_child o place trace)
+effects-fault (Handed o destination ∷ ts) trace = effects-fault ts (add_child o destination trace)
 effects-fault (Syncs ∷ ts) trace = effects-fault ts trace
 effects-fault (Loops ∷ ts) trace = effects-fault ts trace
 
@@ -55,7 +55,7 @@ effects-one-by-one [] ys trace = refl
 effects-one-by-one (Opens j ∷ xs) ys trace = effects-one-by-one xs ys trace
 effects-one-by-one (Closes j ∷ xs) ys trace = effects-one-by-one xs ys trace
 effects-one-by-one (Emitted e ∷ xs) ys trace = effects-one-by-one xs ys (emit e trace)
-effects-one-by-one (Handed o place ∷ xs) ys trace = effects-one-by-one xs ys (add_child o place trace)
+effects-one-by-one (Handed o destination ∷ xs) ys trace = effects-one-by-one xs ys (add_child o destination trace)
 effects-one-by-one (Syncs ∷ xs) ys trace = effects-one-by-one xs ys trace
 effects-one-by-one (Loops ∷ xs) ys trace = effects-one-by-one xs ys trace
 
@@ -90,21 +90,21 @@ module _ (plan : PlanView) (o : Origin) where
   own_path = path_of (own_instance o)
 
   -- a child after the event by which it begins
-  begun-shown : (e : Event) (c : Origin) (place : Destination) → ((front : List AwaitedChild) (events : List Event) → IsBegunBy o events c → IsShownAs place plan o front events c) →
-      Begins own_path e c → (trace : Trace) → trace.fault ≡ None → Shown trace → Shown (add_child c place (emit e trace))
-  begun-shown e c place own b trace none h =
+  begun-shown : (e : Event) (c : Origin) (destination : Destination) → ((front : List AwaitedChild) (events : List Event) → IsBegunBy o events c → IsShownAs destination plan o front events c) →
+      Begins own_path e c → (trace : Trace) → trace.fault ≡ None → Shown trace → Shown (add_child c destination (emit e trace))
+  begun-shown e c destination own b trace none h =
       let next : Trace = emit e trace in
-      shown-more plan o [] next.prefix next.handed (record { child = c; place = place; after = [] }) (emit-shown e trace h)
+      shown-more plan o [] next.prefix next.handed (record { child = c; destination = destination; after = [] }) (emit-shown e trace h)
       (own next.handed (front_of next.prefix next.handed) (record { rank = b.rank; more = b.more; at = b.at; whole = b.whole; event = there }))
     where
       old : List Event
       old = front_of trace.prefix trace.handed
 
-      last : Contains (places old ++ path_of c ∷ []) (path_of c)
-      last = Contains-append_right (places old) (path_of c ∷ []) (path_of c) (first-contained (path_of c) [])
+      last : Contains (raising_pedigrees old ++ path_of c ∷ []) (path_of c)
+      last = Contains-append_right (raising_pedigrees old) (path_of c ∷ []) (path_of c) (first-contained (path_of c) [])
 
-      there : Contains (places (front_of (emit e trace).prefix (emit e trace).handed)) (path_of c)
-      there = subst (λ (l : List (List ℕ)). Contains l (path_of c)) (sym (ap places (front-prefix e trace none) ∙ places-append old (e ∷ []) ∙ ap (λ (l : List (List ℕ)). places old ++ l) b.place)) last
+      there : Contains (raising_pedigrees (front_of (emit e trace).prefix (emit e trace).handed)) (path_of c)
+      there = subst (λ (l : List (List ℕ)). Contains l (path_of c)) (sym (ap raising_pedigrees (front-prefix e trace none) ∙ places-append old (e ∷ []) ∙ ap (λ (l : List (List ℕ)). raising_pedigrees old ++ l) b.raised_at)) last
 
   -- effects after which all is still shown
   abbrev pub Shows : List Effect → Type 0

@@ -14,8 +14,8 @@ use Rattle.serial_meaning.specs.Runs.{Run, done, goes_on, ◌then◌}
 use Rattle.serial_meaning.specs.Values.{value_of, values_of, slot_of, items_of, as_integer, is_true, at_index}
 use Rattle.serial_meaning.specs.Functions.{number_of, function_at}
 use Rattle.serial_meaning.specs.Plan.{PlanView, functions_of}
-use Rattle.serial_meaning.specs.Exec.{State, Manner, strand, unless_fault, paid_from, tested, has_room, fits_depth, spawn, join, implied, frame, called, right_side, found, looped, does, count_of}
-use Rattle.serial_meaning.specs.Laws.{places}
+use Rattle.serial_meaning.specs.Exec.{State, Manner, strand, unless_fault, paid_from, tested, has_room, fits_depth, spawn, sync_here, implied, frame, called, right_side, found, looped, does, count_of}
+use Rattle.serial_meaning.specs.Laws.{raising_pedigrees}
 use Rattle.serial_meaning.specs.Eval.{path_of}
 use Rattle.serial_meaning.specs.Open.{is_empty_loop}
 use Rattle.serial_meaning.proofs.Equations.Each.{Each, each-append}
@@ -36,7 +36,7 @@ pub record Begins (path : List ℕ) (e : Event) (o : Origin) : Type 0 where
   pub rank : ℕ
   pub more : List ℕ
   pub at : path_of o ≡ path ++ rank ∷ more
-  pub place : places (e ∷ []) ≡ path_of o ∷ []
+  pub raised_at : raising_pedigrees (e ∷ []) ≡ path_of o ∷ []
   pub whole : IsUndivided o
 
 -- what holds of all lists of effects that a move shows
@@ -72,15 +72,15 @@ here-below path m = present-below path (m.top ∷ m.below)
 
 -- at a present path
 module _ (P : List Effect → Type 0) (plan : PlanView) (whole : List ℕ) (rules : EffectRules whole P) (ranks path : List ℕ) (goes_on_so : path ≡ whole ++ ranks) where
-  begins : (e : Event) (o : Origin) (k : ℕ) → path_of o ≡ path ++ k ∷ [] → places (e ∷ []) ≡ path_of o ∷ [] → IsUndivided o → Begins whole e o
-  begins e o k at place undivided =
-      let b = rank-below whole ranks k in record { rank = b.0; more = b.1; at = at ∙ ap (λ z. z ++ k ∷ []) goes_on_so ∙ b.2; place = place; whole = undivided }
+  begins : (e : Event) (o : Origin) (k : ℕ) → path_of o ≡ path ++ k ∷ [] → raising_pedigrees (e ∷ []) ≡ path_of o ∷ [] → IsUndivided o → Begins whole e o
+  begins e o k at raised_at undivided =
+      let b = rank-below whole ranks k in record { rank = b.0; more = b.1; at = at ∙ ap (λ z. z ++ k ∷ []) goes_on_so ∙ b.2; raised_at = raised_at; whole = undivided }
 
   abbrev Owns : {A : Type 0} → Run Effect Exit A → Type 0
   Owns r = P r.items
 
   abbrev what : Destination → Manner Effect Exit Bool
-  what place = handing plan place
+  what destination = handing plan destination
 
   owns-then : {A B : Type 0} (r : Run Effect Exit A) (f : A → Run Effect Exit B) → Owns r → ((a : A) → Owns (f a)) → Owns (r then f)
   owns-then {A = A} {B = B} r f h k = from r.ending
@@ -89,31 +89,31 @@ module _ (P : List Effect → Type 0) (plan : PlanView) (whole : List ℕ) (rule
       from (Ok a) = rules.more r.items (f a).items h (k a)
       from (Err e) = h
 
-  owns-given : {A B : Type 0} (place : Destination) (o : Result A FaultKind) (s : State Bool) (f : A → Run Effect Exit B) → ((a : A) → Owns (f a)) → Owns (unless_fault (what place) plan path o s f)
-  owns-given place (Ok a) s f h = h a
-  owns-given place (Err k) s f h = rules.none
+  owns-given : {A B : Type 0} (destination : Destination) (o : Result A FaultKind) (s : State Bool) (f : A → Run Effect Exit B) → ((a : A) → Owns (f a)) → Owns (unless_fault (what destination) plan path o s f)
+  owns-given destination (Ok a) s f h = h a
+  owns-given destination (Err k) s f h = rules.none
 
-  owns-tested : {A : Type 0} (place : Destination) (b : Bool) (k : FaultKind) (s : State Bool) (f : Run Effect Exit A) → Owns f → Owns (tested (what place) plan path b k s f)
-  owns-tested place true k s f h = h
-  owns-tested place false k s f h = rules.none
+  owns-tested : {A : Type 0} (destination : Destination) (b : Bool) (k : FaultKind) (s : State Bool) (f : Run Effect Exit A) → Owns f → Owns (tested (what destination) plan path b k s f)
+  owns-tested destination true k s f h = h
+  owns-tested destination false k s f h = rules.none
 
-  owns-paid : {A : Type 0} (place : Destination) (n : ℕ) (s : State Bool) (f : State Bool → Run Effect Exit A) → ((s : State Bool) → Owns (f s)) → Owns (paid_from (what place) plan path n s f)
-  owns-paid place zero s f h = rules.none
-  owns-paid place (suc n) s f h = h (record s { steps = n })
+  owns-paid : {A : Type 0} (destination : Destination) (n : ℕ) (s : State Bool) (f : State Bool → Run Effect Exit A) → ((s : State Bool) → Owns (f s)) → Owns (paid_from (what destination) plan path n s f)
+  owns-paid destination zero s f h = rules.none
+  owns-paid destination (suc n) s f h = h (record s { steps = n })
 
-  owns-sync : (place : Destination) (s : State Bool) → Owns (join (what place) plan path s)
-  owns-sync place s = subst P (sym (append-nil (Emitted (event.Sync (strand path s)) ∷ sync_effects s.spawned))) (rules.synced (strand path s) s.spawned)
+  owns-sync : (destination : Destination) (s : State Bool) → Owns (sync_here (what destination) plan path s)
+  owns-sync destination s = subst P (sym (append-nil (Emitted (event.Sync (strand path s)) ∷ sync_effects s.spawned))) (rules.synced (strand path s) s.spawned)
 
   owns-spawn : (height : ℕ) (target : Option Name) (c : CallText) (s : State Bool) → Owns (spawn (what (Spawned height target)) plan path c s)
   owns-spawn height target c s =
       owns-given (Spawned height target) (values_of c.args s.env) s _ (λ vs. owns-tested (Spawned height target) (nat_lt (length path + 1) plan.limits.depth) Depth s _ (rules.spawned _ _ height target (begins _ _ s.rank refl refl tt)))
 
-  owns-called : (place : Destination) (calls : ℕ) (c : CallText) (s : State Bool) → Owns (called (what place) plan path inside calls c s)
-  owns-called place calls c s =
-      owns-given place (values_of c.args s.env) s _ (λ vs. owns-tested place (nat_lt calls 256) Calls s _ (owns-then (frame (what place) plan path inside (calls + 1) (function_at (functions_of plan) (number_of (functions_of plan) c.name.bytes)) vs s) _
+  owns-called : (destination : Destination) (calls : ℕ) (c : CallText) (s : State Bool) → Owns (called (what destination) plan path inside calls c s)
+  owns-called destination calls c s =
+      owns-given destination (values_of c.args s.env) s _ (λ vs. owns-tested destination (nat_lt calls 256) Calls s _ (owns-then (frame (what destination) plan path inside (calls + 1) (function_at (functions_of plan) (number_of (functions_of plan) c.name.bytes)) vs s) _
       (by_function vs (function_at (functions_of plan) (number_of (functions_of plan) c.name.bytes))) (λ r. rules.none)))
     where
-      by_function : (vs : List Value) (o : Option Function) → Owns (frame (what place) plan path inside (calls + 1) o vs s)
+      by_function : (vs : List Value) (o : Option Function) → Owns (frame (what destination) plan path inside (calls + 1) o vs s)
       by_function vs None = rules.none
       by_function vs (Some f) = rules.none
 
@@ -126,11 +126,11 @@ module _ (P : List Effect → Type 0) (plan : PlanView) (whole : List ℕ) (rule
 
   owns-loop : (target : Option Name) (c : CallText) (lo : ℤ) (hi : ℕ) (vs : List Value) (s : State Bool) → Owns (looped (what (Looped target)) plan path lo hi vs target c s)
   owns-loop target c lo hi vs s =
-      owns-tested place (nat_lt hi (s.steps + 1)) Budget s _ (owns-tested place (has_room target hi s.env) Index _ _ (owns-tested place (fits_depth (what place) plan path hi) Depth _ _
-      (subst P (sym (append-nil (Emitted e ∷ loop_effects (is_empty_loop o) o place))) (rules.looped e o target (is_empty_loop o) (begins e o s.rank refl refl refl)))))
+      owns-tested destination (nat_lt hi (s.steps + 1)) Budget s _ (owns-tested destination (has_room target hi s.env) Index _ _ (owns-tested destination (fits_depth (what destination) plan path hi) Depth _ _
+      (subst P (sym (append-nil (Emitted e ∷ loop_effects (is_empty_loop o) o destination))) (rules.looped e o target (is_empty_loop o) (begins e o s.rank refl refl refl)))))
     where
-      place : Destination
-      place = Looped target
+      destination : Destination
+      destination = Looped target
 
       o : Origin
       o = origin.Loop (number_of (functions_of plan) c.name.bytes) vs lo (path ++ s.rank ∷ []) (record { lo = 0; hi = hi })

@@ -4,7 +4,7 @@ use Rattle.std.proofs.Common.{ℤ}
 use Rattle.loop_range.specs.Range.{Range, middle, lower_half, upper_half}
 use Rattle.serial_meaning.specs.Runs.{Run, done, ◌then◌}
 use Rattle.serial_meaning.specs.Plan.{PlanView}
-use Rattle.serial_meaning.specs.Eval.{Evaluation, iteration, path_of, turns, eval}
+use Rattle.serial_meaning.specs.Eval.{Evaluation, iteration, path_of, loop_evaluation, eval}
 use Rattle.serial_meaning.specs.Open.{Item, NodeFault, Own, ChildFaulted, opened, faults}
 use Rattle.serial_meaning.specs.Laws.{IsOriginOf, EndsWithin}
 use Rattle.serial_meaning.specs.Answer.{outcome_of}
@@ -20,8 +20,8 @@ use Rattle.serial_meaning.specs.declared.answer.Outcome.TheVariants as outcome
 use Rattle.strand_meaning.specs.Clear.{IsClearPlan}
 use Rattle.strand_meaning.specs.Machine.{Destination, Spawned, Looped, Half, begun}
 use Rattle.strand_meaning.specs.Trace.{AwaitedChild, Trace, add_child}
-use Rattle.strand_meaning.specs.Task.{InstanceState, Running, AtSync, AtLoop, Ended, Work, Splits, Runs, Over, Task, begun_stage, start, own_instance, Stops, Spawn, waits, ends, ends_unless, faults_after, gave, stage_step, first_half, begins_last, split_step, over_step, work_step, step}
-use Rattle.strand_meaning.specs.Rest.{children_of, rest_of_stage, rest_open, closed_run, prefix_run, parts_run, turns_left, all_with, work_run, finish}
+use Rattle.strand_meaning.specs.Task.{InstanceState, Running, AtSync, AtLoop, Ended, Work, Splits, Runs, Finished, Task, begun_stage, start, own_instance, Stops, Spawn, waits, ends, ends_unless, faults_after, gave, stage_step, first_half, begins_last, split_step, over_step, work_step, step}
+use Rattle.strand_meaning.specs.Rest.{children_of, rest_of_stage, rest_open, closed_run, prefix_run, parts_run, iterations_left, all_with, work_run, finish}
 use Rattle.strand_meaning.specs.Sound.{IsHalf, AreHalves, IsPartAfter, IsSoundStage, IsSoFar, IsEndOf, IsLoop, IsLongLoop, FitsOrigin, AreParts, IsInstanceOrLoop, IsSoundWork, UnfilledArePendingIn, IsTask}
 use Rattle.strand_meaning.specs.Found.{FindsTargets, functions_left}
 use Rattle.strand_meaning.specs.Laws.{IsFaultOf, IsSoundStep}
@@ -83,9 +83,9 @@ end-alone t is none r h ended e = end-is t is r (ap (λ (q : Evaluation). prefix
 -- Parts of a loop are there only where it is long.
 halves-long : (plan : PlanView) (o : Origin) (ps : List AwaitedChild) → AreHalves ps → AreParts plan o ps → (ps ≡ []) ⊎ IsLongLoop o
 halves-long plan o [] h k = inl refl
-halves-long plan o (p ∷ ps) h k = inr (from p.place h.0 k.0.fits)
+halves-long plan o (p ∷ ps) h k = inr (from p.destination h.0 k.0.fits)
   where
-    from : (place : Destination) → IsHalf place → FitsOrigin o place → IsLongLoop o
+    from : (destination : Destination) → IsHalf destination → FitsOrigin o destination → IsLongLoop o
     from (Spawned owner target) g f = absurd g
     from (Looped target) g f = absurd g
     from Half g f = f
@@ -128,12 +128,12 @@ module _ (t : Task) (is : IsTask t) where
           none (inl e) = e
           none (inr l) = let no : IsLongLoop (Instance function args path) = subst IsLongLoop h l in absurd no
       by_origin (Loop function rest first path range) h =
-          with-work t is (Over v false) same (subst IsLoop (sym h) (subst IsInstanceOrLoop h is-loop), halves) tt (found-nowhere t.plan ps)
+          with-work t is (Finished v false) same (subst IsLoop (sym h) (subst IsInstanceOrLoop h is-loop), halves) tt (found-nowhere t.plan ps)
         where
           own : Origin
           own = own_instance t.origin
 
-          same : (vs : List Value) → run_at ps t.work vs ≡ run_at ps (Over v false) vs
+          same : (vs : List Value) → run_at ps t.work vs ≡ run_at ps (Finished v false) vs
           same vs =
               ap (λ (w : Work). run_at ps w vs) at
               ∙ ap (λ (r : Run Item NodeFault Value). closed_run (children_of t.plan own) r then λ v. done (all_with t.origin vs v)) (ended-rest t.plan (children_of t.plan own) (path_of own) 0 ps (halves-places ps halves) (Ok v))
@@ -153,14 +153,14 @@ module _ (t : Task) (is : IsTask t) where
       end-alone t is sound (Err f) (ap (λ (w : Work). run_at [] w t.values) at) (outcome.Fault f) (sym (err-outcome t.origin f))
 
   -- a loop whose last iteration gave a value
-  over-alone : (v : Value) (b : Bool) → t.work ≡ Over v b → ps ≡ [] → IsLoop t.origin → IsSoundStep t (ends t (outcome.Values (t.values ++ v ∷ [])))
+  over-alone : (v : Value) (b : Bool) → t.work ≡ Finished v b → ps ≡ [] → IsLoop t.origin → IsSoundStep t (ends t (outcome.Values (t.values ++ v ∷ [])))
   over-alone v b at none is-loop = end-alone t is none (Ok (t.values ++ v ∷ [])) (ap (λ (w : Work). run_at [] w t.values) at) (outcome.Values (t.values ++ v ∷ [])) (by_origin t.origin is-loop)
     where
       by_origin : (o : Origin) → IsLoop o → outcome.Values (t.values ++ v ∷ []) ≡ outcome_of o (Ok (t.values ++ v ∷ []))
       by_origin (Instance function args path) l = absurd l
       by_origin (Loop function rest first path range) l = refl
 
-  over-sound : (v : Value) → t.work ≡ Over v false → IsLoop t.origin → AreHalves ps → IsSoundStep t (over_step t v t.origin)
+  over-sound : (v : Value) → t.work ≡ Finished v false → IsLoop t.origin → AreHalves ps → IsSoundStep t (over_step t v t.origin)
   over-sound v at is-loop halves = by_origin t.origin refl
     where
       by_origin : (o : Origin) → t.origin ≡ o → IsSoundStep t (over_step t v o)
@@ -206,8 +206,8 @@ module _ (t : Task) (is : IsTask t) where
         runs : run_at [] t.work t.values ≡ record { items = []; ending = Ok t.values }
         runs =
             ap (λ (w : Work). run_at [] w t.values) at
-            ∙ ap (λ (o : Origin). turns_left (eval t.plan) o left then λ us. done (t.values ++ us)) loop
-            ∙ ap (λ (n : ℕ). turns (eval t.plan) function rest first path left.lo n then λ us. done (t.values ++ us)) h
+            ∙ ap (λ (o : Origin). iterations_left (eval t.plan) o left then λ us. done (t.values ++ us)) loop
+            ∙ ap (λ (n : ℕ). loop_evaluation (eval t.plan) function rest first path left.lo n then λ us. done (t.values ++ us)) h
             ∙ ap (λ (l : List Value). done l) (append-nil t.values)
 
     -- the last one is begun
@@ -249,8 +249,8 @@ module _ (t : Task) (is : IsTask t) where
         same vs =
             let inner : Run Event Fault Value = closed_run kids (rest_open t.plan kids (path_of own) ps stage) in
             ap (λ (w : Work). run_at ps w vs) at
-            ∙ ap (λ (o : Origin). turns_left (eval t.plan) o left then λ us. done (vs ++ us)) loop
-            ∙ ap (λ (n : ℕ). turns (eval t.plan) function rest first path left.lo n then λ us. done (vs ++ us)) h
+            ∙ ap (λ (o : Origin). iterations_left (eval t.plan) o left then λ us. done (vs ++ us)) loop
+            ∙ ap (λ (n : ℕ). loop_evaluation (eval t.plan) function rest first path left.lo n then λ us. done (vs ++ us)) h
             ∙ ap (λ (r : Evaluation). (r then λ xs. done (xs ++ [])) then λ us. done (vs ++ us)) evaluates
             ∙ ap (λ (r : Evaluation). r then λ us. done (vs ++ us)) (then-then inner (λ v. done (v ∷ [])) (λ xs. done (xs ++ [])))
             ∙ then-then inner (λ v. done (v ∷ [])) (λ us. done (vs ++ us))
@@ -276,7 +276,7 @@ module _ (t : Task) (is : IsTask t) where
         known = is.known;
         clear = is.clear;
         parts = parts-append t.plan t.origin ps _ is.parts (record { known = subst (IsOriginOf t.plan) (sym half-is) known-half; fits = subst IsLongLoop (sym loop) long; same = inl tt }, tt);
-        shown = λ none. shown-more t.plan t.origin [] t.trace.prefix ps (record { child = first_half t.origin left; place = Half; after = [] }) (is.shown none) (part none);
+        shown = λ none. shown-more t.plan t.origin [] t.trace.prefix ps (record { child = first_half t.origin left; destination = Half; after = [] }) (is.shown none) (part none);
         work = (subst (λ (o : Origin). IsEndOf o (upper_half left)) (sym loop) upper, more ps halves);
         pending = tt;
         found = λ plan-found. found-nowhere t.plan (add_child (first_half t.origin left) Half t.trace).handed;
@@ -309,18 +309,18 @@ module _ (t : Task) (is : IsTask t) where
             subst (λ (o : Origin). IsPartAfter t.plan o ps (first_half o left)) (sym loop)
             (left.lo, middle left, omega arith, refl, λ gave f e. ends-later t is none gave function rest first path range left loop at f e)
 
-        more : (qs : List AwaitedChild) → AreHalves qs → AreHalves (qs ++ record { child = first_half t.origin left; place = Half; after = [] } ∷ [])
+        more : (qs : List AwaitedChild) → AreHalves qs → AreHalves (qs ++ record { child = first_half t.origin left; destination = Half; after = [] } ∷ [])
         more [] g = (tt, tt)
         more (q ∷ qs) g = (g.0, more qs g.1)
 
         abbrev-tail : Origin → Origin → List Value → Evaluation
-        abbrev-tail o child vs = eval t.plan child then λ ws. turns_left (eval t.plan) o (upper_half left) then λ us. done ((vs ++ ws) ++ us)
+        abbrev-tail o child vs = eval t.plan child then λ ws. iterations_left (eval t.plan) o (upper_half left) then λ us. done ((vs ++ ws) ++ us)
 
         two : (vs : List Value) → run_at ps t.work vs ≡ abbrev-tail t.origin (first_half t.origin left) vs
         two vs =
-            let upper_turns : Evaluation = turns (eval t.plan) function rest first path (upper_half left).lo ((upper_half left).hi - (upper_half left).lo) in
+            let upper_turns : Evaluation = loop_evaluation (eval t.plan) function rest first path (upper_half left).lo ((upper_half left).hi - (upper_half left).lo) in
             ap (λ (w : Work). run_at ps w vs) at
-            ∙ ap (λ (o : Origin). turns_left (eval t.plan) o left then λ us. done (vs ++ us)) loop
+            ∙ ap (λ (o : Origin). iterations_left (eval t.plan) o left then λ us. done (vs ++ us)) loop
             ∙ ap (λ (r : Evaluation). r then λ us. done (vs ++ us)) (halves-turns function rest first path t.plan left h deep)
             ∙ then-then (eval t.plan half) (λ ws. upper_turns then λ us. done (ws ++ us)) (λ us. done (vs ++ us))
             ∙ then-same (eval t.plan half) _ _ (λ ws g. then-then upper_turns (λ us. done (ws ++ us)) (λ us. done (vs ++ us)) ∙ then-same upper_turns _ _ (λ us k. ap (λ (l : List Value). done l) (sym (append_assoc vs ws us))))
@@ -328,7 +328,7 @@ module _ (t : Task) (is : IsTask t) where
 
         finishes : finish (record t { trace = add_child (first_half t.origin left) Half t.trace; work = Splits (upper_half left); advanced = true }) ≡ eval t.plan t.origin
         finishes =
-            add_child-so_far (eval t.plan) (first_half t.origin left) Half t.trace t.values (λ vs. turns_left (eval t.plan) t.origin (upper_half left) then λ us. done (vs ++ us))
+            add_child-so_far (eval t.plan) (first_half t.origin left) Half t.trace t.values (λ vs. iterations_left (eval t.plan) t.origin (upper_half left) then λ us. done (vs ++ us))
             ∙ sym (so_far-same (eval t.plan) t.trace t.values (run_at ps t.work) (abbrev-tail t.origin (first_half t.origin left)) two)
             ∙ is.finishes
 
@@ -350,8 +350,8 @@ module _ (t : Task) (is : IsTask t) where
   work-sound : (work : Work) → t.work ≡ work → IsSoundWork t.plan t.origin ps work → IsSoundStep t (work_step t work)
   work-sound (Splits left) at sound = split-sound left at sound.0 sound.1
   work-sound (Runs stage) at sound = stage-sound stage at sound.0 sound.1 sound.2
-  work-sound (Over v true) at sound = over-alone v true at sound.1 sound.0
-  work-sound (Over v false) at sound = over-sound v at sound.0 sound.1
+  work-sound (Finished v true) at sound = over-alone v true at sound.1 sound.0
+  work-sound (Finished v false) at sound = over-sound v at sound.0 sound.1
 
 -- Each step is sound.
 pub steps_are_sound : (t : Task) → IsTask t → IsSoundStep t (step t)
@@ -376,7 +376,7 @@ tasks_begin plan (Instance function args path) known clear =
       found = λ plan-found. tt;
     }
 tasks_begin plan (Loop function rest first path range) known clear = record {
-  finishes = then-done (turns (eval plan) function rest first path range.lo (range.hi - range.lo)) ∙ sym (eval-loop function rest first path plan range (loop-of-plan plan (Loop function rest first path range) known));
+  finishes = then-done (loop_evaluation (eval plan) function rest first path range.lo (range.hi - range.lo)) ∙ sym (eval-loop function rest first path plan range (loop-of-plan plan (Loop function rest first path range) known));
   known = known;
   clear = clear;
   parts = tt;

@@ -38,27 +38,27 @@ module _ (child : Origin → Evaluation) where
   played (Opens j ∷ ts) r = played ts r
   played (Closes j ∷ ts) r = played ts r
   played (Emitted e ∷ ts) r = after_items (e ∷ []) (played ts r)
-  played (Handed o place ∷ ts) r = child o then λ vs. played ts r
+  played (Handed o destination ∷ ts) r = child o then λ vs. played ts r
   played (Syncs ∷ ts) r = played ts r
   played (Loops ∷ ts) r = played ts r
 
   parts-emit : (p : AwaitedChild) (ps : List AwaitedChild) (e : Event) (values : List Value) (tail : List Value → Evaluation) →
       (parts_run child (after_last p ps e) values then tail) ≡ (parts_run child (p ∷ ps) values then λ vs. after_items (e ∷ []) (tail vs))
   parts-emit p [] e values tail =
-      then-then (child p.child) (λ vs. after_items (p.after ++ e ∷ []) (done (more_values p.place (Ok vs) values))) tail
-      ∙ then-same (child p.child) _ _ (λ vs h. one (more_values p.place (Ok vs) values))
-      ∙ sym (then-then (child p.child) (λ vs. after_items p.after (done (more_values p.place (Ok vs) values))) (λ vs. after_items (e ∷ []) (tail vs)))
+      then-then (child p.child) (λ vs. after_items (p.after ++ e ∷ []) (done (more_values p.destination (Ok vs) values))) tail
+      ∙ then-same (child p.child) _ _ (λ vs h. one (more_values p.destination (Ok vs) values))
+      ∙ sym (then-then (child p.child) (λ vs. after_items p.after (done (more_values p.destination (Ok vs) values))) (λ vs. after_items (e ∷ []) (tail vs)))
     where
       one : (vs : List Value) → (after_items (p.after ++ e ∷ []) (done vs) then tail) ≡ (after_items p.after (done vs) then λ vs. after_items (e ∷ []) (tail vs))
       one vs =
           ap (λ (l : List Event). after_items l (tail vs)) (append-nil (p.after ++ e ∷ []) ∙ ap (λ (l : List Event). l ++ e ∷ []) (sym (append-nil p.after)))
           ∙ ap (λ (l : List Event). record { items = l; ending = (tail vs).ending }) (append_assoc (p.after ++ []) (e ∷ []) (tail vs).items)
   parts-emit p (q ∷ qs) e values tail =
-      then-then (child p.child) (λ vs. after_items p.after (parts_run child (after_last q qs e) (more_values p.place (Ok vs) values))) tail
-      ∙ then-same (child p.child) _ _ (λ vs h. after-then p.after (parts_run child (after_last q qs e) (more_values p.place (Ok vs) values)) tail
-      ∙ ap (after_items p.after) (parts-emit q qs e (more_values p.place (Ok vs) values) tail)
-      ∙ sym (after-then p.after (parts_run child (q ∷ qs) (more_values p.place (Ok vs) values)) (λ vs. after_items (e ∷ []) (tail vs))))
-      ∙ sym (then-then (child p.child) (λ vs. after_items p.after (parts_run child (q ∷ qs) (more_values p.place (Ok vs) values))) (λ vs. after_items (e ∷ []) (tail vs)))
+      then-then (child p.child) (λ vs. after_items p.after (parts_run child (after_last q qs e) (more_values p.destination (Ok vs) values))) tail
+      ∙ then-same (child p.child) _ _ (λ vs h. after-then p.after (parts_run child (after_last q qs e) (more_values p.destination (Ok vs) values)) tail
+      ∙ ap (after_items p.after) (parts-emit q qs e (more_values p.destination (Ok vs) values) tail)
+      ∙ sym (after-then p.after (parts_run child (q ∷ qs) (more_values p.destination (Ok vs) values)) (λ vs. after_items (e ∷ []) (tail vs))))
+      ∙ sym (then-then (child p.child) (λ vs. after_items p.after (parts_run child (q ∷ qs) (more_values p.destination (Ok vs) values))) (λ vs. after_items (e ∷ []) (tail vs)))
 
   emit-so_far : (e : Event) (trace : Trace) (values : List Value) (tail : List Value → Evaluation) → so_far (emit e trace) values tail ≡ so_far trace values (λ vs. after_items (e ∷ []) (tail vs))
   emit-so_far e trace values tail = by_parts trace.handed trace.fault
@@ -71,25 +71,25 @@ module _ (child : Origin → Evaluation) where
       by_parts (p ∷ ps) (Some f) = refl
 
   parts-add_child : (ps : List AwaitedChild) (p : AwaitedChild) (values : List Value) (tail : List Value → Evaluation) →
-      (parts_run child (ps ++ p ∷ []) values then tail) ≡ (parts_run child ps values then λ vs. child p.child then λ ws. after_items p.after (tail (more_values p.place (Ok ws) vs)))
+      (parts_run child (ps ++ p ∷ []) values then tail) ≡ (parts_run child ps values then λ vs. child p.child then λ ws. after_items p.after (tail (more_values p.destination (Ok ws) vs)))
   parts-add_child [] p values tail =
-      then-then (child p.child) (λ vs. after_items p.after (done (more_values p.place (Ok vs) values))) tail
-      ∙ then-same (child p.child) _ _ (λ vs h. ap (λ (l : List Event). after_items l (tail (more_values p.place (Ok vs) values))) (append-nil p.after))
+      then-then (child p.child) (λ vs. after_items p.after (done (more_values p.destination (Ok vs) values))) tail
+      ∙ then-same (child p.child) _ _ (λ vs h. ap (λ (l : List Event). after_items l (tail (more_values p.destination (Ok vs) values))) (append-nil p.after))
   parts-add_child (q ∷ qs) p values tail =
-      let hence : List Value → Evaluation = λ vs. child p.child then λ ws. after_items p.after (tail (more_values p.place (Ok ws) vs)) in
-      then-then (child q.child) (λ vs. after_items q.after (parts_run child (qs ++ p ∷ []) (more_values q.place (Ok vs) values))) tail
-      ∙ then-same (child q.child) _ _ (λ vs h. after-then q.after (parts_run child (qs ++ p ∷ []) (more_values q.place (Ok vs) values)) tail
-      ∙ ap (after_items q.after) (parts-add_child qs p (more_values q.place (Ok vs) values) tail)
-      ∙ sym (after-then q.after (parts_run child qs (more_values q.place (Ok vs) values)) hence))
-      ∙ sym (then-then (child q.child) (λ vs. after_items q.after (parts_run child qs (more_values q.place (Ok vs) values))) hence)
+      let hence : List Value → Evaluation = λ vs. child p.child then λ ws. after_items p.after (tail (more_values p.destination (Ok ws) vs)) in
+      then-then (child q.child) (λ vs. after_items q.after (parts_run child (qs ++ p ∷ []) (more_values q.destination (Ok vs) values))) tail
+      ∙ then-same (child q.child) _ _ (λ vs h. after-then q.after (parts_run child (qs ++ p ∷ []) (more_values q.destination (Ok vs) values)) tail
+      ∙ ap (after_items q.after) (parts-add_child qs p (more_values q.destination (Ok vs) values) tail)
+      ∙ sym (after-then q.after (parts_run child qs (more_values q.destination (Ok vs) values)) hence))
+      ∙ sym (then-then (child q.child) (λ vs. after_items q.after (parts_run child qs (more_values q.destination (Ok vs) values))) hence)
 
   prefix-same : (trace : Trace) (r q : Evaluation) → r ≡ q → (prefix_run trace then λ u. r) ≡ (prefix_run trace then λ u. q)
   prefix-same trace r q h = ap (λ (s : Evaluation). prefix_run trace then λ u. s) h
 
-  pub add_child-so_far : (o : Origin) (place : Destination) (trace : Trace) (values : List Value) (tail : List Value → Evaluation) →
-      so_far (add_child o place trace) values tail ≡ so_far trace values (λ vs. child o then λ ws. tail (more_values place (Ok ws) vs))
-  add_child-so_far o place trace values tail =
-      prefix-same trace _ _ (parts-add_child trace.handed (record { child = o; place = place; after = [] }) values tail)
+  pub add_child-so_far : (o : Origin) (destination : Destination) (trace : Trace) (values : List Value) (tail : List Value → Evaluation) →
+      so_far (add_child o destination trace) values tail ≡ so_far trace values (λ vs. child o then λ ws. tail (more_values destination (Ok ws) vs))
+  add_child-so_far o destination trace values tail =
+      prefix-same trace _ _ (parts-add_child trace.handed (record { child = o; destination = destination; after = [] }) values tail)
 
   -- What a move showed stands after the trace, and before the rest.
   pub effects-so_far : (ts : List Effect) → Each NotHalf ts → (trace : Trace) (values : List Value) (tail : List Value → Evaluation) →
@@ -111,7 +111,7 @@ abbrev pub SameChild : (Origin → Evaluation) → (Origin → Evaluation) → E
 SameChild some other (Opens j) = Unit {0}
 SameChild some other (Closes j) = Unit {0}
 SameChild some other (Emitted e) = Unit {0}
-SameChild some other (Handed o place) = some o ≡ other o
+SameChild some other (Handed o destination) = some o ≡ other o
 SameChild some other Syncs = Unit {0}
 SameChild some other Loops = Unit {0}
 
@@ -121,7 +121,7 @@ played-closed some other [] same r go = refl
 played-closed some other (Opens j ∷ ts) same r go = played-closed some other ts same.1 r go
 played-closed some other (Closes j ∷ ts) same r go = played-closed some other ts same.1 r go
 played-closed some other (Emitted e ∷ ts) same r go = after-then (e ∷ []) (closed_run some (after_items (effect_items ts) r)) go ∙ ap (after_items (e ∷ [])) (played-closed some other ts same.1 r go)
-played-closed some other (Handed o place ∷ ts) same r go =
+played-closed some other (Handed o destination ∷ ts) same r go =
     then-then (some o) (λ vs. closed_run some (after_items (effect_items ts) r)) go
     ∙ ap (λ (q : Evaluation). some o then λ vs. q) (played-closed some other ts same.1 r go)
     ∙ ap (λ (q : Evaluation). q then λ vs. played other ts (closed_run some r then go)) same.0

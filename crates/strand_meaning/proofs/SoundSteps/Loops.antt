@@ -5,7 +5,7 @@ use Rattle.std.specs.Prelude.{Contains}
 use Rattle.loop_range.specs.Range.{Range, middle, lower_half, upper_half}
 use Rattle.serial_meaning.specs.Runs.{Run, done, goes_on, ◌then◌}
 use Rattle.serial_meaning.specs.Plan.{PlanView}
-use Rattle.serial_meaning.specs.Eval.{Evaluation, iteration, path_of, turns, eval_with, eval_below, eval}
+use Rattle.serial_meaning.specs.Eval.{Evaluation, iteration, path_of, loop_evaluation, eval_with, eval_below, eval}
 use Rattle.serial_meaning.specs.Open.{Child, iterations, opened}
 use Rattle.serial_meaning.specs.Laws.{IsOriginOf, Main, ChildOf, PartOf}
 use Rattle.serial_meaning.proofs.OriginFaults.Levels.{enough}
@@ -29,41 +29,41 @@ module _ (function : ℕ) (rest : List Value) (first : ℤ) (path : List ℕ) wh
   abbrev turn : ℕ → Origin
   turn k = iteration function rest first path k
 
-  turns-same : (some other : Origin → Evaluation) → ((k : ℕ) → some (turn k) ≡ other (turn k)) → (k n : ℕ) → turns some function rest first path k n ≡ turns other function rest first path k n
+  turns-same : (some other : Origin → Evaluation) → ((k : ℕ) → some (turn k) ≡ other (turn k)) → (k n : ℕ) → loop_evaluation some function rest first path k n ≡ loop_evaluation other function rest first path k n
   turns-same some other same k zero = refl
   turns-same some other same k (suc n) =
-      ap (λ (r : Evaluation). r then λ vs. turns some function rest first path (k + 1) n then λ ws. done (vs ++ ws)) (same k)
+      ap (λ (r : Evaluation). r then λ vs. loop_evaluation some function rest first path (k + 1) n then λ ws. done (vs ++ ws)) (same k)
       ∙ then-same (other (turn k)) _ _ (λ vs h. ap (λ (r : Evaluation). r then λ ws. done (vs ++ ws)) (turns-same some other same (k + 1) n))
 
   -- A loop's iterations are those of its first part and then those of its second one.
   turns-split : (child : Origin → Evaluation) (k n m : ℕ) →
-      turns child function rest first path k (n + m) ≡ (turns child function rest first path k n then λ vs. turns child function rest first path (k + n) m then λ ws. done (vs ++ ws))
+      loop_evaluation child function rest first path k (n + m) ≡ (loop_evaluation child function rest first path k n then λ vs. loop_evaluation child function rest first path (k + n) m then λ ws. done (vs ++ ws))
   turns-split child k zero m =
       let sum : zero + m ≡ m = omega arith in
       let place : k ≡ k + zero = omega arith in
-      ap (turns child function rest first path k) sum ∙ sym (then-done (turns child function rest first path k m)) ∙ ap (λ (j : ℕ). turns child function rest first path j m then λ ws. done ws) place
+      ap (loop_evaluation child function rest first path k) sum ∙ sym (then-done (loop_evaluation child function rest first path k m)) ∙ ap (λ (j : ℕ). loop_evaluation child function rest first path j m then λ ws. done ws) place
   turns-split child k (suc n) m =
       let sum : suc n + m ≡ suc (n + m) = omega arith in
-      ap (turns child function rest first path k) sum
+      ap (loop_evaluation child function rest first path k) sum
       ∙ then-same (child (turn k)) _ _ (λ vs h. again vs (turns-split child (k + 1) n m))
-      ∙ sym (then-then (child (turn k)) (λ vs. turns child function rest first path (k + 1) n then λ ws. done (vs ++ ws)) (λ vs. turns child function rest first path (k + suc n) m then λ ws. done (vs ++ ws)))
+      ∙ sym (then-then (child (turn k)) (λ vs. loop_evaluation child function rest first path (k + 1) n then λ ws. done (vs ++ ws)) (λ vs. loop_evaluation child function rest first path (k + suc n) m then λ ws. done (vs ++ ws)))
     where
       later : (k : ℕ) → Evaluation
-      later j = turns child function rest first path j m
+      later j = loop_evaluation child function rest first path j m
 
-      again : (vs : List Value) → turns child function rest first path (k + 1) (n + m) ≡ (turns child function rest first path (k + 1) n then λ us. later (k + 1 + n) then λ ws. done (us ++ ws)) →
-          (turns child function rest first path (k + 1) (n + m) then λ ws. done (vs ++ ws)) ≡ ((turns child function rest first path (k + 1) n then λ ws. done (vs ++ ws)) then λ us. later (k + suc n) then λ ws. done (us ++ ws))
+      again : (vs : List Value) → loop_evaluation child function rest first path (k + 1) (n + m) ≡ (loop_evaluation child function rest first path (k + 1) n then λ us. later (k + 1 + n) then λ ws. done (us ++ ws)) →
+          (loop_evaluation child function rest first path (k + 1) (n + m) then λ ws. done (vs ++ ws)) ≡ ((loop_evaluation child function rest first path (k + 1) n then λ ws. done (vs ++ ws)) then λ us. later (k + suc n) then λ ws. done (us ++ ws))
       again vs split =
           let place : k + 1 + n ≡ k + suc n = omega arith in
           ap (λ (r : Evaluation). r then λ ws. done (vs ++ ws)) split
-          ∙ then-then (turns child function rest first path (k + 1) n) (λ us. later (k + 1 + n) then λ ws. done (us ++ ws)) (λ ws. done (vs ++ ws))
-          ∙ then-same (turns child function rest first path (k + 1) n) _ _ (λ us h. then-then (later (k + 1 + n)) (λ ws. done (us ++ ws)) (λ ws. done (vs ++ ws))
+          ∙ then-then (loop_evaluation child function rest first path (k + 1) n) (λ us. later (k + 1 + n) then λ ws. done (us ++ ws)) (λ ws. done (vs ++ ws))
+          ∙ then-same (loop_evaluation child function rest first path (k + 1) n) _ _ (λ us h. then-then (later (k + 1 + n)) (λ ws. done (us ++ ws)) (λ ws. done (vs ++ ws))
           ∙ then-same (later (k + 1 + n)) _ _ (λ ws g. ap (λ (l : List Value). done l) (sym (append_assoc vs us ws)))
           ∙ ap (λ (j : ℕ). later j then λ ws. done ((vs ++ us) ++ ws)) place)
-          ∙ sym (then-then (turns child function rest first path (k + 1) n) (λ ws. done (vs ++ ws)) (λ us. later (k + suc n) then λ ws. done (us ++ ws)))
+          ∙ sym (then-then (loop_evaluation child function rest first path (k + 1) n) (λ ws. done (vs ++ ws)) (λ us. later (k + suc n) then λ ws. done (us ++ ws)))
 
   -- The evaluation of a loop is that of its iterations in order.
-  pub eval-loop : (plan : PlanView) (range : Range) → length path + 2 ≤ plan.limits.depth → eval plan (Loop function rest first path range) ≡ turns (eval plan) function rest first path range.lo (range.hi - range.lo)
+  pub eval-loop : (plan : PlanView) (range : Range) → length path + 2 ≤ plan.limits.depth → eval plan (Loop function rest first path range) ≡ loop_evaluation (eval plan) function rest first path range.lo (range.hi - range.lo)
   eval-loop plan range deep = turns-same (eval_below plan (plan.limits.depth - length path)) (eval plan) below-is range.lo (range.hi - range.lo)
     where
       below-is : (k : ℕ) → eval_below plan (plan.limits.depth - length path) (turn k) ≡ eval plan (turn k)
@@ -71,13 +71,13 @@ module _ (function : ℕ) (rest : List Value) (first : ℤ) (path : List ℕ) wh
 
   -- Two halves are the whole.
   pub halves-turns : (plan : PlanView) (left : Range) → left.lo + 2 ≤ left.hi → length path + 2 ≤ plan.limits.depth →
-      turns (eval plan) function rest first path left.lo (left.hi - left.lo)
-      ≡ (eval plan (Loop function rest first path (lower_half left)) then λ vs. turns (eval plan) function rest first path (upper_half left).lo ((upper_half left).hi - (upper_half left).lo) then λ ws. done (vs ++ ws))
+      loop_evaluation (eval plan) function rest first path left.lo (left.hi - left.lo)
+      ≡ (eval plan (Loop function rest first path (lower_half left)) then λ vs. loop_evaluation (eval plan) function rest first path (upper_half left).lo ((upper_half left).hi - (upper_half left).lo) then λ ws. done (vs ++ ws))
   halves-turns plan left long deep =
-      ap (turns (eval plan) function rest first path left.lo) sizes
+      ap (loop_evaluation (eval plan) function rest first path left.lo) sizes
       ∙ turns-split (eval plan) left.lo (middle left - left.lo) (left.hi - middle left)
-      ∙ ap (λ (j : ℕ). turns (eval plan) function rest first path left.lo (middle left - left.lo) then λ vs. turns (eval plan) function rest first path j (left.hi - middle left) then λ ws. done (vs ++ ws)) second
-      ∙ ap (λ (r : Evaluation). r then λ vs. turns (eval plan) function rest first path (middle left) (left.hi - middle left) then λ ws. done (vs ++ ws)) (sym (eval-loop plan (lower_half left) deep))
+      ∙ ap (λ (j : ℕ). loop_evaluation (eval plan) function rest first path left.lo (middle left - left.lo) then λ vs. loop_evaluation (eval plan) function rest first path j (left.hi - middle left) then λ ws. done (vs ++ ws)) second
+      ∙ ap (λ (r : Evaluation). r then λ vs. loop_evaluation (eval plan) function rest first path (middle left) (left.hi - middle left) then λ ws. done (vs ++ ws)) (sym (eval-loop plan (lower_half left) deep))
     where
       sizes : left.hi - left.lo ≡ (middle left - left.lo) + (left.hi - middle left)
       sizes = omega arith

@@ -3,8 +3,8 @@ use Rattle.std.proofs.Common.{◌≡◌, ℕ, ◌+◌, ◌-◌, ◌≤◌, List,
 use Rattle.std.proofs.Common.{ℤ}
 use Rattle.loop_range.specs.Range.{Range}
 use Rattle.serial_meaning.specs.Runs.{done, after_items, ◌then◌}
-use Rattle.serial_meaning.specs.Eval.{Evaluation, turns, eval}
-use Rattle.serial_meaning.specs.Laws.{places}
+use Rattle.serial_meaning.specs.Eval.{Evaluation, loop_evaluation, eval}
+use Rattle.serial_meaning.specs.Laws.{raising_pedigrees}
 use Rattle.serial_meaning.proofs.RisingPedigrees.Rising.{Below, Rising}
 use Rattle.serial_meaning.proofs.RisingPedigrees.RisingExec.{turns-rise, eval-rises}
 use Rattle.serial_meaning.specs.declared.value.Value.{Value}
@@ -13,7 +13,7 @@ use Rattle.serial_meaning.specs.declared.origin.Origin.{Origin}
 use Rattle.serial_meaning.specs.declared.origin.Origin.TheVariants.{Loop}
 use Rattle.strand_meaning.specs.Trace.{AwaitedChild, Trace}
 use Rattle.strand_meaning.specs.Task.{Work, Splits, Task, more_values}
-use Rattle.strand_meaning.specs.Rest.{GaveValue, GaveValues, prefix_run, parts_run, turns_left, work_run}
+use Rattle.strand_meaning.specs.Rest.{GaveValue, GaveValues, prefix_run, parts_run, iterations_left, work_run}
 use Rattle.strand_meaning.specs.Sound.{IsTask}
 use Rattle.strand_meaning.proofs.SoundSteps.Closing.{after-then}
 use Rattle.strand_meaning.proofs.SoundSteps.Finishing.{so_far}
@@ -22,10 +22,10 @@ use Rattle.strand_meaning.proofs.SoundSteps.Finishing.{so_far}
 parts-end : (child : Origin → Evaluation) (ps : List AwaitedChild) (values : List Value) (tail : List Value → Evaluation) → GaveValues child ps →
     (vs : List Value) × ((parts_run child ps values then tail).ending ≡ (tail vs).ending)
 parts-end child [] values tail gave = (values, refl)
-parts-end child (p ∷ ps) values tail gave = by_end (child p.child).ending gave.0 (λ vs. parts-end child ps (more_values p.place (Ok vs) values) tail gave.1)
+parts-end child (p ∷ ps) values tail gave = by_end (child p.child).ending gave.0 (λ vs. parts-end child ps (more_values p.destination (Ok vs) values) tail gave.1)
   where
     rest : List Value → Evaluation
-    rest vs = parts_run child ps (more_values p.place (Ok vs) values)
+    rest vs = parts_run child ps (more_values p.destination (Ok vs) values)
 
     with_end : Result (List Value) Fault → Evaluation
     with_end e = record { items = (child p.child).items; ending = e } then λ vs. after_items p.after (rest vs)
@@ -57,7 +57,7 @@ pub ends-later : (t : Task) → IsTask t → t.trace.fault ≡ None → GaveValu
 ends-later t is none gave function rest first path range left loop at f e = by_end r.ending rises.below ends
   where
     r : Evaluation
-    r = turns (eval t.plan) function rest first path left.lo (left.hi - left.lo)
+    r = loop_evaluation (eval t.plan) function rest first path left.lo (left.hi - left.lo)
 
     rises : Rising path (λ (vs : List Value). left.lo + (left.hi - left.lo)) left.lo r
     rises = turns-rise t.plan (eval t.plan) (eval-rises t.plan) path function rest first left.lo (left.hi - left.lo)
@@ -70,10 +70,10 @@ ends-later t is none gave function rest first path range left loop at f e = by_e
 
     ends : (after r.ending).ending ≡ Err f
     ends =
-        sym (ap (λ (w : Work). (work_run t.plan t.origin t.trace.handed w so.0).ending) at ∙ ap (λ (o : Origin). (turns_left (eval t.plan) o left then λ us. done (so.0 ++ us)).ending) loop)
+        sym (ap (λ (w : Work). (work_run t.plan t.origin t.trace.handed w so.0).ending) at ∙ ap (λ (o : Origin). (iterations_left (eval t.plan) o left then λ us. done (so.0 ++ us)).ending) loop)
         ∙ sym so.1 ∙ ap (λ (q : Evaluation). q.ending) is.finishes ∙ ap (λ (o : Origin). (eval t.plan o).ending) loop ∙ e
 
-    by_end : (q : Result (List Value) Fault) → Below path (λ (vs : List Value). left.lo + (left.hi - left.lo)) left.lo rises.hi (places r.items) q → (after q).ending ≡ Err f →
+    by_end : (q : Result (List Value) Fault) → Below path (λ (vs : List Value). left.lo + (left.hi - left.lo)) left.lo rises.hi (raising_pedigrees r.items) q → (after q).ending ≡ Err f →
         (k : ℕ) × (more : List ℕ) × (f.at ≡ path ++ k ∷ more) × (left.lo ≤ k)
     by_end (Ok vs) b h = absurd (cc)
     by_end (Err g) b h = (b.0, b.1, sym (ap (λ (x : Fault). x.at) (same-fault f g h)) ∙ b.2, b.3)

@@ -69,9 +69,9 @@ begun-whole plan function args path =
 
 pub halves-none : (height : ℕ) (ps : List AwaitedChild) → AreHalves ps → any_by height ps ≡ false
 halves-none height [] h = refl
-halves-none height (p ∷ ps) h = ap (λ b. b || any_by height ps) (from p.place h.0) ∙ halves-none height ps h.1
+halves-none height (p ∷ ps) h = ap (λ b. b || any_by height ps) (from p.destination h.0) ∙ halves-none height ps h.1
   where
-    from : (place : Destination) → IsHalf place → is_by height place ≡ false
+    from : (destination : Destination) → IsHalf destination → is_by height destination ≡ false
     from (Spawned owner target) g = absurd g
     from (Looped target) g = absurd g
     from Half g = refl
@@ -158,10 +158,10 @@ halves-rest plan child path [] h (Stands m) = refl
 halves-rest plan child path [] h (Gives v) = refl
 halves-rest plan child path (p ∷ ps) h r = by_place p h.0 (halves-rest plan child path ps h.1 r)
   where
-    by_place : (p : AwaitedChild) → IsHalf p.place → rest_open plan child path ps (begun_stage r) ≡ rest_of_stage plan child path (begun_stage r) → rest_open plan child path (p ∷ ps) (begun_stage r) ≡ rest_of_stage plan child path (begun_stage r)
-    by_place q g later = from q.place g
+    by_place : (p : AwaitedChild) → IsHalf p.destination → rest_open plan child path ps (begun_stage r) ≡ rest_of_stage plan child path (begun_stage r) → rest_open plan child path (p ∷ ps) (begun_stage r) ≡ rest_of_stage plan child path (begun_stage r)
+    by_place q g later = from q.destination g
       where
-        from : (place : Destination) → IsHalf place → rest_open plan child path (record { child = q.child; place = place; after = q.after } ∷ ps) (begun_stage r) ≡ rest_of_stage plan child path (begun_stage r)
+        from : (destination : Destination) → IsHalf destination → rest_open plan child path (record { child = q.child; destination = destination; after = q.after } ∷ ps) (begun_stage r) ≡ rest_of_stage plan child path (begun_stage r)
         from (Spawned owner target) k = absurd k
         from (Looped target) k = absurd k
         from Half k = later

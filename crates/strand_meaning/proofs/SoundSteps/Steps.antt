@@ -70,7 +70,7 @@ module _ (plan : PlanView) (o : Origin) where
   same-children (Opens j ∷ ts) h = (tt, same-children ts (λ c k. h c (later-contained (Opened j) (Child c) (effect_items ts) k)))
   same-children (Closes j ∷ ts) h = (tt, same-children ts (λ c k. h c (later-contained (Closed j) (Child c) (effect_items ts) k)))
   same-children (Emitted e ∷ ts) h = (tt, same-children ts (λ c k. h c (later-contained (Happened e) (Child c) (effect_items ts) k)))
-  same-children (Handed c place ∷ ts) h =
+  same-children (Handed c destination ∷ ts) h =
       ((h c (first-contained (Child c) (effect_items ts))).1, same-children ts (λ d g. h d (later-contained (Child c) (Child d) (effect_items ts) g)))
   same-children (Syncs ∷ ts) h = (tt, same-children ts h)
   same-children (Loops ∷ ts) h = (tt, same-children ts h)
@@ -80,7 +80,7 @@ module _ (plan : PlanView) (o : Origin) where
   child-known (Opens j ∷ ts) c h e = child-known ts c (λ d k. h d (later-contained (Opened j) (Child d) (effect_items ts) k)) e
   child-known (Closes j ∷ ts) c h e = child-known ts c (λ d k. h d (later-contained (Closed j) (Child d) (effect_items ts) k)) e
   child-known (Emitted x ∷ ts) c h e = child-known ts c (λ d k. h d (later-contained (Happened x) (Child d) (effect_items ts) k)) e
-  child-known (Handed d place ∷ ts) c h e = subst Known (by_some e) (h d (first-contained (Child d) (effect_items ts)))
+  child-known (Handed d destination ∷ ts) c h e = subst Known (by_some e) (h d (first-contained (Child d) (effect_items ts)))
     where
       or_first : Option Origin → Origin
       or_first None = d
@@ -98,9 +98,9 @@ ended-rest plan child path height ps h e = ap (λ stage. rest_of_stage plan chil
 
 pub halves-places : (ps : List AwaitedChild) → AreHalves ps → AreDestinations 0 ps
 halves-places [] h = tt
-halves-places (p ∷ ps) h = (from p.place h.0, halves-places ps h.1)
+halves-places (p ∷ ps) h = (from p.destination h.0, halves-places ps h.1)
   where
-    from : (place : Destination) → IsHalf place → IsDestination 0 place
+    from : (destination : Destination) → IsHalf destination → IsDestination 0 destination
     from (Spawned owner target) g = absurd g
     from (Looped target) g = absurd g
     from Half g = tt

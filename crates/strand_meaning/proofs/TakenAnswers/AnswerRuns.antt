@@ -4,7 +4,7 @@ use Rattle.serial_meaning.specs.Runs.{done}
 use Rattle.serial_meaning.specs.Functions.{function_at}
 use Rattle.serial_meaning.specs.Plan.{PlanView, functions_of}
 use Rattle.serial_meaning.specs.Exec.{instance}
-use Rattle.serial_meaning.specs.Eval.{Evaluation, first_of, serial, eval_below, eval, depth_left}
+use Rattle.serial_meaning.specs.Eval.{Evaluation, first_value, serial, eval_below, eval, depth_left}
 use Rattle.serial_meaning.specs.Answer.{IsEval, outcome_of}
 use Rattle.serial_meaning.proofs.Equations.RunLaws.{Gives, anything, then-gives}
 use Rattle.serial_meaning.specs.declared.value.Value.{Value}
@@ -16,7 +16,7 @@ use Rattle.serial_meaning.specs.declared.answer.Outcome.{Outcome}
 use Rattle.strand_meaning.specs.Answers.{evaluation_of}
 
 abbrev IsOne : List Value → Type 0
-IsOne vs = vs ≡ first_of vs ∷ []
+IsOne vs = vs ≡ first_value vs ∷ []
 
 -- an instance gives one value
 one-value : (plan : PlanView) (function : ℕ) (args : List Value) (path : List ℕ) → Gives IsOne (eval plan (Instance function args path)).ending

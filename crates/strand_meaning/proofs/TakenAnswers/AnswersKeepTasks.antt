@@ -13,7 +13,7 @@ use Rattle.serial_meaning.specs.declared.origin.Origin.{Origin}
 use Rattle.strand_meaning.specs.Clear.{IsWithin, IsApart, target_names}
 use Rattle.strand_meaning.specs.Machine.{Destination, Spawned, Looped, Half, Frame, Machine}
 use Rattle.strand_meaning.specs.Trace.{AwaitedChild, Trace, heard_unless, heard, heard_all}
-use Rattle.strand_meaning.specs.Task.{InstanceState, Running, AtSync, AtLoop, Ended, Work, Splits, Runs, Over, Task, own_instance, changed, changed_at, frame_with_answer, takes, takes_all, joins, resumed, resumed_work, more_values, all_values, on}
+use Rattle.strand_meaning.specs.Task.{InstanceState, Running, AtSync, AtLoop, Ended, Work, Splits, Runs, Finished, Task, own_instance, changed, changed_at, frame_with_answer, takes, takes_all, joins, resumed, resumed_work, more_values, all_values, on}
 use Rattle.strand_meaning.specs.Found.{FindsTargets, functions_left}
 use Rattle.strand_meaning.specs.Rest.{children_of, evaluations, rest_of_stage, rest_open, closed_run, prefix_end, prefix_run, parts_run, all_with, work_run, finish}
 use Rattle.strand_meaning.specs.Sound.{unfilled_by, unfilled, is_by, any_by, IsSound, AreSound, IsDestination, AreDestinations, IsHalf, after_sync, IsSoundStage, AreParts, IsSoundWork, AreShownBy, UnfilledArePendingIn, IsTask}
@@ -33,16 +33,16 @@ module _ (child : Origin → Evaluation) where
   from_parts ps trace values tail = prefix_run trace then λ u. parts_run child ps values then tail
 
   heard-one : (p : AwaitedChild) (ps : List AwaitedChild) (trace : Trace) (values : List Value) (tail : List Value → Evaluation) →
-      from_parts (p ∷ ps) trace values tail ≡ from_parts ps (heard p (child p.child) trace) (more_values p.place (child p.child).ending values) tail
+      from_parts (p ∷ ps) trace values tail ≡ from_parts ps (heard p (child p.child) trace) (more_values p.destination (child p.child).ending values) tail
   heard-one p ps trace values tail = by_cases trace.fault (child p.child).items (child p.child).ending
     where
       by_cases : (f : Option Fault) (events : List Event) (q : Result (List Value) Fault) →
-          (record { items = trace.prefix; ending = prefix_end f } then λ (u : Unit {0}). (goes_on events q (λ vs. after_items p.after (parts_run child ps (more_values p.place (Ok vs) values)))) then tail)
-          ≡ from_parts ps (heard_unless f trace.prefix p events q) (more_values p.place q values) tail
+          (record { items = trace.prefix; ending = prefix_end f } then λ (u : Unit {0}). (goes_on events q (λ vs. after_items p.after (parts_run child ps (more_values p.destination (Ok vs) values)))) then tail)
+          ≡ from_parts ps (heard_unless f trace.prefix p events q) (more_values p.destination q values) tail
       by_cases (Some f) events q = refl
       by_cases None events (Err f) = refl
       by_cases None events (Ok vs) =
-          let r : Evaluation = parts_run child ps (more_values p.place (Ok vs) values) in
+          let r : Evaluation = parts_run child ps (more_values p.destination (Ok vs) values) in
           ap (after_items trace.prefix) (after-then events (after_items p.after r) tail ∙ ap (after_items events) (after-then p.after r tail))
           ∙ ap (λ (l : List Event). record { items = trace.prefix ++ l; ending = (r then tail).ending }) (sym (append_assoc events p.after (r then tail).items))
           ∙ ap (λ (l : List Event). record { items = l; ending = (r then tail).ending }) (sym (append_assoc trace.prefix (events ++ p.after) (r then tail).items))
@@ -51,7 +51,7 @@ module _ (child : Origin → Evaluation) where
       from_parts ps trace values tail ≡ from_parts [] (heard_all ps (evaluations child ps) trace) (all_values ps (evaluations child ps) values) tail
   heard-so_far [] trace values tail = refl
   heard-so_far (p ∷ ps) trace values tail =
-      heard-one p ps trace values tail ∙ heard-so_far ps (heard p (child p.child) trace) (more_values p.place (child p.child).ending values) tail
+      heard-one p ps trace values tail ∙ heard-so_far ps (heard p (child p.child) trace) (more_values p.destination (child p.child).ending values) tail
 
   heard-none : (ps : List AwaitedChild) (trace : Trace) → trace.handed ≡ [] → (heard_all ps (evaluations child ps) trace).handed ≡ []
   heard-none [] trace h = h
@@ -68,16 +68,16 @@ pub takes-same : (plan : PlanView) (o : Origin) (ps : List AwaitedChild) → Are
     takes_all ps (evaluations (children_of plan (own_instance o)) ps) stage ≡ takes_all ps (evaluations (eval plan) ps) stage
 takes-same plan o [] h stage = refl
 takes-same plan o (p ∷ ps) h stage =
-    takes-same plan o ps h.1 (takes p.place (children_of plan (own_instance o) p.child).ending stage) ∙ ap (takes_all ps (evaluations (eval plan) ps)) (one h.0.same)
+    takes-same plan o ps h.1 (takes p.destination (children_of plan (own_instance o) p.child).ending stage) ∙ ap (takes_all ps (evaluations (eval plan) ps)) (one h.0.same)
   where
-    half : (place : Destination) (q r : Result (List Value) Fault) → IsHalf place → takes place q stage ≡ takes place r stage
+    half : (destination : Destination) (q r : Result (List Value) Fault) → IsHalf destination → takes destination q stage ≡ takes destination r stage
     half (Spawned owner target) q r g = absurd g
     half (Looped target) q r g = absurd g
     half Half q r g = refl
 
-    one : IsHalf p.place ⊎ (children_of plan (own_instance o) p.child ≡ eval plan p.child) → takes p.place (children_of plan (own_instance o) p.child).ending stage ≡ takes p.place (eval plan p.child).ending stage
-    one (inl g) = half p.place _ _ g
-    one (inr e) = ap (λ (r : Evaluation). takes p.place r.ending stage) e
+    one : IsHalf p.destination ⊎ (children_of plan (own_instance o) p.child ≡ eval plan p.child) → takes p.destination (children_of plan (own_instance o) p.child).ending stage ≡ takes p.destination (eval plan p.child).ending stage
+    one (inl g) = half p.destination _ _ g
+    one (inr e) = ap (λ (r : Evaluation). takes p.destination r.ending stage) e
 
 resumed-twice : (stage : InstanceState) → resumed (resumed stage) ≡ resumed stage
 resumed-twice (Running m) = refl
@@ -96,13 +96,13 @@ or-right true = refl
 or-right false = refl
 
 fewer : (height : ℕ) (p : AwaitedChild) (ps : List AwaitedChild) → IsWithin (unfilled height ps) (unfilled height (p ∷ ps))
-fewer height p ps name h = Contains-append_right (unfilled_by height p.place) (unfilled height ps) name h
+fewer height p ps name h = Contains-append_right (unfilled_by height p.destination) (unfilled height ps) name h
 
 module _ (plan : PlanView) (p : AwaitedChild) (ps : List AwaitedChild) where
   less-sound : (height : ℕ) (a : Frame) → IsSound plan (p ∷ ps) height a → IsSound plan ps height a
   less-sound height a s = record {
     clear = (s.clear.0, clear-within (unfilled height ps) (unfilled height (p ∷ ps)) (fewer height p ps) s.clear.1);
-    spawned = λ e. s.spawned (ap (λ b. is_by height p.place || b) e ∙ or-right (is_by height p.place));
+    spawned = λ e. s.spawned (ap (λ b. is_by height p.destination || b) e ∙ or-right (is_by height p.destination));
     faulted = s.faulted;
     in_text = s.in_text;
     left_in_text = s.left_in_text;
@@ -111,7 +111,7 @@ module _ (plan : PlanView) (p : AwaitedChild) (ps : List AwaitedChild) where
     returning = s.returning;
   }
 
-  answered-sound : (height : ℕ) (a : Frame) (target : Option Name) (q : Result (List Value) Fault) → is_by height p.place ≡ true → IsSound plan (p ∷ ps) height a → IsSound plan ps height (frame_with_answer target q a)
+  answered-sound : (height : ℕ) (a : Frame) (target : Option Name) (q : Result (List Value) Fault) → is_by height p.destination ≡ true → IsSound plan (p ∷ ps) height a → IsSound plan ps height (frame_with_answer target q a)
   answered-sound height a target (Ok vs) h s =
       let l = less-sound height a s in record { clear = l.clear; spawned = l.spawned; faulted = l.faulted; in_text = l.in_text; left_in_text = l.left_in_text; levels = l.levels; leaving = l.leaving; returning = l.returning }
   answered-sound height a target (Err f) h s =
@@ -130,8 +130,8 @@ module _ (plan : PlanView) (p : AwaitedChild) (ps : List AwaitedChild) where
   less-below target [] s = tt
   less-below target (caller ∷ below) s = (λ name c d. s.0 name c (fewer (length below) p ps name d), less-sound (length below) caller s.1, less-below caller.target below s.2)
 
-  module _ (owner : ℕ) (to : Option Name) (q : Result (List Value) Fault) (is-spawned : p.place ≡ Spawned owner to) where
-    by-owner : (height : ℕ) → nat_eq owner height ≡ true → is_by height p.place ≡ true
+  module _ (owner : ℕ) (to : Option Name) (q : Result (List Value) Fault) (is-spawned : p.destination ≡ Spawned owner to) where
+    by-owner : (height : ℕ) → nat_eq owner height ≡ true → is_by height p.destination ≡ true
     by-owner height h = ap (is_by height) is-spawned ∙ h
 
     same-target : (a : Frame) → (frame_with_answer to q a).target ≡ a.target
@@ -180,7 +180,7 @@ HasFaulted stage = (e : NodeFault) × (stage ≡ Ended (Err e))
 abbrev Taking : PlanView → List AwaitedChild → InstanceState → Type 0
 Taking plan ps stage = IsSoundStage plan ps stage ⊎ HasFaulted stage
 
-faulted-takes : (place : Destination) (q : Result (List Value) Fault) (e : NodeFault) → HasFaulted (takes place q (Ended (Err e)))
+faulted-takes : (destination : Destination) (q : Result (List Value) Fault) (e : NodeFault) → HasFaulted (takes destination q (Ended (Err e)))
 faulted-takes (Spawned owner target) q e = (e, refl)
 faulted-takes (Looped target) (Ok vs) e = (e, refl)
 faulted-takes (Looped target) (Err f) e = (ChildFaulted f, refl)
@@ -204,7 +204,7 @@ module _ (plan : PlanView) (p : AwaitedChild) (ps : List AwaitedChild) (q : Resu
       from (Ok vs) = record { clear = s.clear; spawned = s.spawned; faulted = s.faulted; in_text = s.in_text; left_in_text = s.left_in_text; levels = s.levels; leaving = s.leaving; returning = s.returning }
       from (Err f) = record { clear = s.clear; spawned = s.spawned; faulted = s.faulted; in_text = s.in_text; left_in_text = s.left_in_text; levels = s.levels; leaving = s.leaving; returning = s.returning }
 
-  top-changed : (owner : ℕ) (to : Option Name) → p.place ≡ Spawned owner to → (m : Machine) → IsSound plan (p ∷ ps) (length m.below) m.top → AreSound plan (p ∷ ps) m.top.target m.below →
+  top-changed : (owner : ℕ) (to : Option Name) → p.destination ≡ Spawned owner to → (m : Machine) → IsSound plan (p ∷ ps) (length m.below) m.top → AreSound plan (p ∷ ps) m.top.target m.below →
       let k = changed owner (frame_with_answer to q) m in IsSound plan ps (length k.below) k.top × AreSound plan ps k.top.target k.below
   top-changed owner to e m s b = by_place (nat_eq owner (length m.below)) refl
     where
@@ -215,7 +215,7 @@ module _ (plan : PlanView) (p : AwaitedChild) (ps : List AwaitedChild) (q : Resu
       by_place false h =
           (subst (λ n. IsSound plan ps n m.top) (sym (length-changed owner (frame_with_answer to q) m.below)) (less-sound plan p ps (length m.below) m.top s), changed-below plan p ps owner to q e m.top.target m.below b)
 
-  takes-spawned : (owner : ℕ) (to : Option Name) → p.place ≡ Spawned owner to → (stage : InstanceState) → IsSoundStage plan (p ∷ ps) stage → Taking plan ps (takes (Spawned owner to) q stage)
+  takes-spawned : (owner : ℕ) (to : Option Name) → p.destination ≡ Spawned owner to → (stage : InstanceState) → IsSoundStage plan (p ∷ ps) stage → Taking plan ps (takes (Spawned owner to) q stage)
   takes-spawned owner to e (Running m) s =
       let k = top-changed owner to e m s.1 s.2 in inl (places-owner (length m.below) ps (length (changed owner (frame_with_answer to q) m).below) (same-height owner to m) s.0.1, k.0, k.1)
   takes-spawned owner to e (AtSync m) s =
@@ -233,7 +233,7 @@ module _ (plan : PlanView) (p : AwaitedChild) (ps : List AwaitedChild) (q : Resu
   takes-half (Ended (Ok v)) s = inl s.1
   takes-half (Ended (Err x)) s = inr (x, refl)
 
-  takes-looped : (to : Option Name) → p.place ≡ Looped to → (q : Result (List Value) Fault) (stage : InstanceState) → IsSoundStage plan (p ∷ ps) stage → Taking plan ps (takes (Looped to) q stage)
+  takes-looped : (to : Option Name) → p.destination ≡ Looped to → (q : Result (List Value) Fault) (stage : InstanceState) → IsSoundStage plan (p ∷ ps) stage → Taking plan ps (takes (Looped to) q stage)
   takes-looped to e (Err f) stage s = inr (ChildFaulted f, refl)
   takes-looped to e (Ok vs) (Running m) s = let no : IsDestination (length m.below) (Looped to) = subst (IsDestination (length m.below)) e s.0.0 in absurd no
   takes-looped to e (Ok vs) (AtSync m) s = let no : IsDestination (length m.below) (Looped to) = subst (IsDestination (length m.below)) e s.0.0 in absurd no
@@ -246,18 +246,18 @@ module _ (plan : PlanView) (p : AwaitedChild) (ps : List AwaitedChild) (q : Resu
   takes-looped to e (Ok vs) (Ended (Ok v)) s = let no : IsHalf (Looped to) = subst IsHalf e s.0 in absurd no
   takes-looped to e (Ok vs) (Ended (Err x)) s = inr (x, refl)
 
-  takes-sound : (place : Destination) → p.place ≡ place → (stage : InstanceState) → IsSoundStage plan (p ∷ ps) stage → Taking plan ps (takes place q stage)
+  takes-sound : (destination : Destination) → p.destination ≡ destination → (stage : InstanceState) → IsSoundStage plan (p ∷ ps) stage → Taking plan ps (takes destination q stage)
   takes-sound (Spawned owner to) e stage s = takes-spawned owner to e stage s
   takes-sound (Looped to) e stage s = takes-looped to e q stage s
   takes-sound Half e stage s = takes-half stage s
 
-  takes-either : (stage : InstanceState) → Taking plan (p ∷ ps) stage → Taking plan ps (takes p.place q stage)
-  takes-either stage (inl s) = takes-sound p.place refl stage s
-  takes-either stage (inr h) = inr (subst (λ (x : InstanceState). HasFaulted (takes p.place q x)) (sym h.1) (faulted-takes p.place q h.0))
+  takes-either : (stage : InstanceState) → Taking plan (p ∷ ps) stage → Taking plan ps (takes p.destination q stage)
+  takes-either stage (inl s) = takes-sound p.destination refl stage s
+  takes-either stage (inr h) = inr (subst (λ (x : InstanceState). HasFaulted (takes p.destination q x)) (sym h.1) (faulted-takes p.destination q h.0))
 
 all-taken : (plan : PlanView) (child : Origin → Evaluation) (ps : List AwaitedChild) (stage : InstanceState) → Taking plan ps stage → Taking plan [] (takes_all ps (evaluations child ps) stage)
 all-taken plan child [] stage t = t
-all-taken plan child (p ∷ ps) stage t = all-taken plan child ps (takes p.place (child p.child).ending stage) (takes-either plan p ps (child p.child).ending stage t)
+all-taken plan child (p ∷ ps) stage t = all-taken plan child ps (takes p.destination (child p.child).ending stage) (takes-either plan p ps (child p.child).ending stage t)
 
 resumed-sound : (plan : PlanView) (stage : InstanceState) → Taking plan [] stage → IsSoundStage plan [] (resumed stage)
 resumed-sound plan (Running m) (inl s) = s
@@ -306,19 +306,19 @@ module _ (t : Task) (is : IsTask t) where
   work-same : (work : Work) (vs : List Value) → work_run t.plan t.origin ps work vs ≡ work_run t.plan t.origin [] (resumed_work ps answers work) vs
   work-same (Splits left) vs = refl
   work-same (Runs stage) vs = ap (λ (r : Run Item NodeFault Value). closed_run kids r then λ v. done (all_with t.origin vs v)) (rest-same stage)
-  work-same (Over v gone_on) vs = refl
+  work-same (Finished v gone_on) vs = refl
 
   work-sound : (work : Work) → IsSoundWork t.plan t.origin ps work → IsSoundWork t.plan t.origin [] (resumed_work ps answers work)
   work-sound (Splits left) s = (s.0, tt)
   work-sound (Runs stage) s =
       (s.0, record { front = s.1.front; whole = s.1.whole ∙ ap (λ (r : Run Item NodeFault Value). after_items s.1.front (r then λ v. done (v ∷ []))) (rest-same stage) }, resumed-sound t.plan (takes_all ps answers stage) (all-taken t.plan (eval t.plan) ps stage (inl s.2)))
-  work-sound (Over v true) s = (s.0, refl)
-  work-sound (Over v false) s = (s.0, refl)
+  work-sound (Finished v true) s = (s.0, refl)
+  work-sound (Finished v false) s = (s.0, refl)
 
   work-pending : (work : Work) → UnfilledArePendingIn t.plan ps work → UnfilledArePendingIn t.plan [] (resumed_work ps answers work)
   work-pending (Splits left) p = tt
   work-pending (Runs stage) p = answers-pending t.plan (eval t.plan) ps stage p
-  work-pending (Over v gone_on) p = tt
+  work-pending (Finished v gone_on) p = tt
 
   pub none-handed : trace-on.handed ≡ []
   none-handed = heard-none (eval t.plan) ps (record t.trace { handed = [] }) refl

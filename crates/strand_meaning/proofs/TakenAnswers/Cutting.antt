@@ -5,7 +5,7 @@ use Rattle.std.proofs.lemmas.List.Elements.{Contains-append_left, Contains-appen
 use Rattle.ped_path.specs.Path.{IsBefore}
 use Rattle.serial_meaning.specs.Answer.{AnswerView, IsEval, IsCut, IsAnswer, outcome_of, start_of}
 use Rattle.serial_meaning.specs.Eval.{Evaluation, path_of, eval}
-use Rattle.serial_meaning.specs.Laws.{IsOriginOf, EndsWithin, places}
+use Rattle.serial_meaning.specs.Laws.{IsOriginOf, EndsWithin, raising_pedigrees}
 use Rattle.serial_meaning.specs.Open.{faults}
 use Rattle.serial_meaning.specs.Plan.{PlanView}
 use Rattle.serial_meaning.specs.Runs.{after_items, ◌then◌}
@@ -34,21 +34,21 @@ use Rattle.strand_meaning.proofs.SoundSteps.Ends.{err-outcome}
 module _ (child : Origin → Evaluation) where
   -- What stands before a child is among what the trace gives, where the children before it gave values.
   shown-comes : (events : List Event) (front : List AwaitedChild) (p : AwaitedChild) (later : List AwaitedChild) (values : List Value) (tail : List Value → Evaluation) (j : List ℕ) → GaveValues child front →
-      Contains (places (front_of events front)) j → Contains (places (events ++ (parts_run child (front ++ p ∷ later) values then tail).items)) j
+      Contains (raising_pedigrees (front_of events front)) j → Contains (raising_pedigrees (events ++ (parts_run child (front ++ p ∷ later) values then tail).items)) j
   shown-comes events [] p later values tail j gave c =
       let more : List Event = (parts_run child (p ∷ later) values then tail).items in
-      subst (λ (l : List (List ℕ)). Contains l j) (sym (places-append events more)) (Contains-append_left (places events) (places more) j c)
-  shown-comes events (q ∷ front) p later values tail j gave c = by_end (child q.child).ending (λ vs. shown-comes q.after front p later (more_values q.place (Ok vs) values) tail j gave.1 c) gave.0
+      subst (λ (l : List (List ℕ)). Contains l j) (sym (places-append events more)) (Contains-append_left (raising_pedigrees events) (raising_pedigrees more) j c)
+  shown-comes events (q ∷ front) p later values tail j gave c = by_end (child q.child).ending (λ vs. shown-comes q.after front p later (more_values q.destination (Ok vs) values) tail j gave.1 c) gave.0
     where
       rest : List Value → Evaluation
-      rest vs = parts_run child (front ++ p ∷ later) (more_values q.place (Ok vs) values)
+      rest vs = parts_run child (front ++ p ∷ later) (more_values q.destination (Ok vs) values)
 
       with_end : Result (List Value) Fault → Evaluation
       with_end e = record { items = (child q.child).items; ending = e } then λ vs. after_items q.after (rest vs)
 
-      by_end : (e : Result (List Value) Fault) → ((vs : List Value) → Contains (places (q.after ++ (rest vs then tail).items)) j) → GaveValue e → Contains (places (events ++ (with_end e then tail).items)) j
+      by_end : (e : Result (List Value) Fault) → ((vs : List Value) → Contains (raising_pedigrees (q.after ++ (rest vs then tail).items)) j) → GaveValue e → Contains (raising_pedigrees (events ++ (with_end e then tail).items)) j
       by_end (Err f) h g = absurd g
-      by_end (Ok vs) h g = subst (λ (l : List Event). Contains (places l) j) (sym split) last
+      by_end (Ok vs) h g = subst (λ (l : List Event). Contains (raising_pedigrees l) j) (sym split) last
         where
           front_events : List Event
           front_events = events ++ (child q.child).items
@@ -59,10 +59,10 @@ module _ (child : Origin → Evaluation) where
               ap (λ (r : Evaluation). events ++ r.items) (after-then (child q.child).items (after_items q.after (rest vs)) tail ∙ ap (after_items (child q.child).items) (after-then q.after (rest vs) tail))
               ∙ sym (append_assoc events (child q.child).items (q.after ++ (rest vs then tail).items))
 
-          last : Contains (places (front_events ++ (q.after ++ (rest vs then tail).items))) j
+          last : Contains (raising_pedigrees (front_events ++ (q.after ++ (rest vs then tail).items))) j
           last =
               let more : List Event = q.after ++ (rest vs then tail).items in
-              subst (λ (l : List (List ℕ)). Contains l j) (sym (places-append front_events more)) (Contains-append_right (places front_events) (places more) j (h vs))
+              subst (λ (l : List (List ℕ)). Contains l j) (sym (places-append front_events more)) (Contains-append_right (raising_pedigrees front_events) (raising_pedigrees more) j (h vs))
 
   -- The trace up to the first fault of a child, and that fault.
   heard-ends : (prefix : List Event) (front : List AwaitedChild) (p : AwaitedChild) (later : List AwaitedChild) (values : List Value) (tail : List Value → Evaluation) (f : Fault) → GaveValues child front → (child p.child).ending ≡ Err f →
@@ -70,7 +70,7 @@ module _ (child : Origin → Evaluation) where
   heard-ends prefix [] p later values tail f gave e = by_end (child p.child).ending e
     where
       run : Result (List Value) Fault → Evaluation
-      run q = record { items = (child p.child).items; ending = q } then λ vs. after_items p.after (parts_run child later (more_values p.place (Ok vs) values))
+      run q = record { items = (child p.child).items; ending = q } then λ vs. after_items p.after (parts_run child later (more_values p.destination (Ok vs) values))
 
       heard_with : Result (List Value) Fault → Trace
       heard_with q = heard_all (p ∷ []) (record { items = (child p.child).items; ending = q } ∷ []) (record { prefix = prefix; fault = None; handed = [] })
@@ -79,10 +79,10 @@ module _ (child : Origin → Evaluation) where
       by_end (Ok vs) g = absurd (cc)
       by_end (Err x) g = ap (λ (y : Result (List Value) Fault). record { items = prefix ++ (child p.child).items; ending = y }) g
   heard-ends prefix (q ∷ front) p later values tail f gave e =
-      by_end (child q.child).ending (λ vs. heard-ends (prefix ++ ((child q.child).items ++ q.after)) front p later (more_values q.place (Ok vs) values) tail f gave.1 e) gave.0
+      by_end (child q.child).ending (λ vs. heard-ends (prefix ++ ((child q.child).items ++ q.after)) front p later (more_values q.destination (Ok vs) values) tail f gave.1 e) gave.0
     where
       rest : List Value → Evaluation
-      rest vs = parts_run child (front ++ p ∷ later) (more_values q.place (Ok vs) values)
+      rest vs = parts_run child (front ++ p ∷ later) (more_values q.destination (Ok vs) values)
 
       ps : List AwaitedChild
       ps = front ++ p ∷ []
@@ -107,10 +107,10 @@ module _ (child : Origin → Evaluation) where
 
 -- how the child after these ones is shown
 shown-at : (plan : PlanView) (o : Origin) (before : List AwaitedChild) (events : List Event) (front : List AwaitedChild) (p : AwaitedChild) (later : List AwaitedChild) →
-    AreShownBy plan o before events (front ++ p ∷ later) → IsShownAs p.place plan o (before ++ front) (front_of events front) p.child
-shown-at plan o before events [] p later h = subst (λ (l : List AwaitedChild). IsShownAs p.place plan o l events p.child) (sym (append-nil before)) h.0
+    AreShownBy plan o before events (front ++ p ∷ later) → IsShownAs p.destination plan o (before ++ front) (front_of events front) p.child
+shown-at plan o before events [] p later h = subst (λ (l : List AwaitedChild). IsShownAs p.destination plan o l events p.child) (sym (append-nil before)) h.0
 shown-at plan o before events (q ∷ front) p later h =
-    subst (λ (l : List AwaitedChild). IsShownAs p.place plan o l (front_of q.after front) p.child) (append_assoc before (q ∷ []) front)
+    subst (λ (l : List AwaitedChild). IsShownAs p.destination plan o l (front_of q.after front) p.child) (append_assoc before (q ∷ []) front)
     (shown-at plan o (before ++ q ∷ []) q.after front p later h.1)
 
 -- a task's trace without a fault, before the rest
@@ -127,7 +127,7 @@ trace-whole t ps is none e = sym (ap run none) ∙ ap whole (sym e) ∙ is.finis
 -- A child of the task's own instance
 
 -- its path stands below the task's origin
-own-below : (plan : PlanView) (o : Origin) (events : List Event) (child : Origin) → IsBegunBy o events child → Contains (places (eval plan o).items) (path_of child) → StandsBelow o (path_of child)
+own-below : (plan : PlanView) (o : Origin) (events : List Event) (child : Origin) → IsBegunBy o events child → Contains (raising_pedigrees (eval plan o).items) (path_of child) → StandsBelow o (path_of child)
 own-below plan (Instance function args path) events child b reached = (b.rank ∷ b.more, b.at)
 own-below plan (Loop function rest first path range) events child b reached =
     let some : 0 < range.hi = has-iterations plan function rest first path range (path_of child) reached in
@@ -153,7 +153,7 @@ known-at plan o (q ∷ front) p later h = known-at plan o front p later h.1
 pub cuts_pass : (t : Task) (front : List AwaitedChild) (p : AwaitedChild) (later : List AwaitedChild) (by : Fault) → IsTask t → t.trace.fault ≡ None → t.trace.handed ≡ front ++ p ∷ later →
     GaveValues (eval t.plan) front → IsCut t.plan p.child by → IsCut t.plan t.origin by
 cuts_pass t front p later by is none e gave cut =
-    record { known = cut.known; before = by_place p.place (shown-at t.plan t.origin [] t.trace.prefix front p later (subst (AreShownBy t.plan t.origin [] t.trace.prefix) e (is.shown none))) }
+    record { known = cut.known; before = by_place p.destination (shown-at t.plan t.origin [] t.trace.prefix front p later (subst (AreShownBy t.plan t.origin [] t.trace.prefix) e (is.shown none))) }
   where
     events : List Event
     events = front_of t.trace.prefix front
@@ -161,18 +161,18 @@ cuts_pass t front p later by is none e gave cut =
     tail : List Value → Evaluation
     tail = work_run t.plan t.origin (front ++ p ∷ later) t.work
 
-    reached : Contains (places events) (path_of p.child) → Contains (places (eval t.plan t.origin).items) (path_of p.child)
+    reached : Contains (raising_pedigrees events) (path_of p.child) → Contains (raising_pedigrees (eval t.plan t.origin).items) (path_of p.child)
     reached c =
-        subst (λ (r : Evaluation). Contains (places r.items) (path_of p.child)) (trace-whole t (front ++ p ∷ later) is none e)
+        subst (λ (r : Evaluation). Contains (raising_pedigrees r.items) (path_of p.child)) (trace-whole t (front ++ p ∷ later) is none e)
         (shown-comes (eval t.plan) t.trace.prefix front p later t.values tail (path_of p.child) gave c)
 
     own : IsBegunBy t.origin events p.child → IsBefore by.at (start_of t.origin)
     own b =
         let known : IsOriginOf t.plan p.child = known-at t.plan t.origin front p later (subst (AreParts t.plan t.origin) e is.parts) in
-        let there : Contains (places (eval t.plan t.origin).items) (path_of p.child) = reached b.event in
+        let there : Contains (raising_pedigrees (eval t.plan t.origin).items) (path_of p.child) = reached b.event in
         before-event t.plan t.origin is.known by cut.known (path_of p.child) (own-before t.plan p.child by known b.whole cut) there (own-below t.plan t.origin events p.child b there)
 
-    by_place : (place : Destination) → IsShownAs place t.plan t.origin front events p.child → IsBefore by.at (start_of t.origin)
+    by_place : (destination : Destination) → IsShownAs destination t.plan t.origin front events p.child → IsBefore by.at (start_of t.origin)
     by_place (Spawned owner target) b = own b
     by_place (Looped target) b = own b
     by_place Half b = part-before t.plan t.origin front p.child by is.known b gave cut

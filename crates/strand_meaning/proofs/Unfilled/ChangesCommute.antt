@@ -17,7 +17,7 @@ use Rattle.serial_meaning.specs.Names.{names_in}
 use Rattle.serial_meaning.specs.Values.{Env, value_of, values_of, slot_of, items_of, as_integer, is_true, at_index}
 use Rattle.serial_meaning.specs.Functions.{number_of, function_at}
 use Rattle.serial_meaning.specs.Plan.{PlanView, functions_of, drawn}
-use Rattle.serial_meaning.specs.Exec.{State, Manner, strand, unless_fault, paid_from, tested, has_room, fits_depth, filled, spawn, join, implied, frame, called, right_side, found, store, looped, does, count_of, with_slot, set_item, set_array, bound}
+use Rattle.serial_meaning.specs.Exec.{State, Manner, strand, unless_fault, paid_from, tested, has_room, fits_depth, with_loop_values, spawn, sync_here, implied, frame, called, right_side, found, store, looped, does, count_of, with_slot, set_item, set_array, bound}
 use Rattle.serial_meaning.specs.Open.{is_empty_loop, filler}
 use Rattle.serial_meaning.specs.declared.value.Value.{Value}
 use Rattle.serial_meaning.specs.declared.value.Value.TheVariants.{Int}
@@ -60,7 +60,7 @@ module _ (plan : PlanView) (path : List ℕ) (fix : Env → Env) (mark : Option 
   change = altered fix mark
 
   abbrev what : Destination → Manner Effect Exit Bool
-  what place = handing plan place
+  what destination = handing plan destination
 
   -- the innermost frame is altered
   module _ (m : Machine) (left : List Stmt) (st : Stmt) where
@@ -102,28 +102,28 @@ module _ (plan : PlanView) (path : List ℕ) (fix : Env → Env) (mark : Option 
       so-done : (s : State Bool) → Same (done (fixed s)) (done s)
       so-done s = ends-so [] (fixed s) s refl
 
-      so-given : {A : Type 0} (place : Destination) (o' o : Result A FaultKind) (n : ℕ) (f g : A → Run Effect Exit (State Bool)) → o' ≡ o → ((a : A) → Same (f a) (g a)) →
-          Same (unless_fault (what place) plan now o' (there n) f) (unless_fault (what place) plan now o (here n) g)
-      so-given {A} place o' o n f g e h = ap (λ (q : Result A FaultKind). finished (with_left other left) into' (unless_fault (what place) plan now q (there n) f)) e ∙ by_value o
+      so-given : {A : Type 0} (destination : Destination) (o' o : Result A FaultKind) (n : ℕ) (f g : A → Run Effect Exit (State Bool)) → o' ≡ o → ((a : A) → Same (f a) (g a)) →
+          Same (unless_fault (what destination) plan now o' (there n) f) (unless_fault (what destination) plan now o (here n) g)
+      so-given {A} destination o' o n f g e h = ap (λ (q : Result A FaultKind). finished (with_left other left) into' (unless_fault (what destination) plan now q (there n) f)) e ∙ by_value o
         where
-          by_value : (o : Result A FaultKind) → Same (unless_fault (what place) plan now o (there n) f) (unless_fault (what place) plan now o (here n) g)
+          by_value : (o : Result A FaultKind) → Same (unless_fault (what destination) plan now o (there n) f) (unless_fault (what destination) plan now o (here n) g)
           by_value (Ok a) = h a
           by_value (Err k) = refl
 
-      so-tested : (place : Destination) (b' b : Bool) (k : FaultKind) (n : ℕ) (f g : Run Effect Exit (State Bool)) → b' ≡ b → Same f g → Same (tested (what place) plan now b' k (there n) f) (tested (what place) plan now b k (here n) g)
-      so-tested place b' b k n f g e h = ap (λ (q : Bool). finished (with_left other left) into' (tested (what place) plan now q k (there n) f)) e ∙ by_test b
+      so-tested : (destination : Destination) (b' b : Bool) (k : FaultKind) (n : ℕ) (f g : Run Effect Exit (State Bool)) → b' ≡ b → Same f g → Same (tested (what destination) plan now b' k (there n) f) (tested (what destination) plan now b k (here n) g)
+      so-tested destination b' b k n f g e h = ap (λ (q : Bool). finished (with_left other left) into' (tested (what destination) plan now q k (there n) f)) e ∙ by_test b
         where
-          by_test : (b : Bool) → Same (tested (what place) plan now b k (there n) f) (tested (what place) plan now b k (here n) g)
+          by_test : (b : Bool) → Same (tested (what destination) plan now b k (there n) f) (tested (what destination) plan now b k (here n) g)
           by_test true = h
           by_test false = refl
 
-      so-paid : (place : Destination) (n : ℕ) (s : State Bool) (f g : State Bool → Run Effect Exit (State Bool)) → ((k : ℕ) → Same (f (record (fixed s) { steps = k })) (g (record s { steps = k }))) →
-          Same (paid_from (what place) plan now n (fixed s) f) (paid_from (what place) plan now n s g)
-      so-paid place zero s f g h = refl
-      so-paid place (suc n) s f g h = h n
+      so-paid : (destination : Destination) (n : ℕ) (s : State Bool) (f g : State Bool → Run Effect Exit (State Bool)) → ((k : ℕ) → Same (f (record (fixed s) { steps = k })) (g (record s { steps = k }))) →
+          Same (paid_from (what destination) plan now n (fixed s) f) (paid_from (what destination) plan now n s g)
+      so-paid destination zero s f g h = refl
+      so-paid destination (suc n) s f g h = h n
 
-      so-sync : (place : Destination) (n : ℕ) → Same (join (what place) plan now (there n)) (join (what place) plan now (here n))
-      so-sync place n = by_spawned m.top.spawned
+      so-sync : (destination : Destination) (n : ℕ) → Same (sync_here (what destination) plan now (there n)) (sync_here (what destination) plan now (here n))
+      so-sync destination n = by_spawned m.top.spawned
         where
           next : State Bool
           next = record { env = m.top.env; rank = m.rank + 1; steps = n; spawned = false }
@@ -135,60 +135,60 @@ module _ (plan : PlanView) (path : List ℕ) (fix : Env → Env) (mark : Option 
       sets target p = record p.1 { env = with_scalar target p.0 p.1.env }
 
       abbrev child_run : Destination → CallText → List Value → State Bool → Run Effect Exit (Value × State Bool)
-      child_run place c vs s =
+      child_run destination c vs s =
           happens (Emitted (event.Spawn (strand now s))) s then λ s.
-          (what place).spawn (origin.Instance (number_of (functions_of plan) c.name.bytes) vs (strand now s)) s.spawned then λ r.
+          (what destination).spawn (origin.Instance (number_of (functions_of plan) c.name.bytes) vs (strand now s)) s.spawned then λ r.
           done (r.0, record s { rank = s.rank + 1; spawned = r.1 })
 
       so-set : (items : List Effect) (target : Option Name) (v : Value) (s : State Bool) → Keeps fix (target_names target) →
           Same (record { items = items; ending = Ok (sets target (v, fixed s)) }) (record { items = items; ending = Ok (sets target (v, s)) })
       so-set items target v s k = ends-so items (sets target (v, fixed s)) (sets target (v, s)) (ap (λ (env : Env). record s { env = env }) (scalar-kept fix target v s.env k))
 
-      so-spawn : (place : Destination) (target : Option Name) (c : CallText) (n : ℕ) → Keeps fix (names_in_all c.args) → Keeps fix (target_names target) →
-          Same (spawn (what place) plan now c (there n) then λ p. done (sets target p)) (spawn (what place) plan now c (here n) then λ p. done (sets target p))
-      so-spawn place target c n a k =
-          ap (λ (o : Result (List Value) FaultKind). finished (with_left other left) into' (unless_fault (what place) plan now o (there n) (λ vs. tested (what place) plan now (nat_lt (length now + 1) plan.limits.depth) Depth (there n) (child_run place c vs (there n))) then λ p. done (sets target p))) (values-kept fix c.args m.top.env a)
+      so-spawn : (destination : Destination) (target : Option Name) (c : CallText) (n : ℕ) → Keeps fix (names_in_all c.args) → Keeps fix (target_names target) →
+          Same (spawn (what destination) plan now c (there n) then λ p. done (sets target p)) (spawn (what destination) plan now c (here n) then λ p. done (sets target p))
+      so-spawn destination target c n a k =
+          ap (λ (o : Result (List Value) FaultKind). finished (with_left other left) into' (unless_fault (what destination) plan now o (there n) (λ vs. tested (what destination) plan now (nat_lt (length now + 1) plan.limits.depth) Depth (there n) (child_run destination c vs (there n))) then λ p. done (sets target p))) (values-kept fix c.args m.top.env a)
           ∙ by_args (values_of c.args m.top.env)
         where
-          by_test : (vs : List Value) (b : Bool) → Same (tested (what place) plan now b Depth (there n) (child_run place c vs (there n)) then λ p. done (sets target p)) (tested (what place) plan now b Depth (here n) (child_run place c vs (here n)) then λ p. done (sets target p))
+          by_test : (vs : List Value) (b : Bool) → Same (tested (what destination) plan now b Depth (there n) (child_run destination c vs (there n)) then λ p. done (sets target p)) (tested (what destination) plan now b Depth (here n) (child_run destination c vs (here n)) then λ p. done (sets target p))
           by_test vs true =
               let o = origin.Instance (number_of (functions_of plan) c.name.bytes) vs (now ++ m.rank ∷ []) in
-              so-set (Emitted (event.Spawn (now ++ m.rank ∷ [])) ∷ Handed o place ∷ []) target (filler plan o) (record { env = m.top.env; rank = m.rank + 1; steps = n; spawned = true }) k
+              so-set (Emitted (event.Spawn (now ++ m.rank ∷ [])) ∷ Handed o destination ∷ []) target (filler plan o) (record { env = m.top.env; rank = m.rank + 1; steps = n; spawned = true }) k
           by_test vs false = refl
 
           by_args : (o : Result (List Value) FaultKind) →
-              Same (unless_fault (what place) plan now o (there n) (λ vs. tested (what place) plan now (nat_lt (length now + 1) plan.limits.depth) Depth (there n) (child_run place c vs (there n))) then λ p. done (sets target p))
-              (unless_fault (what place) plan now o (here n) (λ vs. tested (what place) plan now (nat_lt (length now + 1) plan.limits.depth) Depth (here n) (child_run place c vs (here n))) then λ p. done (sets target p))
+              Same (unless_fault (what destination) plan now o (there n) (λ vs. tested (what destination) plan now (nat_lt (length now + 1) plan.limits.depth) Depth (there n) (child_run destination c vs (there n))) then λ p. done (sets target p))
+              (unless_fault (what destination) plan now o (here n) (λ vs. tested (what destination) plan now (nat_lt (length now + 1) plan.limits.depth) Depth (here n) (child_run destination c vs (here n))) then λ p. done (sets target p))
           by_args (Ok vs) = by_test vs (nat_lt (length now + 1) plan.limits.depth)
           by_args (Err e) = refl
 
       -- a callee begins the same, over the altered frame
-      so-call : (place : Destination) (target : Option Name) (c : CallText) (n : ℕ) → ((inner : List Stmt) (s : State Bool) → into' inner s ≡ changed height change (into inner s)) →
+      so-call : (destination : Destination) (target : Option Name) (c : CallText) (n : ℕ) → ((inner : List Stmt) (s : State Bool) → into' inner s ≡ changed height change (into inner s)) →
           Keeps fix (names_in_all c.args) → Keeps fix (target_names target) →
-          Same (called (what place) plan now inside height c (there n) then λ p. done (sets target p)) (called (what place) plan now inside height c (here n) then λ p. done (sets target p))
-      so-call place target c n enters a k =
-          ap (λ (o : Result (List Value) FaultKind). finished (with_left other left) into' (unless_fault (what place) plan now o (there n) (λ vs. tested (what place) plan now (nat_lt height 256) Calls (there n) (call_run there vs)) then λ p. done (sets target p))) (values-kept fix c.args m.top.env a)
+          Same (called (what destination) plan now inside height c (there n) then λ p. done (sets target p)) (called (what destination) plan now inside height c (here n) then λ p. done (sets target p))
+      so-call destination target c n enters a k =
+          ap (λ (o : Result (List Value) FaultKind). finished (with_left other left) into' (unless_fault (what destination) plan now o (there n) (λ vs. tested (what destination) plan now (nat_lt height 256) Calls (there n) (call_run there vs)) then λ p. done (sets target p))) (values-kept fix c.args m.top.env a)
           ∙ by_args (values_of c.args m.top.env)
         where
           callee : Option Function
           callee = function_at (functions_of plan) (number_of (functions_of plan) c.name.bytes)
 
           call_run : (ℕ → State Bool) → List Value → Run Effect Exit (Value × State Bool)
-          call_run at vs = frame (what place) plan now inside (height + 1) callee vs (at n) then λ r. done (r.0, record (at n) { rank = r.1.rank; steps = r.1.steps })
+          call_run at vs = frame (what destination) plan now inside (height + 1) callee vs (at n) then λ r. done (r.0, record (at n) { rank = r.1.rank; steps = r.1.steps })
 
           by_function : (vs : List Value) (o : Option Function) →
-              Same ((frame (what place) plan now inside (height + 1) o vs (there n) then λ r. done (r.0, record (there n) { rank = r.1.rank; steps = r.1.steps })) then λ p. done (sets target p))
-              ((frame (what place) plan now inside (height + 1) o vs (here n) then λ r. done (r.0, record (here n) { rank = r.1.rank; steps = r.1.steps })) then λ p. done (sets target p))
+              Same ((frame (what destination) plan now inside (height + 1) o vs (there n) then λ r. done (r.0, record (there n) { rank = r.1.rank; steps = r.1.steps })) then λ p. done (sets target p))
+              ((frame (what destination) plan now inside (height + 1) o vs (here n) then λ r. done (r.0, record (here n) { rank = r.1.rank; steps = r.1.steps })) then λ p. done (sets target p))
           by_function vs None = so-set [] target _ (here n) k
           by_function vs (Some f) = ap (λ (k : Machine). record { items = []; ending = Ok (Stands k) }) (enters f.body (record { env = bound f.params vs; rank = m.rank; steps = n; spawned = false }))
 
-          by_test : (vs : List Value) (b : Bool) → Same (tested (what place) plan now b Calls (there n) (call_run there vs) then λ p. done (sets target p)) (tested (what place) plan now b Calls (here n) (call_run here vs) then λ p. done (sets target p))
+          by_test : (vs : List Value) (b : Bool) → Same (tested (what destination) plan now b Calls (there n) (call_run there vs) then λ p. done (sets target p)) (tested (what destination) plan now b Calls (here n) (call_run here vs) then λ p. done (sets target p))
           by_test vs true = by_function vs callee
           by_test vs false = refl
 
           by_args : (o : Result (List Value) FaultKind) →
-              Same (unless_fault (what place) plan now o (there n) (λ vs. tested (what place) plan now (nat_lt height 256) Calls (there n) (call_run there vs)) then λ p. done (sets target p))
-              (unless_fault (what place) plan now o (here n) (λ vs. tested (what place) plan now (nat_lt height 256) Calls (here n) (call_run here vs)) then λ p. done (sets target p))
+              Same (unless_fault (what destination) plan now o (there n) (λ vs. tested (what destination) plan now (nat_lt height 256) Calls (there n) (call_run there vs)) then λ p. done (sets target p))
+              (unless_fault (what destination) plan now o (here n) (λ vs. tested (what destination) plan now (nat_lt height 256) Calls (here n) (call_run here vs)) then λ p. done (sets target p))
           by_args (Ok vs) = by_test vs (nat_lt height 256)
           by_args (Err e) = refl
 
@@ -199,43 +199,43 @@ module _ (plan : PlanView) (path : List ℕ) (fix : Env → Env) (mark : Option 
       EntersBy (right.Call at c) = (inner : List Stmt) (s : State Bool) → into' inner s ≡ changed height change (into inner s)
       EntersBy (right.Spawn at c) = Unit {0}
 
-      so-right : (place : Destination) (x : Name) (r : Right) (n : ℕ) → EntersBy r → Keeps fix (x.bytes ∷ names_in_right r) →
-          Same (right_side (what place) plan now inside height r (there n) then λ p. done (sets (Some x) p)) (right_side (what place) plan now inside height r (here n) then λ p. done (sets (Some x) p))
-      so-right place x (right.Value e) n enters k =
-          ap (λ (o : Result Value FaultKind). finished (with_left other left) into' (unless_fault (what place) plan now o (there n) (λ v. done (v, there n)) then λ p. done (sets (Some x) p))) (value-kept fix e m.top.env k.1)
+      so-right : (destination : Destination) (x : Name) (r : Right) (n : ℕ) → EntersBy r → Keeps fix (x.bytes ∷ names_in_right r) →
+          Same (right_side (what destination) plan now inside height r (there n) then λ p. done (sets (Some x) p)) (right_side (what destination) plan now inside height r (here n) then λ p. done (sets (Some x) p))
+      so-right destination x (right.Value e) n enters k =
+          ap (λ (o : Result Value FaultKind). finished (with_left other left) into' (unless_fault (what destination) plan now o (there n) (λ v. done (v, there n)) then λ p. done (sets (Some x) p))) (value-kept fix e m.top.env k.1)
           ∙ by_value (value_of e m.top.env)
         where
-          by_value : (o : Result Value FaultKind) → Same (unless_fault (what place) plan now o (there n) (λ v. done (v, there n)) then λ p. done (sets (Some x) p)) (unless_fault (what place) plan now o (here n) (λ v. done (v, here n)) then λ p. done (sets (Some x) p))
+          by_value : (o : Result Value FaultKind) → Same (unless_fault (what destination) plan now o (there n) (λ v. done (v, there n)) then λ p. done (sets (Some x) p)) (unless_fault (what destination) plan now o (here n) (λ v. done (v, here n)) then λ p. done (sets (Some x) p))
           by_value (Ok v) = so-set [] (Some x) v (here n) (k.0, tt)
           by_value (Err f) = refl
-      so-right place x (right.Draw at) n enters k = so-set (Emitted (event.Draw (now ++ m.rank ∷ []) (drawn plan (now ++ m.rank ∷ []))) ∷ []) (Some x) _ (record (here n) { rank = m.rank + 1 }) (k.0, tt)
-      so-right place x (right.New at) n enters k = so-set (Emitted (event.New (now ++ m.rank ∷ [])) ∷ []) (Some x) _ (record (here n) { rank = m.rank + 1 }) (k.0, tt)
-      so-right place x (right.Call at c) n enters k = so-call place (Some x) c n enters k.1 (k.0, tt)
-      so-right place x (right.Spawn at c) n enters k = so-spawn place (Some x) c n k.1 (k.0, tt)
+      so-right destination x (right.Draw at) n enters k = so-set (Emitted (event.Draw (now ++ m.rank ∷ []) (drawn plan (now ++ m.rank ∷ []))) ∷ []) (Some x) _ (record (here n) { rank = m.rank + 1 }) (k.0, tt)
+      so-right destination x (right.New at) n enters k = so-set (Emitted (event.New (now ++ m.rank ∷ [])) ∷ []) (Some x) _ (record (here n) { rank = m.rank + 1 }) (k.0, tt)
+      so-right destination x (right.Call at c) n enters k = so-call destination (Some x) c n enters k.1 (k.0, tt)
+      so-right destination x (right.Spawn at c) n enters k = so-spawn destination (Some x) c n k.1 (k.0, tt)
 
       so-array : (x : Name) (xs ys : List ℤ) (n : ℕ) → xs ≡ ys → Keep fix x.bytes → Same (done (set_array (there n) x xs)) (done (set_array (here n) x ys))
       so-array x xs ys n e k =
           ends-so [] (set_array (there n) x xs) (set_array (here n) x ys)
           (ap (λ (env : Env). record (here n) { env = env }) (ap (λ (l : List ℤ). with_slot (fix m.top.env) x.bytes (Array l)) e ∙ k.1 m.top.env (Array ys)))
 
-      so-store : (place : Destination) (x : Name) (i e : Expr) (n : ℕ) → Keeps fix (x.bytes ∷ (names_in i ++ names_in e)) → Same (store (what place) plan now x i e (there n)) (store (what place) plan now x i e (here n))
-      so-store place x i e n k =
-          so-given place (value_of i (fix m.top.env)) (value_of i m.top.env) n _ _ (value-kept fix i m.top.env (each-left (Keep fix) (names_in i) (names_in e) k.1)) (λ v. by_array v (items_of (slot_of (fix m.top.env) x.bytes)) (items_of (slot_of m.top.env x.bytes)) (ap items_of (k.0.0 m.top.env)))
+      so-store : (destination : Destination) (x : Name) (i e : Expr) (n : ℕ) → Keeps fix (x.bytes ∷ (names_in i ++ names_in e)) → Same (store (what destination) plan now x i e (there n)) (store (what destination) plan now x i e (here n))
+      so-store destination x i e n k =
+          so-given destination (value_of i (fix m.top.env)) (value_of i m.top.env) n _ _ (value-kept fix i m.top.env (each-left (Keep fix) (names_in i) (names_in e) k.1)) (λ v. by_array v (items_of (slot_of (fix m.top.env) x.bytes)) (items_of (slot_of m.top.env x.bytes)) (ap items_of (k.0.0 m.top.env)))
         where
-          by_item : (o : Option ℤ) (r' r : Run Effect Exit (State Bool)) → Same r' r → Same (found (what place) plan now o (there n) r') (found (what place) plan now o (here n) r)
+          by_item : (o : Option ℤ) (r' r : Run Effect Exit (State Bool)) → Same r' r → Same (found (what destination) plan now o (there n) r') (found (what destination) plan now o (here n) r)
           by_item None r' r h = refl
           by_item (Some old) r' r h = h
 
           by_array : (v : Value) (xs ys : List ℤ) → xs ≡ ys →
-              Same (found (what place) plan now (at_index xs (as_integer v)) (there n) (unless_fault (what place) plan now (value_of e (fix m.top.env)) (there n) (λ w. done (set_array (there n) x (set_item xs (as_integer v) w)))))
-              (found (what place) plan now (at_index ys (as_integer v)) (here n) (unless_fault (what place) plan now (value_of e m.top.env) (here n) (λ w. done (set_array (here n) x (set_item ys (as_integer v) w)))))
+              Same (found (what destination) plan now (at_index xs (as_integer v)) (there n) (unless_fault (what destination) plan now (value_of e (fix m.top.env)) (there n) (λ w. done (set_array (there n) x (set_item xs (as_integer v) w)))))
+              (found (what destination) plan now (at_index ys (as_integer v)) (here n) (unless_fault (what destination) plan now (value_of e m.top.env) (here n) (λ w. done (set_array (here n) x (set_item ys (as_integer v) w)))))
           by_array v xs ys h =
-              ap (λ (l : List ℤ). finished (with_left other left) into' (found (what place) plan now (at_index l (as_integer v)) (there n) (unless_fault (what place) plan now (value_of e (fix m.top.env)) (there n) (λ w. done (set_array (there n) x (set_item l (as_integer v) w)))))) h
-              ∙ by_item (at_index ys (as_integer v)) _ _ (so-given place (value_of e (fix m.top.env)) (value_of e m.top.env) n _ _ (value-kept fix e m.top.env (each-right (Keep fix) (names_in i) (names_in e) k.1)) (λ w. so-array x _ _ n refl k.0))
+              ap (λ (l : List ℤ). finished (with_left other left) into' (found (what destination) plan now (at_index l (as_integer v)) (there n) (unless_fault (what destination) plan now (value_of e (fix m.top.env)) (there n) (λ w. done (set_array (there n) x (set_item l (as_integer v) w)))))) h
+              ∙ by_item (at_index ys (as_integer v)) _ _ (so-given destination (value_of e (fix m.top.env)) (value_of e m.top.env) n _ _ (value-kept fix e m.top.env (each-right (Keep fix) (names_in i) (names_in e) k.1)) (λ w. so-array x _ _ n refl k.0))
 
-      so-inside : (place : Destination) (b : Bool) (r' r : Run Effect Exit (State Bool)) (n : ℕ) → Same r' r → Same (if b then r' else done (there n)) (if b then r else done (here n))
-      so-inside place true r' r n h = h
-      so-inside place false r' r n h = so-done (here n)
+      so-inside : (destination : Destination) (b : Bool) (r' r : Run Effect Exit (State Bool)) (n : ℕ) → Same r' r → Same (if b then r' else done (there n)) (if b then r else done (here n))
+      so-inside destination true r' r n h = h
+      so-inside destination false r' r n h = so-done (here n)
 
       so-loop : (target : Option Name) (c : CallText) (lo : ℤ) (hi : ℕ) (vs : List Value) (n : ℕ) → Keeps fix (target_names target) →
           Same (looped (what (Looped target)) plan now lo hi vs target c (there n)) (looped (what (Looped target)) plan now lo hi vs target c (here n))
@@ -255,8 +255,8 @@ module _ (plan : PlanView) (path : List ℕ) (fix : Env → Env) (mark : Option 
           next : Env → State Bool
           next env = record { env = env; rank = m.rank + 1; steps = n - hi; spawned = m.top.spawned }
 
-          by_size : (b : Bool) → Same (record { items = items b; ending = Ok (next (filled target [] (fix m.top.env))) }) (record { items = items b; ending = Ok (next (filled target [] m.top.env)) })
-          by_size b = ends-so (items b) (next (filled target [] (fix m.top.env))) (next (filled target [] m.top.env)) (ap next (filled-kept fix target [] m.top.env k))
+          by_size : (b : Bool) → Same (record { items = items b; ending = Ok (next (with_loop_values target [] (fix m.top.env))) }) (record { items = items b; ending = Ok (next (with_loop_values target [] m.top.env)) })
+          by_size b = ends-so (items b) (next (with_loop_values target [] (fix m.top.env))) (next (with_loop_values target [] m.top.env)) (ap next (filled-kept fix target [] m.top.env k))
 
     -- what is entered is altered in the same way
     enters-left : (inner : List Stmt) (s : State Bool) → with_left other inner (fixed s) ≡ changed height change (with_left m inner s)
@@ -505,7 +505,7 @@ module _ (plan : PlanView) (path : List ℕ) (fix : Env → Env) (mark : Option 
         ∙ by_end (run (here_of path m) (length m.below)).items (run (here_of path m) (length m.below)).ending
       where
         run : List ℕ → ℕ → Run Effect Exit (State Bool)
-        run p n = join (what (Spawned n None)) plan p (state_of m)
+        run p n = sync_here (what (Spawned n None)) plan p (state_of m)
 
         finished : Machine → Run Effect Exit (State Bool) → Run Effect Fault Reached
         finished b r = record { items = r.items; ending = reached plan (with_leaving b) (λ inner s. b) r.ending }

@@ -10,7 +10,7 @@ use Rattle.script_grammar.specs.declared.tree.Act.{Act, out-Act}
 use Rattle.script_grammar.specs.declared.tree.Act.TheOpen as act
 use Rattle.script_grammar.specs.declared.tree.Act.TheOpen.{Act-F}
 use Rattle.serial_meaning.specs.Names.{Names}
-use Rattle.strand_meaning.specs.Clear.{IsWithin, IsApart, IsClear, Nothing, Simple, Branches, Turns, Levels, touched, pending_right, pending_after, target_names}
+use Rattle.strand_meaning.specs.Clear.{IsWithin, IsApart, IsClear, Nothing, Simple, Branches, Repetitions, Levels, touched, pending_right, pending_after, target_names}
 use Rattle.strand_meaning.specs.Machine.{Destination, Spawned, Looped, Half}
 use Rattle.strand_meaning.specs.Trace.{AwaitedChild}
 use Rattle.strand_meaning.specs.Sound.{unfilled_by, unfilled, is_by, any_by, IsDestination, AreDestinations}
@@ -65,7 +65,7 @@ clear-within some all w (Simple a e s apart rest) =
     Simple a e s (apart-within (touched a) some all w apart) (clear-within (pending_after a some) (pending_after a all) (after-within a some all w) rest)
 clear-within some all w (Branches e first second both h apart c d rest) =
     Branches e first second both h (apart-within _ some all w apart) (clear-within some all w c) (clear-within some all w d) rest
-clear-within some all w (Turns e body more h g apart c rest) = Turns e body more h (λ name k. g name (w name k)) apart c rest
+clear-within some all w (Repetitions e body more h g apart c rest) = Repetitions e body more h (λ name k. g name (w name k)) apart c rest
 clear-within some all w (Levels block left h c rest) = Levels block left h (clear-within some all w c) rest
 
 -- Statements in a row
@@ -73,21 +73,21 @@ pub clear-append : {pending both ends : Names} {xs ys : List Stmt} → IsClear p
 clear-append {pending} {both} (Nothing h) d = clear-within pending both h d
 clear-append (Simple a e s apart rest) d = Simple a e s apart (clear-append rest d)
 clear-append (Branches e first second more h apart b c rest) d = Branches e first second more h apart b c (clear-append rest d)
-clear-append (Turns e body more h g apart c rest) d = Turns e body more h g apart c (clear-append rest d)
+clear-append (Repetitions e body more h g apart c rest) d = Repetitions e body more h g apart c (clear-append rest d)
 clear-append (Levels block left h c rest) d = Levels block left h c (clear-append rest d)
 
 -- The next statement touches nothing that is pending.
 pub next-apart : {pending ends : Names} {st : Stmt} {sts : List Stmt} → IsClear pending (st ∷ sts) ends → IsApart (touched (out-Act (out-Stmt st).act)) pending
 next-apart {pending} (Simple a e s apart rest) = rw e apart
 next-apart {pending} (Branches e first second both h apart c d rest) = rw h apart
-next-apart {pending} (Turns e body all h w apart c rest) = rw h (apart-within _ pending all w apart)
+next-apart {pending} (Repetitions e body all h w apart c rest) = rw h (apart-within _ pending all w apart)
 next-apart {pending} (Levels block left h c rest) = rw h (λ name g k. none-contained name g)
 
 -- Unfilled variables of one frame
 
 pub unfilled-append : (height : ℕ) (ps qs : List AwaitedChild) → unfilled height (ps ++ qs) ≡ unfilled height ps ++ unfilled height qs
 unfilled-append height [] qs = refl
-unfilled-append height (p ∷ ps) qs = ap (λ l. unfilled_by height p.place ++ l) (unfilled-append height ps qs) ∙ sym (append_assoc (unfilled_by height p.place) (unfilled height ps) (unfilled height qs))
+unfilled-append height (p ∷ ps) qs = ap (λ l. unfilled_by height p.destination ++ l) (unfilled-append height ps qs) ∙ sym (append_assoc (unfilled_by height p.destination) (unfilled height ps) (unfilled height qs))
 
 pub or-assoc : (a b c : Bool) → (a || (b || c)) ≡ ((a || b) || c)
 or-assoc true b c = refl
@@ -95,7 +95,7 @@ or-assoc false b c = refl
 
 pub any-append : (height : ℕ) (ps qs : List AwaitedChild) → any_by height (ps ++ qs) ≡ (any_by height ps || any_by height qs)
 any-append height [] qs = refl
-any-append height (p ∷ ps) qs = ap (λ b. is_by height p.place || b) (any-append height ps qs) ∙ or-assoc (is_by height p.place) (any_by height ps) (any_by height qs)
+any-append height (p ∷ ps) qs = ap (λ b. is_by height p.destination || b) (any-append height ps qs) ∙ or-assoc (is_by height p.destination) (any_by height ps) (any_by height qs)
 
 pub or-false : (a : Bool) → (a || false) ≡ a
 or-false true = refl
@@ -106,7 +106,7 @@ neither false false h = (refl, refl)
 neither true b h = absurd (cc)
 neither false true h = absurd (cc)
 
-unfilled-none : (height : ℕ) (place : Destination) → is_by height place ≡ false → unfilled_by height place ≡ []
+unfilled-none : (height : ℕ) (destination : Destination) → is_by height destination ≡ false → unfilled_by height destination ≡ []
 unfilled-none height (Spawned owner target) h = rw h refl
 unfilled-none height (Looped target) h = refl
 unfilled-none height Half h = refl
@@ -115,30 +115,30 @@ unfilled-none height Half h = refl
 pub none-unfilled : (height : ℕ) (ps : List AwaitedChild) → any_by height ps ≡ false → unfilled height ps ≡ []
 none-unfilled height [] h = refl
 none-unfilled height (p ∷ ps) h =
-    let n = neither (is_by height p.place) (any_by height ps) h in ap (λ l. l ++ unfilled height ps) (unfilled-none height p.place n.0) ∙ none-unfilled height ps n.1
+    let n = neither (is_by height p.destination) (any_by height ps) h in ap (λ l. l ++ unfilled height ps) (unfilled-none height p.destination n.0) ∙ none-unfilled height ps n.1
 
 -- no child of a frame that there isn't
 pub none-above : (height : ℕ) (ps : List AwaitedChild) → AreDestinations height ps → any_by (suc height) ps ≡ false
 none-above height [] h = refl
-none-above height (p ∷ ps) h = rw (first p.place h.0) (none-above height ps h.1)
+none-above height (p ∷ ps) h = rw (first p.destination h.0) (none-above height ps h.1)
   where
-    first : (place : Destination) → IsDestination height place → is_by (suc height) place ≡ false
+    first : (destination : Destination) → IsDestination height destination → is_by (suc height) destination ≡ false
     first (Spawned owner target) g = other-number owner (suc height) (omega arith)
     first (Looped target) g = absurd g
     first Half g = refl
 
-pub target-unfilled : (height owner : ℕ) (target : Option Name) (ps : List AwaitedChild) (p : AwaitedChild) → Contains ps p → p.place ≡ Spawned owner target → owner ≡ height → IsWithin (target_names target) (unfilled height ps)
+pub target-unfilled : (height owner : ℕ) (target : Option Name) (ps : List AwaitedChild) (p : AwaitedChild) → Contains ps p → p.destination ≡ Spawned owner target → owner ≡ height → IsWithin (target_names target) (unfilled height ps)
 target-unfilled height owner target [] p c e g name h = absurd (omega (arith, c.1))
 target-unfilled height owner target (q ∷ ps) p c e g name h = from (Contains-append_cases (q ∷ []) ps p c) (λ k. target-unfilled height owner target ps p k e g name h)
   where
-    here : q ≡ p → Contains (unfilled_by height q.place) name
+    here : q ≡ p → Contains (unfilled_by height q.destination) name
     here k =
-        let same : q.place ≡ Spawned owner target = ap (λ (r : AwaitedChild). r.place) k ∙ e in
-        let names : unfilled_by height q.place ≡ target_names target = ap (unfilled_by height) same ∙ ap (λ (n : ℕ). if nat_eq owner n then target_names target else []) (sym g) ∙ ap (λ (b : Bool). if b then target_names target else []) (same-number owner) in
+        let same : q.destination ≡ Spawned owner target = ap (λ (r : AwaitedChild). r.destination) k ∙ e in
+        let names : unfilled_by height q.destination ≡ target_names target = ap (unfilled_by height) same ∙ ap (λ (n : ℕ). if nat_eq owner n then target_names target else []) (sym g) ∙ ap (λ (b : Bool). if b then target_names target else []) (same-number owner) in
         subst (λ (l : Names). Contains l name) (sym names) h
 
-    from : Contains (q ∷ []) p ⊎ Contains ps p → (Contains ps p → Contains (unfilled height ps) name) → Contains (unfilled_by height q.place ++ unfilled height ps) name
-    from (inl k) later = Contains-append_left (unfilled_by height q.place) (unfilled height ps) name (here (single k))
+    from : Contains (q ∷ []) p ⊎ Contains ps p → (Contains ps p → Contains (unfilled height ps) name) → Contains (unfilled_by height q.destination ++ unfilled height ps) name
+    from (inl k) later = Contains-append_left (unfilled_by height q.destination) (unfilled height ps) name (here (single k))
       where
         single : Contains (q ∷ []) p → q ≡ p
         single k = by_index k.0 k.1 k.2
@@ -146,4 +146,4 @@ target-unfilled height owner target (q ∷ ps) p c e g name h = from (Contains-a
             by_index : (i : ℕ) → i < length (q ∷ []) → get_or (q ∷ []) i p ≡ p → q ≡ p
             by_index zero d f = f
             by_index (suc i) d f = absurd (omega arith)
-    from (inr k) later = Contains-append_right (unfilled_by height q.place) (unfilled height ps) name (later k)
+    from (inr k) later = Contains-append_right (unfilled_by height q.destination) (unfilled height ps) name (later k)

@@ -16,12 +16,12 @@ use Rattle.serial_meaning.specs.Runs.{Run, done, happens, after_items, ◌then�
 use Rattle.serial_meaning.specs.Values.{Env, value_of, values_of, slot_of, items_of, as_integer, is_true, at_index}
 use Rattle.serial_meaning.specs.Functions.{number_of, function_at}
 use Rattle.serial_meaning.specs.Plan.{PlanView, functions_of}
-use Rattle.serial_meaning.specs.Exec.{State, Manner, strand, fault, unless_fault, paid_from, tested, has_room, fits_depth, filled, spawn, join, leaves, goes_out, scoped, implied, frame, called, right_side, found, store, looped, does, statement, exec, count_of, bound}
+use Rattle.serial_meaning.specs.Exec.{State, Manner, strand, fault, unless_fault, paid_from, tested, has_room, fits_depth, with_loop_values, spawn, sync_here, leaves, goes_out, scoped, implied, frame, called, right_side, found, store, looped, does, statement, exec, count_of, bound}
 use Rattle.serial_meaning.specs.Exec.{shown as passes}
-use Rattle.serial_meaning.specs.Eval.{Evaluation, first_of}
-use Rattle.serial_meaning.specs.Open.{Item, Happened, Child, Opened, Closed, NodeFault, put_off, put_off_all, joined, loop_end, is_empty_loop, filler}
+use Rattle.serial_meaning.specs.Eval.{Evaluation, first_value}
+use Rattle.serial_meaning.specs.Open.{Item, Happened, Child, Opened, Closed, NodeFault, put_off, put_off_all, unless_child_faulted, loop_end, is_empty_loop, filler}
 use Rattle.serial_meaning.proofs.Equations.RunLaws.{goes_on-after, then-then, then-same}
-use Rattle.serial_meaning.proofs.Equations.ExecLaws.{exec-cons, exec-nil, exec-append, exec-turn}
+use Rattle.serial_meaning.proofs.Equations.ExecLaws.{exec-cons, exec-nil, exec-append, exec-again}
 use Rattle.serial_meaning.specs.declared.value.Value.{Value}
 use Rattle.serial_meaning.specs.declared.value.Value.TheVariants.{Int}
 use Rattle.serial_meaning.specs.declared.environment.Slot.TheVariants.{Scalar}
@@ -52,7 +52,7 @@ module _ (plan : PlanView) (child : Origin → Evaluation) (path : List ℕ) whe
   tree = put_off_all plan child
 
   abbrev what : Destination → Manner Effect Exit Bool
-  what place = handing plan place
+  what destination = handing plan destination
 
   -- the machine with these statements left
   abbrev pub left_of : Machine → List Stmt → Machine
@@ -71,31 +71,31 @@ module _ (plan : PlanView) (child : Origin → Evaluation) (path : List ℕ) whe
     pub at-done : (s : State Bool) → Shows (done s) (done (opens m.top.faulted s))
     at-done s = same s
 
-    pub at-event : (place : Destination) (e : Event) (s : State Bool) → Shows (happens (Emitted e) s) (happens (Happened e) (opens m.top.faulted s))
-    at-event place e s = ap (after_items (Happened e ∷ [])) (same s)
+    pub at-event : (destination : Destination) (e : Event) (s : State Bool) → Shows (happens (Emitted e) s) (happens (Happened e) (opens m.top.faulted s))
+    at-event destination e s = ap (after_items (Happened e ∷ [])) (same s)
 
-    pub at-fault : (place : Destination) (kind : FaultKind) (s : State Bool) → Shows (fault (what place) plan now kind s) (fault tree plan now kind (opens m.top.faulted s))
-    at-fault place kind s = refl
+    pub at-fault : (destination : Destination) (kind : FaultKind) (s : State Bool) → Shows (fault (what destination) plan now kind s) (fault tree plan now kind (opens m.top.faulted s))
+    at-fault destination kind s = refl
 
-    pub at-given : (place : Destination) {A : Type 0} (o : Result A FaultKind) (s : State Bool) (f : A → Run Effect Exit (State Bool)) (g : A → Run Item NodeFault S) → ((a : A) → Shows (f a) (g a)) →
-        Shows (unless_fault (what place) plan now o s f) (unless_fault tree plan now o (opens m.top.faulted s) g)
-    at-given place (Ok a) s f g h = h a
-    at-given place (Err k) s f g h = refl
+    pub at-given : (destination : Destination) {A : Type 0} (o : Result A FaultKind) (s : State Bool) (f : A → Run Effect Exit (State Bool)) (g : A → Run Item NodeFault S) → ((a : A) → Shows (f a) (g a)) →
+        Shows (unless_fault (what destination) plan now o s f) (unless_fault tree plan now o (opens m.top.faulted s) g)
+    at-given destination (Ok a) s f g h = h a
+    at-given destination (Err k) s f g h = refl
 
-    pub at-tested : (place : Destination) (b : Bool) (k : FaultKind) (s : State Bool) (f : Run Effect Exit (State Bool)) (g : Run Item NodeFault S) → Shows f g →
-        Shows (tested (what place) plan now b k s f) (tested tree plan now b k (opens m.top.faulted s) g)
-    at-tested place true k s f g h = h
-    at-tested place false k s f g h = refl
+    pub at-tested : (destination : Destination) (b : Bool) (k : FaultKind) (s : State Bool) (f : Run Effect Exit (State Bool)) (g : Run Item NodeFault S) → Shows f g →
+        Shows (tested (what destination) plan now b k s f) (tested tree plan now b k (opens m.top.faulted s) g)
+    at-tested destination true k s f g h = h
+    at-tested destination false k s f g h = refl
 
-    pub at-paid : (place : Destination) (n : ℕ) (s : State Bool) (f : State Bool → Run Effect Exit (State Bool)) (g : S → Run Item NodeFault S) →
-        ((k : ℕ) → Shows (f (record s { steps = k })) (g (record (opens m.top.faulted s) { steps = k }))) → Shows (paid_from (what place) plan now n s f) (paid_from tree plan now n (opens m.top.faulted s) g)
-    at-paid place zero s f g h = refl
-    at-paid place (suc n) s f g h = h n
+    pub at-paid : (destination : Destination) (n : ℕ) (s : State Bool) (f : State Bool → Run Effect Exit (State Bool)) (g : S → Run Item NodeFault S) →
+        ((k : ℕ) → Shows (f (record s { steps = k })) (g (record (opens m.top.faulted s) { steps = k }))) → Shows (paid_from (what destination) plan now n s f) (paid_from tree plan now n (opens m.top.faulted s) g)
+    at-paid destination zero s f g h = refl
+    at-paid destination (suc n) s f g h = h n
 
     -- a sync, where a frame that spawned nothing knows of no fault
-    pub at-sync : (place : Destination) (s : State Bool) → ((s : State Bool) → (on s).top.faulted ≡ m.top.faulted) → (s.spawned ≡ false → m.top.faulted ≡ None) →
-        Shows (join (what place) plan now s) (join tree plan now (opens m.top.faulted s))
-    at-sync place s keeps none = by_spawned s.spawned refl m.top.faulted refl
+    pub at-sync : (destination : Destination) (s : State Bool) → ((s : State Bool) → (on s).top.faulted ≡ m.top.faulted) → (s.spawned ≡ false → m.top.faulted ≡ None) →
+        Shows (sync_here (what destination) plan now s) (sync_here tree plan now (opens m.top.faulted s))
+    at-sync destination s keeps none = by_spawned s.spawned refl m.top.faulted refl
       where
         e : Event
         e = event.Sync (strand now s)
@@ -104,7 +104,7 @@ module _ (plan : PlanView) (child : Origin → Evaluation) (path : List ℕ) whe
         next k = record s { rank = s.rank + 1; spawned = false }
 
         by_spawned : (k : Bool) → s.spawned ≡ k → (f : Option Fault) → m.top.faulted ≡ f →
-            ((after_items (Happened e ∷ []) (joined f then λ k. done (record (opens m.top.faulted s) { rank = s.rank + 1; spawned = k }))) then go)
+            ((after_items (Happened e ∷ []) (unless_child_faulted f then λ k. done (record (opens m.top.faulted s) { rank = s.rank + 1; spawned = k }))) then go)
             ≡ after_items (effect_items (Emitted e ∷ sync_effects k ++ [])) (rest_open plan child path (effect_parts (Emitted e ∷ sync_effects k ++ [])) (stage_after (Emitted e ∷ sync_effects k ++ []) (on (next k))))
         by_spawned true h None g =
             ap (after_items (Happened e ∷ [])) (ap (λ (k : Option Fault). go (record (opens m.top.faulted s) { rank = s.rank + 1; spawned = k })) (sym g) ∙ same (next true) ∙ ap (λ (k : Option Fault). rest_of_stage plan child path (joins k (on (next true)))) (sym (keeps (next true) ∙ g)))
@@ -154,10 +154,10 @@ module _ (plan : PlanView) (child : Origin → Evaluation) (path : List ℕ) whe
     answer-later (Some x) v w env = replaced-with env x.bytes (Scalar v) (Scalar w)
 
     module _ (into : List Stmt → State Bool → Machine) (target : Option Name) where
-      abbrev place : Destination
-      place = Spawned height target
+      abbrev destination : Destination
+      destination = Spawned height target
 
-      spawned-shows : (c : CallText) (n : ℕ) → Moves into (spawn (what place) plan now c (here n) then λ p. done (sets target p)) (spawn tree plan now c (there n) then λ p. done (sets target p))
+      spawned-shows : (c : CallText) (n : ℕ) → Moves into (spawn (what destination) plan now c (here n) then λ p. done (sets target p)) (spawn tree plan now c (there n) then λ p. done (sets target p))
       spawned-shows c n = by_args (values_of c.args m.top.env)
         where
           e : Event
@@ -170,23 +170,23 @@ module _ (plan : PlanView) (child : Origin → Evaluation) (path : List ℕ) whe
               after_items (Happened e ∷ Child o ∷ []) (go (record { env = with_scalar target (put_off (filler plan o) m.top.faulted q).0 m.top.env; rank = m.rank + 1; steps = n; spawned = (put_off (filler plan o) m.top.faulted q).1 }))
               ≡ after_items (Happened e ∷ Child o ∷ []) (rest_of_stage plan child path (resumed (takes (Spawned height target) q (Running (on (next o))))))
           by_end o (Ok vs) =
-              ap (λ (env : Env). after_items (Happened e ∷ Child o ∷ []) (go (record { env = env; rank = m.rank + 1; steps = n; spawned = m.top.faulted }))) (sym (answer-later target (filler plan o) (first_of vs) m.top.env))
+              ap (λ (env : Env). after_items (Happened e ∷ Child o ∷ []) (go (record { env = env; rank = m.rank + 1; steps = n; spawned = m.top.faulted }))) (sym (answer-later target (filler plan o) (first_value vs) m.top.env))
               ∙ ap (λ (k : Machine). after_items (Happened e ∷ Child o ∷ []) (rest_of_machine plan child path k)) (sym (changed-top (frame_with_answer target (Ok vs)) (on (next o))))
           by_end o (Err f) = ap (λ (k : Machine). after_items (Happened e ∷ Child o ∷ []) (rest_of_machine plan child path k)) (sym (changed-top (frame_with_answer target (Err f)) (on (next o))))
 
           by_test : (vs : List Value) (b : Bool) →
-              Moves into (tested (what place) plan now b Depth (here n) (child_run (what place) c vs (here n)) then λ p. done (sets target p)) (tested tree plan now b Depth (there n) (child_run tree c vs (there n)) then λ p. done (sets target p))
+              Moves into (tested (what destination) plan now b Depth (here n) (child_run (what destination) c vs (here n)) then λ p. done (sets target p)) (tested tree plan now b Depth (there n) (child_run tree c vs (there n)) then λ p. done (sets target p))
           by_test vs true = let o = origin.Instance (number_of (functions_of plan) c.name.bytes) vs (now ++ m.rank ∷ []) in by_end o (child o).ending
           by_test vs false = refl
 
           by_args : (o : Result (List Value) FaultKind) →
-              Moves into (unless_fault (what place) plan now o (here n) (λ vs. tested (what place) plan now (nat_lt (length now + 1) plan.limits.depth) Depth (here n) (child_run (what place) c vs (here n))) then λ p. done (sets target p))
+              Moves into (unless_fault (what destination) plan now o (here n) (λ vs. tested (what destination) plan now (nat_lt (length now + 1) plan.limits.depth) Depth (here n) (child_run (what destination) c vs (here n))) then λ p. done (sets target p))
               (unless_fault tree plan now o (there n) (λ vs. tested tree plan now (nat_lt (length now + 1) plan.limits.depth) Depth (there n) (child_run tree c vs (there n))) then λ p. done (sets target p))
           by_args (Ok vs) = by_test vs (nat_lt (length now + 1) plan.limits.depth)
           by_args (Err k) = refl
 
       called-shows : (c : CallText) → ((inner : List Stmt) (s : State Bool) → into inner s ≡ calling plan target c left m inner s) → (n : ℕ) →
-          Moves into (called (what place) plan now inside height c (here n) then λ p. done (sets target p)) (called tree plan now (exec tree plan) height c (there n) then λ p. done (sets target p))
+          Moves into (called (what destination) plan now inside height c (here n) then λ p. done (sets target p)) (called tree plan now (exec tree plan) height c (there n) then λ p. done (sets target p))
       called-shows c enters n = by_args (values_of c.args m.top.env)
         where
           as_integer : ℕ
@@ -208,19 +208,19 @@ module _ (plan : PlanView) (child : Origin → Evaluation) (path : List ℕ) whe
               ∙ ap (λ (o : Option Function). callee_run f vs (suc height) o then λ r. go (caller_state plan child path (left_of m left).top target r)) (sym e)
 
           by_function : (vs : List Value) (o : Option Function) → function_at (functions_of plan) as_integer ≡ o →
-              Moves into ((frame (what place) plan now inside (height + 1) o vs (here n) then λ r. done (r.0, record (here n) { rank = r.1.rank; steps = r.1.steps })) then λ p. done (sets target p))
+              Moves into ((frame (what destination) plan now inside (height + 1) o vs (here n) then λ r. done (r.0, record (here n) { rank = r.1.rank; steps = r.1.steps })) then λ p. done (sets target p))
               ((frame tree plan now (exec tree plan) (height + 1) o vs (there n) then λ r. done (r.0, record (there n) { rank = r.1.rank; steps = r.1.steps })) then λ p. done (sets target p))
           by_function vs None e = refl
           by_function vs (Some f) e = body f vs e ∙ ap (rest_of_machine plan child path) (sym (enters f.body (begins f vs)))
 
           by_test : (vs : List Value) (b : Bool) →
-              Moves into (tested (what place) plan now b Calls (here n) (frame (what place) plan now inside (height + 1) (function_at (functions_of plan) as_integer) vs (here n) then λ r. done (r.0, record (here n) { rank = r.1.rank; steps = r.1.steps })) then λ p. done (sets target p))
+              Moves into (tested (what destination) plan now b Calls (here n) (frame (what destination) plan now inside (height + 1) (function_at (functions_of plan) as_integer) vs (here n) then λ r. done (r.0, record (here n) { rank = r.1.rank; steps = r.1.steps })) then λ p. done (sets target p))
               (tested tree plan now b Calls (there n) (frame tree plan now (exec tree plan) (height + 1) (function_at (functions_of plan) as_integer) vs (there n) then λ r. done (r.0, record (there n) { rank = r.1.rank; steps = r.1.steps })) then λ p. done (sets target p))
           by_test vs true = by_function vs (function_at (functions_of plan) as_integer) refl
           by_test vs false = refl
 
           by_args : (o : Result (List Value) FaultKind) →
-              Moves into (unless_fault (what place) plan now o (here n) (λ vs. tested (what place) plan now (nat_lt height 256) Calls (here n) (frame (what place) plan now inside (height + 1) (function_at (functions_of plan) as_integer) vs (here n) then λ r. done (r.0, record (here n) { rank = r.1.rank; steps = r.1.steps }))) then λ p. done (sets target p))
+              Moves into (unless_fault (what destination) plan now o (here n) (λ vs. tested (what destination) plan now (nat_lt height 256) Calls (here n) (frame (what destination) plan now inside (height + 1) (function_at (functions_of plan) as_integer) vs (here n) then λ r. done (r.0, record (here n) { rank = r.1.rank; steps = r.1.steps }))) then λ p. done (sets target p))
               (unless_fault tree plan now o (there n) (λ vs. tested tree plan now (nat_lt height 256) Calls (there n) (frame tree plan now (exec tree plan) (height + 1) (function_at (functions_of plan) as_integer) vs (there n) then λ r. done (r.0, record (there n) { rank = r.1.rank; steps = r.1.steps }))) then λ p. done (sets target p))
           by_args (Ok vs) = by_test vs (nat_lt height 256)
           by_args (Err k) = refl
@@ -234,11 +234,11 @@ module _ (plan : PlanView) (child : Origin → Evaluation) (path : List ℕ) whe
       EntersBy (right.Spawn at c) = Unit {0}
 
       right-shows : (r : Right) → EntersBy r → (n : ℕ) →
-          Moves into (right_side (what place) plan now inside height r (here n) then λ p. done (sets target p)) (right_side tree plan now (exec tree plan) height r (there n) then λ p. done (sets target p))
+          Moves into (right_side (what destination) plan now inside height r (here n) then λ p. done (sets target p)) (right_side tree plan now (exec tree plan) height r (there n) then λ p. done (sets target p))
       right-shows (right.Value e) enters n = by_value (value_of e m.top.env)
         where
           by_value : (o : Result Value FaultKind) →
-              Moves into (unless_fault (what place) plan now o (here n) (λ v. done (v, here n)) then λ p. done (sets target p)) (unless_fault tree plan now o (there n) (λ v. done (v, there n)) then λ p. done (sets target p))
+              Moves into (unless_fault (what destination) plan now o (here n) (λ v. done (v, here n)) then λ p. done (sets target p)) (unless_fault tree plan now o (there n) (λ v. done (v, there n)) then λ p. done (sets target p))
           by_value (Ok v) = refl
           by_value (Err k) = refl
       right-shows (right.Draw at) enters n = refl
@@ -255,39 +255,39 @@ module _ (plan : PlanView) (child : Origin → Evaluation) (path : List ℕ) whe
     abbrev ends : Run Item NodeFault S → Run Item NodeFault Value
     ends r = (r then afterwards plan child path m.top m.below) then remains_below plan child path m.below m.top.target
 
-    module _ (place : Destination) where
+    module _ (destination : Destination) where
       if-shows : (e : Expr) (a b : List Stmt) (n : ℕ) →
-          Moves (machine_inside plan st (act.If e a b) left m) (does (what place) plan now inside height st (act.If e a b) (here n)) (does tree plan now (exec tree plan) height st (act.If e a b) (there n))
+          Moves (machine_inside plan st (act.If e a b) left m) (does (what destination) plan now inside height st (act.If e a b) (here n)) (does tree plan now (exec tree plan) height st (act.If e a b) (there n))
       if-shows e a b n = by_value (value_of e m.top.env)
         where
           by_value : (o : Result Value FaultKind) →
-              Moves (machine_inside plan st (act.If e a b) left m) (unless_fault (what place) plan now o (here n) (λ v. inside now height (if is_true v then a else b) (here n))) (unless_fault tree plan now o (there n) (λ v. exec tree plan now height (if is_true v then a else b) (there n)))
+              Moves (machine_inside plan st (act.If e a b) left m) (unless_fault (what destination) plan now o (here n) (λ v. inside now height (if is_true v then a else b) (here n))) (unless_fault tree plan now o (there n) (λ v. exec tree plan now height (if is_true v then a else b) (there n)))
           by_value (Ok v) =
               let chosen = if is_true v then a else b in sym (in-front (exec tree plan now height chosen (there n))) ∙ ap ends (sym (exec-append tree plan now height chosen left (there n)))
           by_value (Err k) = refl
 
       while-shows : (e : Expr) (a : List Stmt) (n : ℕ) →
-          Moves (machine_inside plan st (act.While e a) left m) (does (what place) plan now inside height st (act.While e a) (here n)) (does tree plan now (exec tree plan) height st (act.While e a) (there n))
+          Moves (machine_inside plan st (act.While e a) left m) (does (what destination) plan now inside height st (act.While e a) (here n)) (does tree plan now (exec tree plan) height st (act.While e a) (there n))
       while-shows e a n = by_value (value_of e m.top.env)
         where
           by_test : (b : Bool) →
               Moves (machine_inside plan st (act.While e a) left m) (if b then (inside now height a (here n) then inside now height (st ∷ [])) else done (here n)) (if b then (exec tree plan now height a (there n) then exec tree plan now height (st ∷ [])) else done (there n))
           by_test true =
-              sym (in-front (exec tree plan now height a (there n) then exec tree plan now height (st ∷ []))) ∙ ap ends (exec-turn tree plan now height st a left (there n))
+              sym (in-front (exec tree plan now height a (there n) then exec tree plan now height (st ∷ []))) ∙ ap ends (exec-again tree plan now height st a left (there n))
           by_test false = refl
 
           by_value : (o : Result Value FaultKind) →
-              Moves (machine_inside plan st (act.While e a) left m) (unless_fault (what place) plan now o (here n) (λ v. if is_true v then (inside now height a (here n) then inside now height (st ∷ [])) else done (here n)))
+              Moves (machine_inside plan st (act.While e a) left m) (unless_fault (what destination) plan now o (here n) (λ v. if is_true v then (inside now height a (here n) then inside now height (st ∷ [])) else done (here n)))
               (unless_fault tree plan now o (there n) (λ v. if is_true v then (exec tree plan now height a (there n) then exec tree plan now height (st ∷ [])) else done (there n)))
           by_value (Ok v) = by_test (is_true v)
           by_value (Err k) = refl
 
-      store-shows : (into : List Stmt → State Bool → Machine) (x : Name) (i e : Expr) (n : ℕ) → Moves into (store (what place) plan now x i e (here n)) (store tree plan now x i e (there n))
+      store-shows : (into : List Stmt → State Bool → Machine) (x : Name) (i e : Expr) (n : ℕ) → Moves into (store (what destination) plan now x i e (here n)) (store tree plan now x i e (there n))
       store-shows into x i e n =
-          at-given now m on into go (λ s. refl) place (value_of i m.top.env) (here n) _ _ (λ k. by_item (at_index (items_of (slot_of m.top.env x.bytes)) (as_integer k)) _ _
-          (at-given now m on into go (λ s. refl) place (value_of e m.top.env) (here n) _ _ (λ v. refl)))
+          at-given now m on into go (λ s. refl) destination (value_of i m.top.env) (here n) _ _ (λ k. by_item (at_index (items_of (slot_of m.top.env x.bytes)) (as_integer k)) _ _
+          (at-given now m on into go (λ s. refl) destination (value_of e m.top.env) (here n) _ _ (λ v. refl)))
         where
-          by_item : (o : Option ℤ) (r : Run Effect Exit (State Bool)) (q : Run Item NodeFault S) → Moves into r q → Moves into (found (what place) plan now o (here n) r) (found tree plan now o (there n) q)
+          by_item : (o : Option ℤ) (r : Run Effect Exit (State Bool)) (q : Run Item NodeFault S) → Moves into r q → Moves into (found (what destination) plan now o (here n) r) (found tree plan now o (there n) q)
           by_item None r q h = refl
           by_item (Some old) r q h = h
 
@@ -295,11 +295,11 @@ module _ (plan : PlanView) (child : Origin → Evaluation) (path : List ℕ) whe
     loop-shows : (into : List Stmt → State Bool → Machine) (target : Option Name) (c : CallText) (lo : ℤ) (hi : ℕ) (vs : List Value) (n : ℕ) →
         Moves into (looped (what (Looped target)) plan now lo hi vs target c (here n)) (looped tree plan now lo hi vs target c (there n))
     loop-shows into target c lo hi vs n =
-        at-tested now m on into go (λ s. refl) place (nat_lt hi (n + 1)) Budget (here n) _ _ (at-tested now m on into go (λ s. refl) place (has_room target hi m.top.env) Index (here (n - hi)) _ _
-        (at-tested now m on into go (λ s. refl) place (fits_depth tree plan now hi) Depth (here (n - hi)) _ _ (by_size (is_empty_loop o))))
+        at-tested now m on into go (λ s. refl) destination (nat_lt hi (n + 1)) Budget (here n) _ _ (at-tested now m on into go (λ s. refl) destination (has_room target hi m.top.env) Index (here (n - hi)) _ _
+        (at-tested now m on into go (λ s. refl) destination (fits_depth tree plan now hi) Depth (here (n - hi)) _ _ (by_size (is_empty_loop o))))
       where
-        place : Destination
-        place = Looped target
+        destination : Destination
+        destination = Looped target
 
         o : Origin
         o = origin.Loop (number_of (functions_of plan) c.name.bytes) vs lo (now ++ m.rank ∷ []) (record { lo = 0; hi = hi })
@@ -308,29 +308,29 @@ module _ (plan : PlanView) (child : Origin → Evaluation) (path : List ℕ) whe
         e = event.Loop (now ++ m.rank ∷ [])
 
         next : State Bool
-        next = record { env = filled target [] m.top.env; rank = m.rank + 1; steps = n - hi; spawned = m.top.spawned }
+        next = record { env = with_loop_values target [] m.top.env; rank = m.rank + 1; steps = n - hi; spawned = m.top.spawned }
 
         by_end : (q : Result (List Value) Fault) →
-            after_items (Happened e ∷ []) ((record { items = Child o ∷ []; ending = loop_end q } then λ ws. done (record (there (n - hi)) { rank = m.rank + 1; env = filled target ws m.top.env }))) then go
+            after_items (Happened e ∷ []) ((record { items = Child o ∷ []; ending = loop_end q } then λ ws. done (record (there (n - hi)) { rank = m.rank + 1; env = with_loop_values target ws m.top.env }))) then go
             ≡ after_items (Happened e ∷ Child o ∷ []) (rest_of_stage plan child path (resumed (takes (Looped target) q (AtLoop (on next)))))
         by_end (Ok ws) =
             ap (λ (env : Env). after_items (Happened e ∷ Child o ∷ []) (go (record { env = env; rank = m.rank + 1; steps = n - hi; spawned = m.top.faulted }))) (sym (filled-later target ws m.top.env))
         by_end (Err f) = refl
 
         by_size : (b : Bool) →
-            Moves into (happens (Emitted e) (here (n - hi)) then λ s. record { items = loop_effects b o (Looped target); ending = Ok [] } then λ (ws : List Value). done (record s { rank = s.rank + 1; env = filled target ws s.env }))
-            (happens (Happened e) (there (n - hi)) then λ s. (if b then done [] else record { items = Child o ∷ []; ending = loop_end (child o).ending }) then λ ws. done (record s { rank = s.rank + 1; env = filled target ws s.env }))
+            Moves into (happens (Emitted e) (here (n - hi)) then λ s. record { items = loop_effects b o (Looped target); ending = Ok [] } then λ (ws : List Value). done (record s { rank = s.rank + 1; env = with_loop_values target ws s.env }))
+            (happens (Happened e) (there (n - hi)) then λ s. (if b then done [] else record { items = Child o ∷ []; ending = loop_end (child o).ending }) then λ ws. done (record s { rank = s.rank + 1; env = with_loop_values target ws s.env }))
         by_size true = refl
         by_size false = by_end (child o).ending
 
     pfor-shows : (into : List Stmt → State Bool → Machine) (x : Name) (lo hi : Expr) (target : Option Name) (c : CallText) (n : ℕ) →
         Moves into (does (what (Looped target)) plan now inside height st (act.Pfor x lo hi target c) (here n)) (does tree plan now (exec tree plan) height st (act.Pfor x lo hi target c) (there n))
     pfor-shows into x lo hi target c n =
-        at-given now m on into go (λ s. refl) place (value_of lo m.top.env) (here n) _ _ (λ l. at-given now m on into go (λ s. refl) place (value_of hi m.top.env) (here n) _ _ (λ h. at-given now m on into go (λ s. refl) place (values_of c.args m.top.env) (here n) _ _
+        at-given now m on into go (λ s. refl) destination (value_of lo m.top.env) (here n) _ _ (λ l. at-given now m on into go (λ s. refl) destination (value_of hi m.top.env) (here n) _ _ (λ h. at-given now m on into go (λ s. refl) destination (values_of c.args m.top.env) (here n) _ _
         (λ vs. loop-shows into target c (as_integer l) (count_of (as_integer h -ℤ as_integer l)) vs n)))
       where
-        place : Destination
-        place = Looped target
+        destination : Destination
+        destination = Looped target
 
     enters-let : (x : Name) (r : Right) → EntersBy (machine_inside plan st (act.Let x r) left m) (Some x) r
     enters-let x (right.Value e) = tt
@@ -377,8 +377,8 @@ module _ (plan : PlanView) (child : Origin → Evaluation) (path : List ℕ) whe
               ∙ then-then (leaves tree plan now m.rank s) (λ t. after_level t then closing) rest_below
               ∙ then-same (leaves tree plan now m.rank s) _ _ (λ t h. goes-on t)
 
-      scope-shows : (place : Destination) (a : List Stmt) (n : ℕ) → Moves (into_level m left) (scoped (what place) plan now inside height a (here n)) (scoped tree plan now (exec tree plan) height a (there n))
-      scope-shows place a n = by_test (nat_lt (length now + 1) plan.limits.depth)
+      scope-shows : (destination : Destination) (a : List Stmt) (n : ℕ) → Moves (into_level m left) (scoped (what destination) plan now inside height a (here n)) (scoped tree plan now (exec tree plan) height a (there n))
+      scope-shows destination a n = by_test (nat_lt (length now + 1) plan.limits.depth)
         where
           here_inside : List ℕ
           here_inside = now ++ m.rank ∷ []
@@ -397,7 +397,7 @@ module _ (plan : PlanView) (child : Origin → Evaluation) (path : List ℕ) whe
               ∙ ap (λ (b : Bool). after_items (Opened here_inside ∷ []) ((block then level_then b) then rest_below)) (sym open_ended)
 
           by_test : (b : Bool) →
-              Moves (into_level m left) (tested (what place) plan now b Depth (here n) (passes ((what place).opens here_inside) inner then inside here_inside height a then leaves (what place) plan now m.rank)) (tested tree plan now b Depth (there n) (after_items (Opened here_inside ∷ []) block then leaves tree plan now m.rank))
+              Moves (into_level m left) (tested (what destination) plan now b Depth (here n) (passes ((what destination).opens here_inside) inner then inside here_inside height a then leaves (what destination) plan now m.rank)) (tested tree plan now b Depth (there n) (after_items (Opened here_inside ∷ []) block then leaves tree plan now m.rank))
           by_test true = whole
           by_test false = refl
 
@@ -459,10 +459,10 @@ module _ (plan : PlanView) (child : Origin → Evaluation) (path : List ℕ) whe
       to_caller v [] = refl
       to_caller v (caller ∷ below) = refl
 
-      place : Destination
-      place = Spawned (length m.below) None
+      destination : Destination
+      destination = Spawned (length m.below) None
 
-      by_value : (o : Result Value FaultKind) → let r : Run Effect Exit (Value × State Bool) = unless_fault (what place) plan (here_of path m) o (state_of m) (λ v. done (v, state_of m)) in
+      by_value : (o : Result Value FaultKind) → let r : Run Effect Exit (Value × State Bool) = unless_fault (what destination) plan (here_of path m) o (state_of m) (λ v. done (v, state_of m)) in
           (unless_fault tree plan (here_of path m) o (open_state plan child path m) (λ v. done (v, open_state plan child path m)) then remains_below plan child path m.below m.top.target)
           ≡ after_items (effect_items r.items) (shown plan child path r.items (gives plan m r.ending))
       by_value (Ok v) = to_caller v m.below
@@ -562,7 +562,7 @@ module _ (plan : PlanView) (child : Origin → Evaluation) (path : List ℕ) whe
       by_sync true = out-is (state_of m)
       by_sync false =
           let s : S = open_state plan child path m in
-          let sync : Run Item NodeFault S = join tree plan here s in
+          let sync : Run Item NodeFault S = sync_here tree plan here s in
           ap (λ (r : Run Item NodeFault (Value × S)). r then rest_below) (ap (λ (r : Run Item NodeFault S). r then closing) (then-then sync (goes_out tree plan outer l.rank) after_level) ∙ then-then sync (λ t. goes_out tree plan outer l.rank t then after_level) closing)
           ∙ then-then sync (λ t. (goes_out tree plan outer l.rank t then after_level) then closing) rest_below
           ∙ at-sync here (k false) (with_leaving (k false)) (λ inner s. k false) out same (Spawned (length m.below) None) (state_of m) (λ s. refl) none

@@ -6,7 +6,7 @@ use Rattle.script_grammar.specs.declared.tree.Stmt.{Stmt, out-Stmt}
 use Rattle.script_grammar.specs.declared.tree.Act.{out-Act}
 use Rattle.serial_meaning.specs.Runs.{Run, done, run_ends_by, after_items}
 use Rattle.serial_meaning.specs.Plan.{PlanView}
-use Rattle.serial_meaning.specs.Eval.{Evaluation, first_of}
+use Rattle.serial_meaning.specs.Eval.{Evaluation, first_value}
 use Rattle.serial_meaning.specs.Open.{Item, NodeFault, Own, least}
 use Rattle.serial_meaning.specs.declared.value.Value.{Value}
 use Rattle.serial_meaning.specs.declared.event.Fault.{Fault}
@@ -32,7 +32,7 @@ take Half ended m = m
 
 abbrev pub taken : (Origin → Evaluation) → List AwaitedChild → Machine → Machine
 taken child [] m = m
-taken child (p ∷ ps) m = taken child ps (take p.place (child p.child).ending m)
+taken child (p ∷ ps) m = taken child ps (take p.destination (child p.child).ending m)
 
 -- what an answer doesn't change
 pub record Shape : Type 0 where
@@ -54,14 +54,14 @@ shape-answered height target ended m = by_place (nat_eq height (length m.below))
     by_place true (Err f) = refl
     by_place false ended = ap (λ (n : ℕ). record { height = n; left = m.top.left; leaving = m.top.leaving; returning = m.top.returning; target = m.top.target; spawned = m.top.spawned }) (length-changed height (frame_with_answer target ended) m.below)
 
-shape-take : (place : Destination) (ended : Result (List Value) Fault) (m : Machine) → shape_of (take place ended m) ≡ shape_of m
+shape-take : (destination : Destination) (ended : Result (List Value) Fault) (m : Machine) → shape_of (take destination ended m) ≡ shape_of m
 shape-take (Spawned height target) ended m = shape-answered height target ended m
 shape-take (Looped target) ended m = refl
 shape-take Half ended m = refl
 
 pub shape-taken : (child : Origin → Evaluation) (ps : List AwaitedChild) (m : Machine) → shape_of (taken child ps m) ≡ shape_of m
 shape-taken child [] m = refl
-shape-taken child (p ∷ ps) m = shape-taken child ps (take p.place (child p.child).ending m) ∙ shape-take p.place (child p.child).ending m
+shape-taken child (p ∷ ps) m = shape-taken child ps (take p.destination (child p.child).ending m) ∙ shape-take p.destination (child p.child).ending m
 
 -- the next move doesn't touch the target of a child, nor is it the end of its frame
 abbrev pub IsFreePlace : Shape → Destination → Type 0
@@ -75,7 +75,7 @@ IsFreePlace s Half = Unit {0}
 
 abbrev pub AreFree : List AwaitedChild → Shape → Type 0
 AreFree [] s = Unit {0}
-AreFree (p ∷ ps) s = IsFreePlace s p.place × AreFree ps s
+AreFree (p ∷ ps) s = IsFreePlace s p.destination × AreFree ps s
 
 target-contained : (target : Option Name) (x : Name) → target ≡ Some x → Contains (target_names target) x.bytes
 target-contained target x h = rw h (first-contained x.bytes [])
@@ -103,9 +103,9 @@ module _ (plan : PlanView) (path : List ℕ) where
   }
 
   -- an answer taken before the move, or after it
-  pub take-move : (place : Destination) (ended : Result (List Value) Fault) (m : Machine) → IsFreePlace (shape_of m) place → move plan path (take place ended m) ≡ changed_run (take place ended) (move plan path m)
+  pub take-move : (destination : Destination) (ended : Result (List Value) Fault) (m : Machine) → IsFreePlace (shape_of m) destination → move plan path (take destination ended m) ≡ changed_run (take destination ended) (move plan path m)
   take-move (Spawned owner target) (Ok vs) m free =
-      altered-move plan path (with_answer target (first_of vs)) (λ known. known) owner m (free-answer owner target m free (first_of vs) (λ known. known))
+      altered-move plan path (with_answer target (first_value vs)) (λ known. known) owner m (free-answer owner target m free (first_value vs) (λ known. known))
   take-move (Spawned owner target) (Err f) m free =
       altered-move plan path (λ env. env) (λ known. Some (least known f)) owner m (free-nothing owner target m free (λ known. Some (least known f)))
   take-move (Looped target) ended m free = ap (λ (e : Result Reached Fault). record { items = (move plan path m).items; ending = e }) (sym (changed-nothing (move plan path m).ending))
@@ -115,11 +115,11 @@ module _ (plan : PlanView) (path : List ℕ) where
   taken-move child [] m free = ap (λ (e : Result Reached Fault). record { items = (move plan path m).items; ending = e }) (sym (changed-nothing (move plan path m).ending))
   taken-move child (p ∷ ps) m free =
       let ended = (child p.child).ending in
-      taken-move child ps (take p.place ended m) (subst (AreFree ps) (sym (shape-take p.place ended m)) free.1)
-      ∙ ap (changed_run (taken child ps)) (take-move p.place ended m free.0)
+      taken-move child ps (take p.destination ended m) (subst (AreFree ps) (sym (shape-take p.destination ended m)) free.1)
+      ∙ ap (changed_run (taken child ps)) (take-move p.destination ended m free.0)
       ∙ ap (λ (e : Result Reached Fault). record { items = (move plan path m).items; ending = e }) (both (move plan path m).ending)
     where
-      both : (e : Result Reached Fault) → on_reached (taken child ps) (on_reached (take p.place (child p.child).ending) e) ≡ on_reached (taken child (p ∷ ps)) e
+      both : (e : Result Reached Fault) → on_reached (taken child ps) (on_reached (take p.destination (child p.child).ending) e) ≡ on_reached (taken child (p ∷ ps)) e
       both (Ok (Stands k)) = refl
       both (Ok (Gives v)) = refl
       both (Err f) = refl
@@ -138,28 +138,28 @@ in-both f g (AtSync m) = refl
 in-both f g (AtLoop m) = refl
 in-both f g (Ended e) = refl
 
-takes-place : (height : ℕ) (place : Destination) (ended : Result (List Value) Fault) → IsDestination height place → (stage : InstanceState) → takes place ended stage ≡ in_machine (take place ended) stage
-takes-place height (Spawned owner target) ended h stage = refl
-takes-place height (Looped target) ended h stage = absurd h
-takes-place height Half ended h stage = sym (in-nothing stage)
+takes-destination : (height : ℕ) (destination : Destination) (ended : Result (List Value) Fault) → IsDestination height destination → (stage : InstanceState) → takes destination ended stage ≡ in_machine (take destination ended) stage
+takes-destination height (Spawned owner target) ended h stage = refl
+takes-destination height (Looped target) ended h stage = absurd h
+takes-destination height Half ended h stage = sym (in-nothing stage)
 
 pub takes-taken : (child : Origin → Evaluation) (height : ℕ) (ps : List AwaitedChild) → AreDestinations height ps → (stage : InstanceState) → takes_all ps (evaluations child ps) stage ≡ in_machine (taken child ps) stage
 takes-taken child height [] h stage = sym (in-nothing stage)
 takes-taken child height (p ∷ ps) h stage =
-    takes-taken child height ps h.1 (takes p.place (child p.child).ending stage)
-    ∙ ap (in_machine (taken child ps)) (takes-place height p.place (child p.child).ending h.0 stage)
-    ∙ in-both (take p.place (child p.child).ending) (taken child ps) stage
+    takes-taken child height ps h.1 (takes p.destination (child p.child).ending stage)
+    ∙ ap (in_machine (taken child ps)) (takes-destination height p.destination (child p.child).ending h.0 stage)
+    ∙ in-both (take p.destination (child p.child).ending) (taken child ps) stage
 
 pub takes-append : (child : Origin → Evaluation) (ps qs : List AwaitedChild) (stage : InstanceState) → takes_all (ps ++ qs) (evaluations child (ps ++ qs)) stage ≡ takes_all qs (evaluations child qs) (takes_all ps (evaluations child ps) stage)
 takes-append child [] qs stage = refl
-takes-append child (p ∷ ps) qs stage = takes-append child ps qs (takes p.place (child p.child).ending stage)
+takes-append child (p ∷ ps) qs stage = takes-append child ps qs (takes p.destination (child p.child).ending stage)
 
 stage-in : (change : Machine → Machine) (ts : List Effect) (m : Machine) → stage_after ts (change m) ≡ in_machine change (stage_after ts m)
 stage-in change [] m = refl
 stage-in change (Opens j ∷ ts) m = stage-in change ts m
 stage-in change (Closes j ∷ ts) m = stage-in change ts m
 stage-in change (Emitted e ∷ ts) m = stage-in change ts m
-stage-in change (Handed o place ∷ ts) m = stage-in change ts m
+stage-in change (Handed o destination ∷ ts) m = stage-in change ts m
 stage-in change (Syncs ∷ ts) m = refl
 stage-in change (Loops ∷ ts) m = refl
 
@@ -200,7 +200,7 @@ neither false false h = (refl, refl)
 neither true b h = absurd (cc)
 neither false true h = absurd (cc)
 
-take-top : (place : Destination) (ended : Result (List Value) Fault) (m : Machine) → is_by (length m.below) place ≡ false → (take place ended m).top ≡ m.top
+take-top : (destination : Destination) (ended : Result (List Value) Fault) (m : Machine) → is_by (length m.below) destination ≡ false → (take destination ended m).top ≡ m.top
 take-top (Spawned owner target) ended m h = rw h refl
 take-top (Looped target) ended m h = refl
 take-top Half ended m h = refl
@@ -209,9 +209,9 @@ taken-top : (child : Origin → Evaluation) (ps : List AwaitedChild) (m : Machin
 taken-top child [] m h = refl
 taken-top child (p ∷ ps) m h =
     let ended = (child p.child).ending in
-    let n = neither (is_by (length m.below) p.place) (any_by (length m.below) ps) h in
-    let same : length (take p.place ended m).below ≡ length m.below = ap (λ (s : Shape). s.height) (shape-take p.place ended m) in
-    taken-top child ps (take p.place ended m) (ap (λ n. any_by n ps) same ∙ n.1) ∙ take-top p.place ended m n.0
+    let n = neither (is_by (length m.below) p.destination) (any_by (length m.below) ps) h in
+    let same : length (take p.destination ended m).below ≡ length m.below = ap (λ (s : Shape). s.height) (shape-take p.destination ended m) in
+    taken-top child ps (take p.destination ended m) (ap (λ n. any_by n ps) same ∙ n.1) ∙ take-top p.destination ended m n.0
 
 -- A frame that spawned nothing knows of no fault, also once all answers are taken.
 pub none-known : (child : Origin → Evaluation) (ps : List AwaitedChild) (m : Machine) → (any_by (length m.below) ps ≡ true → m.top.spawned ≡ true) → (m.top.spawned ≡ false → m.top.faulted ≡ None) →

@@ -18,7 +18,7 @@ effect_parts [] = []
 effect_parts (Opens j ∷ ts) = effect_parts ts
 effect_parts (Closes j ∷ ts) = effect_parts ts
 effect_parts (Emitted e ∷ ts) = effect_parts ts
-effect_parts (Handed o place ∷ ts) = record { child = o; place = place; after = [] } ∷ effect_parts ts
+effect_parts (Handed o destination ∷ ts) = record { child = o; destination = destination; after = [] } ∷ effect_parts ts
 effect_parts (Syncs ∷ ts) = effect_parts ts
 effect_parts (Loops ∷ ts) = effect_parts ts
 

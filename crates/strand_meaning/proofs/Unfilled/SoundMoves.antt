@@ -20,7 +20,7 @@ use Rattle.serial_meaning.specs.Names.{Names}
 use Rattle.serial_meaning.specs.Values.{Env, value_of, values_of, slot_of, items_of, as_integer, is_true, at_index}
 use Rattle.serial_meaning.specs.Functions.{number_of, function_at, act_spawns, spawns, any_spawns, any_true}
 use Rattle.serial_meaning.specs.Plan.{PlanView, functions_of}
-use Rattle.serial_meaning.specs.Exec.{State, Manner, fault, unless_fault, paid_from, tested, has_room, fits_depth, filled, spawn, join, implied, frame, called, right_side, found, store, looped, does, count_of, bound}
+use Rattle.serial_meaning.specs.Exec.{State, Manner, fault, unless_fault, paid_from, tested, has_room, fits_depth, with_loop_values, spawn, sync_here, implied, frame, called, right_side, found, store, looped, does, count_of, bound}
 use Rattle.serial_meaning.specs.Open.{is_empty_loop}
 use Rattle.serial_meaning.proofs.Equations.Computing.{act_has_spawn, spawns-out}
 use Rattle.serial_meaning.specs.declared.value.Value.{Value}
@@ -31,7 +31,7 @@ use Rattle.serial_meaning.specs.declared.event.Fault.{Fault}
 use Rattle.serial_meaning.specs.declared.event.Event.TheVariants as event
 use Rattle.serial_meaning.specs.declared.origin.Origin.{Origin}
 use Rattle.serial_meaning.specs.declared.origin.Origin.TheVariants as origin
-use Rattle.strand_meaning.specs.Clear.{IsWithin, IsApart, IsClear, Simple, Branches, Turns, Levels, IsSimple, touched, pending_right, pending_after, target_names, IsClearPlan}
+use Rattle.strand_meaning.specs.Clear.{IsWithin, IsApart, IsClear, Simple, Branches, Repetitions, Levels, IsSimple, touched, pending_right, pending_after, target_names, IsClearPlan}
 use Rattle.script_check.specs.Spawns.{spawns_in}
 use Rattle.strand_meaning.specs.Machine.{Destination, Spawned, Looped, Half, Effect, Emitted, Exit, loop_effects, sync_effects, handing, inside, destination_of, Level, Frame, Machine, Reached, Stands, Gives, state_of, here_of, with_left, into_level, with_leaving, out_of_level, with_returning, with_scalar, back, calling, machine_inside, reached, gives, value_run, statement_move, return_move, level_move, end_move, move_at, move}
 use Rattle.strand_meaning.specs.Trace.{AwaitedChild}
@@ -52,9 +52,9 @@ sound-free plan parts m sound = from parts (λ p c. c) sound.0
   where
     from : (ps : List AwaitedChild) → ((p : AwaitedChild) → Contains ps p → Contains parts p) → AreDestinations (length m.below) ps → AreFree ps (shape_of m)
     from [] h places = tt
-    from (p ∷ ps) h places = (by_place p.place refl places.0, from ps (λ q c. h q (later-contained p q ps c)) places.1)
+    from (p ∷ ps) h places = (by_place p.destination refl places.0, from ps (λ q c. h q (later-contained p q ps c)) places.1)
       where
-        by_place : (place : Destination) → p.place ≡ place → IsDestination (length m.below) place → IsFreePlace (shape_of m) place
+        by_place : (destination : Destination) → p.destination ≡ destination → IsDestination (length m.below) destination → IsFreePlace (shape_of m) destination
         by_place (Looped target) e inside = tt
         by_place Half e inside = tt
         by_place (Spawned owner target) e inside = (inside, touches, closes, comes m.top.target m.below sound.2)
@@ -75,7 +75,7 @@ sound-free plan parts m sound = from parts (λ p c. c) sound.0
                 by_end true k =
                     absurd (clash (sym (sound.1.spawned (any-of parts p (h p (first-contained p ps)) (ap (is_by (length m.below)) e ∙ ap (λ (n : ℕ). nat_eq owner n) (sym g) ∙ same-number owner))) ∙ (sound.1.returning k).0))
                   where
-                    any-of : (qs : List AwaitedChild) (q : AwaitedChild) → Contains qs q → is_by (length m.below) q.place ≡ true → any_by (length m.below) qs ≡ true
+                    any-of : (qs : List AwaitedChild) (q : AwaitedChild) → Contains qs q → is_by (length m.below) q.destination ≡ true → any_by (length m.below) qs ≡ true
                     any-of [] q c t = absurd (omega (arith, c.1))
                     any-of (r ∷ qs) q c t = by_index c.0 c.1 c.2 (λ d. any-of qs q d t)
                       where
@@ -84,8 +84,8 @@ sound-free plan parts m sound = from parts (λ p c. c) sound.0
                         or-true false = refl
 
                         by_index : (i : ℕ) → i < length (r ∷ qs) → get_or (r ∷ qs) i q ≡ q → (Contains qs q → any_by (length m.below) qs ≡ true) → any_by (length m.below) (r ∷ qs) ≡ true
-                        by_index zero d f later = ap (λ (s : AwaitedChild). is_by (length m.below) s.place || any_by (length m.below) qs) f ∙ ap (λ (b : Bool). b || any_by (length m.below) qs) t
-                        by_index (suc i) d f later = ap (λ (b : Bool). is_by (length m.below) r.place || b) (later (i, omega arith, f)) ∙ or-true (is_by (length m.below) r.place)
+                        by_index zero d f later = ap (λ (s : AwaitedChild). is_by (length m.below) s.destination || any_by (length m.below) qs) f ∙ ap (λ (b : Bool). b || any_by (length m.below) qs) t
+                        by_index (suc i) d f later = ap (λ (b : Bool). is_by (length m.below) r.destination || b) (later (i, omega arith, f)) ∙ or-true (is_by (length m.below) r.destination)
 
             comes : (to : Option Name) (below : List Frame) → AreSound plan parts to below → suc owner ≡ length below → IsApart (target_names to) (target_names target)
             comes to [] s g name c d = absurd (omega arith)
@@ -130,27 +130,27 @@ places-more height (p ∷ ps) qs h k = (h.0, places-more height ps qs h.1 k)
 
 places-higher : (height : ℕ) (ps : List AwaitedChild) → AreDestinations height ps → AreDestinations (suc height) ps
 places-higher height [] h = tt
-places-higher height (p ∷ ps) h = (first p.place h.0, places-higher height ps h.1)
+places-higher height (p ∷ ps) h = (first p.destination h.0, places-higher height ps h.1)
   where
-    first : (place : Destination) → IsDestination height place → IsDestination (suc height) place
+    first : (destination : Destination) → IsDestination height destination → IsDestination (suc height) destination
     first (Spawned owner target) g = omega arith
     first (Looped target) g = g
     first Half g = g
 
 places-lower : (height : ℕ) (ps : List AwaitedChild) → any_by (suc height) ps ≡ false → AreDestinations (suc height) ps → AreDestinations height ps
 places-lower height [] n h = tt
-places-lower height (p ∷ ps) n h = let k = neither (is_by (suc height) p.place) (any_by (suc height) ps) n in (first p.place k.0 h.0, places-lower height ps k.1 h.1)
+places-lower height (p ∷ ps) n h = let k = neither (is_by (suc height) p.destination) (any_by (suc height) ps) n in (first p.destination k.0 h.0, places-lower height ps k.1 h.1)
   where
-    first : (place : Destination) → is_by (suc height) place ≡ false → IsDestination (suc height) place → IsDestination height place
+    first : (destination : Destination) → is_by (suc height) destination ≡ false → IsDestination (suc height) destination → IsDestination height destination
     first (Spawned owner target) e g = grind (arith, e, g, eq-eqb owner (suc height))
     first (Looped target) e g = g
     first Half e g = g
 
 only-halves : (ps : List AwaitedChild) → any_by 0 ps ≡ false → AreDestinations 0 ps → AreHalves ps
 only-halves [] n h = tt
-only-halves (p ∷ ps) n h = let k = neither (is_by 0 p.place) (any_by 0 ps) n in (first p.place k.0 h.0, only-halves ps k.1 h.1)
+only-halves (p ∷ ps) n h = let k = neither (is_by 0 p.destination) (any_by 0 ps) n in (first p.destination k.0 h.0, only-halves ps k.1 h.1)
   where
-    first : (place : Destination) → is_by 0 place ≡ false → IsDestination 0 place → IsHalf place
+    first : (destination : Destination) → is_by 0 destination ≡ false → IsDestination 0 destination → IsHalf destination
     first (Spawned owner target) e g = absurd (clash (sym (eq-eqb owner 0 (omega arith)) ∙ e))
     first (Looped target) e g = absurd g
     first Half e g = tt
@@ -193,7 +193,7 @@ module _ (plan : PlanView) (path : List ℕ) (clear-plan : IsClearPlan plan) (pa
   InText = spawns_in (function_at (functions_of plan) m.top.function) ≡ true
 
   abbrev what : Destination → Manner Effect Exit Bool
-  what place = handing plan place
+  what destination = handing plan destination
 
   no-parts : (T : List AwaitedChild → Type 0) → T parts → T (parts ++ [])
   no-parts T t = subst T (sym (append-nil parts)) t
@@ -234,20 +234,20 @@ module _ (plan : PlanView) (path : List ℕ) (clear-plan : IsClearPlan plan) (pa
     abbrev Fine : Run Effect Exit (State Bool) → Type 0
     Fine r = SoundEnd plan parts r.items (reached plan (with_left m left) into r.ending)
 
-    fine-fault : (place : Destination) (kind : FaultKind) (s : State Bool) → Fine (fault (what place) plan now kind s)
-    fine-fault place kind s = (refl, height, sound.0)
+    fine-fault : (destination : Destination) (kind : FaultKind) (s : State Bool) → Fine (fault (what destination) plan now kind s)
+    fine-fault destination kind s = (refl, height, sound.0)
 
-    fine-given : (place : Destination) {A : Type 0} (o : Result A FaultKind) (s : State Bool) (f : A → Run Effect Exit (State Bool)) → ((a : A) → Fine (f a)) → Fine (unless_fault (what place) plan now o s f)
-    fine-given place (Ok a) s f h = h a
-    fine-given place (Err k) s f h = fine-fault place k s
+    fine-given : (destination : Destination) {A : Type 0} (o : Result A FaultKind) (s : State Bool) (f : A → Run Effect Exit (State Bool)) → ((a : A) → Fine (f a)) → Fine (unless_fault (what destination) plan now o s f)
+    fine-given destination (Ok a) s f h = h a
+    fine-given destination (Err k) s f h = fine-fault destination k s
 
-    fine-tested : (place : Destination) (b : Bool) (k : FaultKind) (s : State Bool) (f : Run Effect Exit (State Bool)) → Fine f → Fine (tested (what place) plan now b k s f)
-    fine-tested place true k s f h = h
-    fine-tested place false k s f h = fine-fault place k s
+    fine-tested : (destination : Destination) (b : Bool) (k : FaultKind) (s : State Bool) (f : Run Effect Exit (State Bool)) → Fine f → Fine (tested (what destination) plan now b k s f)
+    fine-tested destination true k s f h = h
+    fine-tested destination false k s f h = fine-fault destination k s
 
-    fine-paid : (place : Destination) (n : ℕ) (s : State Bool) (f : State Bool → Run Effect Exit (State Bool)) → ((k : ℕ) → Fine (f (record s { steps = k }))) → Fine (paid_from (what place) plan now n s f)
-    fine-paid place zero s f h = fine-fault place Budget s
-    fine-paid place (suc n) s f h = h n
+    fine-paid : (destination : Destination) (n : ℕ) (s : State Bool) (f : State Bool → Run Effect Exit (State Bool)) → ((k : ℕ) → Fine (f (record s { steps = k }))) → Fine (paid_from (what destination) plan now n s f)
+    fine-paid destination zero s f h = fine-fault destination Budget s
+    fine-paid destination (suc n) s f h = h n
 
     abbrev here : ℕ → State Bool
     here n = record (state_of m) { steps = n }
@@ -259,17 +259,17 @@ module _ (plan : PlanView) (path : List ℕ) (clear-plan : IsClearPlan plan) (pa
     fine-spawn : (target : Option Name) (c : CallText) (n : ℕ) → IsClear (target_names target ++ pending) left ends → InText → Fine (spawn (what (Spawned height target)) plan now c (here n) then λ p. done (sets target p))
     fine-spawn target c n clear text = by_args (values_of c.args m.top.env)
       where
-        place : Destination
-        place = Spawned height target
+        destination : Destination
+        destination = Spawned height target
 
         child_run : List Value → Run Effect Exit (Value × State Bool)
         child_run vs =
             happens (Emitted (event.Spawn (now ++ m.rank ∷ []))) (here n) then λ s.
-            (what place).spawn (origin.Instance (number_of (functions_of plan) c.name.bytes) vs (now ++ m.rank ∷ [])) s.spawned then λ r.
+            (what destination).spawn (origin.Instance (number_of (functions_of plan) c.name.bytes) vs (now ++ m.rank ∷ [])) s.spawned then λ r.
             done (r.0, record s { rank = s.rank + 1; spawned = r.1 })
 
         more : List Value → List AwaitedChild
-        more vs = record { child = origin.Instance (number_of (functions_of plan) c.name.bytes) vs (now ++ m.rank ∷ []); place = place; after = [] } ∷ []
+        more vs = record { child = origin.Instance (number_of (functions_of plan) c.name.bytes) vs (now ++ m.rank ∷ []); destination = destination; after = [] } ∷ []
 
         none-lower : (vs : List Value) (j : ℕ) → j < height → any_by j (more vs) ≡ false
         none-lower vs j h = ap (λ b. b || false) (not-same j h)
@@ -307,11 +307,11 @@ module _ (plan : PlanView) (path : List ℕ) (clear-plan : IsClearPlan plan) (pa
           sound-more plan parts (more vs) height (none-lower vs) m.top.target m.below (omega arith) sound.2,
         )
 
-        by_test : (vs : List Value) (b : Bool) → Fine (tested (what place) plan now b Depth (here n) (child_run vs) then λ p. done (sets target p))
+        by_test : (vs : List Value) (b : Bool) → Fine (tested (what destination) plan now b Depth (here n) (child_run vs) then λ p. done (sets target p))
         by_test vs true = next vs _
         by_test vs false = (refl, height, sound.0)
 
-        by_args : (o : Result (List Value) FaultKind) → Fine (unless_fault (what place) plan now o (here n) (λ vs. tested (what place) plan now (nat_lt (length now + 1) plan.limits.depth) Depth (here n) (child_run vs)) then λ p. done (sets target p))
+        by_args : (o : Result (List Value) FaultKind) → Fine (unless_fault (what destination) plan now o (here n) (λ vs. tested (what destination) plan now (nat_lt (length now + 1) plan.limits.depth) Depth (here n) (child_run vs)) then λ p. done (sets target p))
         by_args (Ok vs) = by_test vs (nat_lt (length now + 1) plan.limits.depth)
         by_args (Err k) = (refl, height, sound.0)
 
@@ -320,8 +320,8 @@ module _ (plan : PlanView) (path : List ℕ) (clear-plan : IsClearPlan plan) (pa
         Fine (called (what (Spawned height target)) plan now inside height c (here n) then λ p. done (sets target p))
     fine-call target c n enters clear apart = by_args (values_of c.args m.top.env)
       where
-        place : Destination
-        place = Spawned height target
+        destination : Destination
+        destination = Spawned height target
 
         as_integer : ℕ
         as_integer = number_of (functions_of plan) c.name.bytes
@@ -350,18 +350,18 @@ module _ (plan : PlanView) (path : List ℕ) (clear-plan : IsClearPlan plan) (pa
             )
 
         by_function : (vs : List Value) (o : Option Function) → function_at (functions_of plan) as_integer ≡ o →
-            Fine ((frame (what place) plan now inside (height + 1) o vs (here n) then λ r. done (r.0, record (here n) { rank = r.1.rank; steps = r.1.steps })) then λ p. done (sets target p))
+            Fine ((frame (what destination) plan now inside (height + 1) o vs (here n) then λ r. done (r.0, record (here n) { rank = r.1.rank; steps = r.1.steps })) then λ p. done (sets target p))
         by_function vs None e = calm left _ ends clear text-more
         by_function vs (Some f) e = no-parts (λ ps. IsSoundStage plan ps (Running (into f.body (begins f vs)))) (subst (λ (k : Machine). IsSoundStage plan parts (Running k)) (sym (enters f.body (begins f vs))) (callee f vs e))
 
         run : List Value → Run Effect Exit (Value × State Bool)
-        run vs = frame (what place) plan now inside (height + 1) (function_at (functions_of plan) as_integer) vs (here n) then λ r. done (r.0, record (here n) { rank = r.1.rank; steps = r.1.steps })
+        run vs = frame (what destination) plan now inside (height + 1) (function_at (functions_of plan) as_integer) vs (here n) then λ r. done (r.0, record (here n) { rank = r.1.rank; steps = r.1.steps })
 
-        by_test : (vs : List Value) (b : Bool) → Fine (tested (what place) plan now b Calls (here n) (run vs) then λ p. done (sets target p))
+        by_test : (vs : List Value) (b : Bool) → Fine (tested (what destination) plan now b Calls (here n) (run vs) then λ p. done (sets target p))
         by_test vs true = by_function vs (function_at (functions_of plan) as_integer) refl
         by_test vs false = (refl, height, sound.0)
 
-        by_args : (o : Result (List Value) FaultKind) → Fine (unless_fault (what place) plan now o (here n) (λ vs. tested (what place) plan now (nat_lt height 256) Calls (here n) (run vs)) then λ p. done (sets target p))
+        by_args : (o : Result (List Value) FaultKind) → Fine (unless_fault (what destination) plan now o (here n) (λ vs. tested (what destination) plan now (nat_lt height 256) Calls (here n) (run vs)) then λ p. done (sets target p))
         by_args (Ok vs) = by_test vs (nat_lt height 256)
         by_args (Err k) = (refl, height, sound.0)
 
@@ -391,16 +391,16 @@ module _ (plan : PlanView) (path : List ℕ) (clear-plan : IsClearPlan plan) (pa
     fine-right x (right.Call at c) n enters text apart clear = fine-call (Some x) c n enters clear apart
     fine-right x (right.Spawn at c) n enters text apart clear = fine-spawn (Some x) c n clear text
 
-    fine-store : (place : Destination) (x : Name) (i e : Expr) (n : ℕ) → IsClear pending left ends → Fine (store (what place) plan now x i e (here n))
-    fine-store place x i e n clear =
-        fine-given place (value_of i m.top.env) (here n) _ (λ k. by_item (at_index (items_of (slot_of m.top.env x.bytes)) (as_integer k)) _ (fine-given place (value_of e m.top.env) (here n) _ (λ v. calm left _ ends clear text-more)))
+    fine-store : (destination : Destination) (x : Name) (i e : Expr) (n : ℕ) → IsClear pending left ends → Fine (store (what destination) plan now x i e (here n))
+    fine-store destination x i e n clear =
+        fine-given destination (value_of i m.top.env) (here n) _ (λ k. by_item (at_index (items_of (slot_of m.top.env x.bytes)) (as_integer k)) _ (fine-given destination (value_of e m.top.env) (here n) _ (λ v. calm left _ ends clear text-more)))
       where
-        by_item : (o : Option ℤ) (r : Run Effect Exit (State Bool)) → Fine r → Fine (found (what place) plan now o (here n) r)
+        by_item : (o : Option ℤ) (r : Run Effect Exit (State Bool)) → Fine r → Fine (found (what destination) plan now o (here n) r)
         by_item None r h = (refl, height, sound.0)
         by_item (Some old) r h = h
 
     -- after a sync nothing is pending
-    fine-sync : (n : ℕ) → IsClear [] left ends → Fine (join (what (Spawned height None)) plan now (here n))
+    fine-sync : (n : ℕ) → IsClear [] left ends → Fine (sync_here (what (Spawned height None)) plan now (here n))
     fine-sync n clear = by_spawned m.top.spawned refl
       where
         next : State Bool
@@ -428,21 +428,21 @@ module _ (plan : PlanView) (path : List ℕ) (clear-plan : IsClearPlan plan) (pa
 
     fine-loop : (target : Option Name) (c : CallText) (lo : ℤ) (hi : ℕ) (vs : List Value) (n : ℕ) → IsClear pending left ends → Fine (looped (what (Looped target)) plan now lo hi vs target c (here n))
     fine-loop target c lo hi vs n clear =
-        fine-tested place (nat_lt hi (n + 1)) Budget (here n) _ (fine-tested place (has_room target hi m.top.env) Index (here (n - hi)) _ (fine-tested place (fits_depth (what place) plan now hi) Depth (here (n - hi)) _ (by_size (is_empty_loop o))))
+        fine-tested destination (nat_lt hi (n + 1)) Budget (here n) _ (fine-tested destination (has_room target hi m.top.env) Index (here (n - hi)) _ (fine-tested destination (fits_depth (what destination) plan now hi) Depth (here (n - hi)) _ (by_size (is_empty_loop o))))
       where
-        place : Destination
-        place = Looped target
+        destination : Destination
+        destination = Looped target
 
         o : Origin
         o = origin.Loop (number_of (functions_of plan) c.name.bytes) vs lo (now ++ m.rank ∷ []) (record { lo = 0; hi = hi })
 
         next : State Bool
-        next = record { env = filled target [] m.top.env; rank = m.rank + 1; steps = n - hi; spawned = m.top.spawned }
+        next = record { env = with_loop_values target [] m.top.env; rank = m.rank + 1; steps = n - hi; spawned = m.top.spawned }
 
         more : List AwaitedChild
-        more = record { child = o; place = place; after = [] } ∷ []
+        more = record { child = o; destination = destination; after = [] } ∷ []
 
-        by_size : (b : Bool) → SoundEnd plan parts (Emitted (event.Loop (now ++ m.rank ∷ [])) ∷ (loop_effects b o place ++ [])) (Ok (Stands (with_left m left next)))
+        by_size : (b : Bool) → SoundEnd plan parts (Emitted (event.Loop (now ++ m.rank ∷ [])) ∷ (loop_effects b o destination ++ [])) (Ok (Stands (with_left m left next)))
         by_size true = going left next ends refl clear text-more
         by_size false = (
           sound-as plan parts (parts ++ more) height (with_left m left next).top (same-unfilled height parts more refl) (same-any height parts more refl) (top-sound left next ends refl clear text-more),
@@ -556,8 +556,8 @@ module _ (plan : PlanView) (path : List ℕ) (clear-plan : IsClearPlan plan) (pa
     where
       text-of : (b : Act-F Act Stmt) → out-Act (out-Stmt st).act ≡ b → Text b
       text-of b e h = text-left (ap (λ s. s || any_spawns left) (spawns-out st ∙ ap (λ (c : Act-F Act Stmt). act_spawns (map-Act Act Stmt Bool Bool act_has_spawn spawns c)) e ∙ h))
-  act-fine a same ends (Turns e body all h w apart c rest) n =
-      subst (λ (c : Act-F Act Stmt). FineAct c n) (sym h) (while-fine e body all ends (text-of (act.While e body) h) w c (Turns e body all h (within-itself all) apart c rest) rest n)
+  act-fine a same ends (Repetitions e body all h w apart c rest) n =
+      subst (λ (c : Act-F Act Stmt). FineAct c n) (sym h) (while-fine e body all ends (text-of (act.While e body) h) w c (Repetitions e body all h (within-itself all) apart c rest) rest n)
     where
       text-of : (b : Act-F Act Stmt) → out-Act (out-Stmt st).act ≡ b → Text b
       text-of b e h = text-left (ap (λ s. s || any_spawns left) (spawns-out st ∙ ap (λ (c : Act-F Act Stmt). act_spawns (map-Act Act Stmt Bool Bool act_has_spawn spawns c)) e ∙ h))
@@ -757,17 +757,17 @@ module _ (plan : PlanView) (path : List ℕ) (clear-plan : IsClearPlan plan) (pa
       by_left (st ∷ left) h = statement-sound plan path clear-plan parts m st left h sound
       by_left [] h = by_levels h m.top.levels refl
 
-free-of : (ps : List AwaitedChild) (m : Machine) (p : AwaitedChild) → AreFree ps (shape_of m) → Contains ps p → IsFreePlace (shape_of m) p.place
+free-of : (ps : List AwaitedChild) (m : Machine) (p : AwaitedChild) → AreFree ps (shape_of m) → Contains ps p → IsFreePlace (shape_of m) p.destination
 free-of [] m p free c = absurd (omega (arith, c.1))
 free-of (q ∷ ps) m p free c = by_index c.0 c.1 c.2 (λ d. free-of ps m p free.1 d)
   where
-    by_index : (i : ℕ) → i < length (q ∷ ps) → get_or (q ∷ ps) i p ≡ p → (Contains ps p → IsFreePlace (shape_of m) p.place) → IsFreePlace (shape_of m) p.place
-    by_index zero d e later = subst (λ (r : AwaitedChild). IsFreePlace (shape_of m) r.place) e free.0
+    by_index : (i : ℕ) → i < length (q ∷ ps) → get_or (q ∷ ps) i p ≡ p → (Contains ps p → IsFreePlace (shape_of m) p.destination) → IsFreePlace (shape_of m) p.destination
+    by_index zero d e later = subst (λ (r : AwaitedChild). IsFreePlace (shape_of m) r.destination) e free.0
     by_index (suc i) d e later = later (i, omega arith, e)
 
 -- An answer may be taken before a move or after it.
 pub moves_leave_unfilled_alone : (plan : PlanView) (path : List ℕ) (parts : List AwaitedChild) (m : Machine) (p : AwaitedChild) (owner : ℕ) (target : Option Name) (ended : Result (List Value) Fault) →
-    IsSoundStage plan parts (Running m) → Contains parts p → p.place ≡ Spawned owner target →
+    IsSoundStage plan parts (Running m) → Contains parts p → p.destination ≡ Spawned owner target →
     move plan path (changed owner (frame_with_answer target ended) m) ≡ changed_run (changed owner (frame_with_answer target ended)) (move plan path m)
 moves_leave_unfilled_alone plan path parts m p owner target ended sound c e =
     take-move plan path (Spawned owner target) ended m (subst (IsFreePlace (shape_of m)) e (free-of parts m p (sound-free plan parts m sound) c))

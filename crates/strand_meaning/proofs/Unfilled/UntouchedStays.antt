@@ -6,7 +6,7 @@ use Rattle.script_grammar.specs.declared.tree.Expr.{Expr}
 use Rattle.serial_meaning.specs.Runs.{◌>>=◌}
 use Rattle.serial_meaning.specs.Names.{Names, names_in}
 use Rattle.serial_meaning.specs.Values.{Env, slot_of, items_of, value_of, values_of}
-use Rattle.serial_meaning.specs.Exec.{with_slot, with_front, filled, has_room}
+use Rattle.serial_meaning.specs.Exec.{with_slot, with_front, with_loop_values, has_room}
 use Rattle.serial_meaning.proofs.Equations.Each.{Each, each-at}
 use Rattle.serial_meaning.proofs.RisingPedigrees.Named.{values_depend_on_names}
 use Rattle.serial_meaning.specs.declared.value.Value.{Value}
@@ -72,7 +72,7 @@ module _ (fix : Env → Env) where
   room-kept None n env k = refl
   room-kept (Some x) n env k = rw (k.0.0 env) refl
 
-  pub filled-kept : (target : Option Name) (vs : List Value) (env : Env) → Keeps fix (target_names target) → filled target vs (fix env) ≡ fix (filled target vs env)
+  pub filled-kept : (target : Option Name) (vs : List Value) (env : Env) → Keeps fix (target_names target) → with_loop_values target vs (fix env) ≡ fix (with_loop_values target vs env)
   filled-kept None vs env k = refl
   filled-kept (Some x) vs env k =
       ap (λ o. with_slot (fix env) x.bytes (Array (with_front (items_of o) vs))) (k.0.0 env) ∙ k.0.1 env (Array (with_front (items_of (slot_of env x.bytes)) vs))

@@ -4,7 +4,7 @@ use Rattle.std.specs.Str.{bytes_eq}
 use Rattle.std.proofs.lemmas.Slice.Eq.{bytes_eq-Decides}
 use Rattle.script_grammar.specs.declared.tree.Name.{Name}
 use Rattle.serial_meaning.specs.Values.{Env, slot_of, items_of}
-use Rattle.serial_meaning.specs.Exec.{with_slot, with_front, filled}
+use Rattle.serial_meaning.specs.Exec.{with_slot, with_front, with_loop_values}
 use Rattle.serial_meaning.specs.declared.value.Value.{Value}
 use Rattle.serial_meaning.specs.declared.environment.Slot.{Slot}
 use Rattle.serial_meaning.specs.declared.environment.Slot.TheVariants.{Array}
@@ -70,7 +70,7 @@ with-replaced (v ∷ vs) p x a b h = from (bytes_eq v.name p) refl (bytes_eq v.n
     from false e false g ih = rw (e, g) (ap (λ r. v ∷ r) ih)
 
 -- Values that are put in later may be put in at once.
-pub filled-later : (target : Option Name) (vs : List Value) (env : Env) → filled target vs (filled target [] env) ≡ filled target vs env
+pub filled-later : (target : Option Name) (vs : List Value) (env : Env) → with_loop_values target vs (with_loop_values target [] env) ≡ with_loop_values target vs env
 filled-later None vs env = refl
 filled-later (Some x) vs env =
     let xs = items_of (slot_of env x.bytes) in

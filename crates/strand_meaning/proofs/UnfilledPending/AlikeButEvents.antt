@@ -18,24 +18,24 @@ use Rattle.strand_meaning.proofs.Unfilled.SoundMoves.{sound-as}
 
 pub data Alike : List AwaitedChild → List AwaitedChild → Type 0 where
   End : Alike [] []
-  Next : {ps qs : List AwaitedChild} (child : Origin) (place : Destination) (before after : List Event) → Alike ps qs →
-      Alike (record { child = child; place = place; after = before } ∷ ps) (record { child = child; place = place; after = after } ∷ qs)
+  Next : {ps qs : List AwaitedChild} (child : Origin) (destination : Destination) (before after : List Event) → Alike ps qs →
+      Alike (record { child = child; destination = destination; after = before } ∷ ps) (record { child = child; destination = destination; after = after } ∷ qs)
 
 pub alike-itself : (ps : List AwaitedChild) → Alike ps ps
 alike-itself [] = End
-alike-itself (p ∷ ps) = Next p.child p.place p.after p.after (alike-itself ps)
+alike-itself (p ∷ ps) = Next p.child p.destination p.after p.after (alike-itself ps)
 
 pub alike-then : {ps qs rs : List AwaitedChild} → Alike ps qs → Alike qs rs → Alike ps rs
 alike-then End b = b
-alike-then (Next child place before after a) (Next c p f g b) = Next child place before g (alike-then a b)
+alike-then (Next child destination before after a) (Next c p f g b) = Next child destination before g (alike-then a b)
 
 alike-append : {ps qs : List AwaitedChild} (rs : List AwaitedChild) → Alike ps qs → Alike (ps ++ rs) (qs ++ rs)
 alike-append rs End = alike-itself rs
-alike-append rs (Next child place before after a) = Next child place before after (alike-append rs a)
+alike-append rs (Next child destination before after a) = Next child destination before after (alike-append rs a)
 
 alike-after : (p : AwaitedChild) (ps : List AwaitedChild) (e : Event) → Alike (p ∷ ps) (after_last p ps e)
-alike-after p [] e = Next p.child p.place p.after (p.after ++ e ∷ []) End
-alike-after p (q ∷ qs) e = Next p.child p.place p.after p.after (alike-after q qs e)
+alike-after p [] e = Next p.child p.destination p.after (p.after ++ e ∷ []) End
+alike-after p (q ∷ qs) e = Next p.child p.destination p.after p.after (alike-after q qs e)
 
 alike-emit : (e : Event) (trace : Trace) → Alike trace.handed (emit e trace).handed
 alike-emit e trace = from trace.handed
@@ -50,38 +50,38 @@ alike-effects [] trace = subst (λ (l : List AwaitedChild). Alike l trace.handed
 alike-effects (Opens j ∷ ts) trace = alike-effects ts trace
 alike-effects (Closes j ∷ ts) trace = alike-effects ts trace
 alike-effects (Emitted e ∷ ts) trace = alike-then (alike-append (effect_parts ts) (alike-emit e trace)) (alike-effects ts (emit e trace))
-alike-effects (Handed o place ∷ ts) trace =
-    subst (λ (l : List AwaitedChild). Alike l (with_effects ts (add_child o place trace)).handed) (append_assoc trace.handed (record { child = o; place = place; after = [] } ∷ []) (effect_parts ts)) (alike-effects ts (add_child o place trace))
+alike-effects (Handed o destination ∷ ts) trace =
+    subst (λ (l : List AwaitedChild). Alike l (with_effects ts (add_child o destination trace)).handed) (append_assoc trace.handed (record { child = o; destination = destination; after = [] } ∷ []) (effect_parts ts)) (alike-effects ts (add_child o destination trace))
 alike-effects (Syncs ∷ ts) trace = alike-effects ts trace
 alike-effects (Loops ∷ ts) trace = alike-effects ts trace
 
 pub alike-takes : (child : Origin → Evaluation) {ps qs : List AwaitedChild} → Alike ps qs → (stage : InstanceState) → takes_all ps (evaluations child ps) stage ≡ takes_all qs (evaluations child qs) stage
 alike-takes child End stage = refl
-alike-takes child (Next o place before after a) stage = alike-takes child a (takes place (child o).ending stage)
+alike-takes child (Next o destination before after a) stage = alike-takes child a (takes destination (child o).ending stage)
 
 pub alike-unfilled : (height : ℕ) {ps qs : List AwaitedChild} → Alike ps qs → unfilled height ps ≡ unfilled height qs
 alike-unfilled height End = refl
-alike-unfilled height (Next o place before after a) = ap (λ l. unfilled_by height place ++ l) (alike-unfilled height a)
+alike-unfilled height (Next o destination before after a) = ap (λ l. unfilled_by height destination ++ l) (alike-unfilled height a)
 
 alike-any : (height : ℕ) {ps qs : List AwaitedChild} → Alike ps qs → any_by height qs ≡ any_by height ps
 alike-any height End = refl
-alike-any height (Next o place before after a) = ap (λ b. is_by height place || b) (alike-any height a)
+alike-any height (Next o destination before after a) = ap (λ b. is_by height destination || b) (alike-any height a)
 
 alike-places : (height : ℕ) {ps qs : List AwaitedChild} → Alike ps qs → AreDestinations height ps → AreDestinations height qs
 alike-places height End h = tt
-alike-places height (Next o place before after a) h = (h.0, alike-places height a h.1)
+alike-places height (Next o destination before after a) h = (h.0, alike-places height a h.1)
 
 pub alike-halves : {ps qs : List AwaitedChild} → Alike ps qs → AreHalves ps → AreHalves qs
 alike-halves End h = tt
-alike-halves (Next o place before after a) h = (h.0, alike-halves a h.1)
+alike-halves (Next o destination before after a) h = (h.0, alike-halves a h.1)
 
 alike-none : {ps qs : List AwaitedChild} → Alike ps qs → ps ≡ [] → qs ≡ []
 alike-none End h = refl
-alike-none (Next o place before after a) h = absurd (cc)
+alike-none (Next o destination before after a) h = absurd (cc)
 
 pub alike-parts : (plan : PlanView) (o : Origin) {ps qs : List AwaitedChild} → Alike ps qs → AreParts plan o ps → AreParts plan o qs
 alike-parts plan o End h = tt
-alike-parts plan o (Next child place before after a) h = (record { known = h.0.known; fits = h.0.fits; same = h.0.same }, alike-parts plan o a h.1)
+alike-parts plan o (Next child destination before after a) h = (record { known = h.0.known; fits = h.0.fits; same = h.0.same }, alike-parts plan o a h.1)
 
 alike-below : (plan : PlanView) {ps qs : List AwaitedChild} → Alike ps qs → (target : Option Name) (below : List Frame) → AreSound plan ps target below → AreSound plan qs target below
 alike-below plan a target [] s = tt

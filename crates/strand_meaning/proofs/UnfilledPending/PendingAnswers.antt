@@ -7,7 +7,7 @@ use Rattle.script_grammar.specs.declared.tree.Act.{Act}
 use Rattle.script_grammar.specs.declared.tree.Act.TheOpen.{Act-F}
 use Rattle.serial_meaning.specs.Names.{Names}
 use Rattle.serial_meaning.specs.Plan.{PlanView}
-use Rattle.serial_meaning.specs.Exec.{filled}
+use Rattle.serial_meaning.specs.Exec.{with_loop_values}
 use Rattle.serial_meaning.specs.Eval.{Evaluation}
 use Rattle.serial_meaning.specs.declared.value.Value.{Value}
 use Rattle.serial_meaning.specs.declared.event.Fault.{Fault}
@@ -108,7 +108,7 @@ module _ (plan : PlanView) where
   looped-kept to vs (Running m) p = (record { function = p.0.function; of_plan = p.0.of_plan; now = p.0.now; stands = p.0.stands; pending = p.0.pending }, p.1)
   looped-kept to vs (AtSync m) p = (by_kind (m.top.leaving || m.top.returning) p.0, p.1)
     where
-      by_kind : (b : Bool) → ArePendingAtSync plan [] m.top b → ArePendingAtSync plan [] (record m.top { env = filled to vs m.top.env }) b
+      by_kind : (b : Bool) → ArePendingAtSync plan [] m.top b → ArePendingAtSync plan [] (record m.top { env = with_loop_values to vs m.top.env }) b
       by_kind true s = (s.0, record { function = s.1.function; of_plan = s.1.of_plan; now = s.1.now; stands = s.1.stands; pending = s.1.pending })
       by_kind false s =
           let t = s.there in record { st = s.st; such = s.such; there = record { function = t.function; of_plan = t.of_plan; now = t.now; stands = t.stands; pending = t.pending } }
@@ -116,7 +116,7 @@ module _ (plan : PlanView) where
       let s = p.0 in let t = s.there in (record { st = s.st; such = s.such; there = record { function = t.function; of_plan = t.of_plan; now = t.now; stands = t.stands; pending = t.pending } }, p.1)
   looped-kept to vs (Ended ended) p = tt
 
-  takes-kept : (place : Destination) (q : Result (List Value) Fault) (stage : InstanceState) → UnfilledArePending plan [] stage → UnfilledArePending plan [] (takes place q stage)
+  takes-kept : (destination : Destination) (q : Result (List Value) Fault) (stage : InstanceState) → UnfilledArePending plan [] stage → UnfilledArePending plan [] (takes destination q stage)
   takes-kept (Spawned owner to) q stage p = spawned-kept owner to q stage p
   takes-kept (Looped to) (Ok vs) stage p = looped-kept to vs stage p
   takes-kept (Looped to) (Err f) stage p = tt
@@ -124,7 +124,7 @@ module _ (plan : PlanView) where
 
   all-kept : (child : Origin → Evaluation) (ps : List AwaitedChild) (stage : InstanceState) → UnfilledArePending plan [] stage → UnfilledArePending plan [] (takes_all ps (evaluations child ps) stage)
   all-kept child [] stage p = p
-  all-kept child (q ∷ ps) stage p = all-kept child ps (takes q.place (child q.child).ending stage) (takes-kept q.place (child q.child).ending stage p)
+  all-kept child (q ∷ ps) stage p = all-kept child ps (takes q.destination (child q.child).ending stage) (takes-kept q.destination (child q.child).ending stage p)
 
   -- it goes on after a wait
   resumed-pending : (stage : InstanceState) → UnfilledArePending plan [] stage → UnfilledArePending plan [] (resumed stage)

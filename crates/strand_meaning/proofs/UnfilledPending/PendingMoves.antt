@@ -23,7 +23,7 @@ use Rattle.serial_meaning.specs.Names.{Names}
 use Rattle.serial_meaning.specs.Values.{Env, value_of, values_of, slot_of, items_of, as_integer, is_true, at_index}
 use Rattle.serial_meaning.specs.Functions.{number_of, function_at}
 use Rattle.serial_meaning.specs.Plan.{PlanView, functions_of}
-use Rattle.serial_meaning.specs.Exec.{State, Manner, unless_fault, paid_from, tested, has_room, fits_depth, filled, spawn, join, implied, frame, called, right_side, found, store, looped, does, count_of, bound}
+use Rattle.serial_meaning.specs.Exec.{State, Manner, unless_fault, paid_from, tested, has_room, fits_depth, with_loop_values, spawn, sync_here, implied, frame, called, right_side, found, store, looped, does, count_of, bound}
 use Rattle.serial_meaning.specs.Open.{is_empty_loop}
 use Rattle.serial_meaning.specs.declared.value.Value.{Value}
 use Rattle.serial_meaning.specs.declared.value.Value.TheVariants.{Int}
@@ -140,7 +140,7 @@ module _ (plan : PlanView) (path : List ℕ) (parts : List AwaitedChild) (m : Ma
   pending = unfilled height parts
 
   abbrev what : Destination → Manner Effect Exit Bool
-  what place = handing plan place
+  what destination = handing plan destination
 
   no-parts : (T : List AwaitedChild → Type 0) → T parts → T (parts ++ [])
   no-parts T t = subst T (sym (append-nil parts)) t
@@ -175,17 +175,17 @@ module _ (plan : PlanView) (path : List ℕ) (parts : List AwaitedChild) (m : Ma
     abbrev Fine : Run Effect Exit (State Bool) → Type 0
     Fine r = PendingEnd plan parts r.items (reached plan (with_left m left) into r.ending)
 
-    fine-given : (place : Destination) {A : Type 0} (o : Result A FaultKind) (s : State Bool) (f : A → Run Effect Exit (State Bool)) → ((a : A) → Fine (f a)) → Fine (unless_fault (what place) plan now o s f)
-    fine-given place (Ok a) s f h = h a
-    fine-given place (Err k) s f h = tt
+    fine-given : (destination : Destination) {A : Type 0} (o : Result A FaultKind) (s : State Bool) (f : A → Run Effect Exit (State Bool)) → ((a : A) → Fine (f a)) → Fine (unless_fault (what destination) plan now o s f)
+    fine-given destination (Ok a) s f h = h a
+    fine-given destination (Err k) s f h = tt
 
-    fine-tested : (place : Destination) (b : Bool) (k : FaultKind) (s : State Bool) (f : Run Effect Exit (State Bool)) → Fine f → Fine (tested (what place) plan now b k s f)
-    fine-tested place true k s f h = h
-    fine-tested place false k s f h = tt
+    fine-tested : (destination : Destination) (b : Bool) (k : FaultKind) (s : State Bool) (f : Run Effect Exit (State Bool)) → Fine f → Fine (tested (what destination) plan now b k s f)
+    fine-tested destination true k s f h = h
+    fine-tested destination false k s f h = tt
 
-    fine-paid : (place : Destination) (n : ℕ) (s : State Bool) (f : State Bool → Run Effect Exit (State Bool)) → ((k : ℕ) → Fine (f (record s { steps = k }))) → Fine (paid_from (what place) plan now n s f)
-    fine-paid place zero s f h = tt
-    fine-paid place (suc n) s f h = h n
+    fine-paid : (destination : Destination) (n : ℕ) (s : State Bool) (f : State Bool → Run Effect Exit (State Bool)) → ((k : ℕ) → Fine (f (record s { steps = k }))) → Fine (paid_from (what destination) plan now n s f)
+    fine-paid destination zero s f h = tt
+    fine-paid destination (suc n) s f h = h n
 
     abbrev here : ℕ → State Bool
     here n = record (state_of m) { steps = n }
@@ -197,17 +197,17 @@ module _ (plan : PlanView) (path : List ℕ) (parts : List AwaitedChild) (m : Ma
     fine-spawn : (target : Option Name) (c : CallText) (n : ℕ) → AreIn (target_names target ++ pending) ((judge st).after set) → Fine (spawn (what (Spawned height target)) plan now c (here n) then λ p. done (sets target p))
     fine-spawn target c n w = by_args (values_of c.args m.top.env)
       where
-        place : Destination
-        place = Spawned height target
+        destination : Destination
+        destination = Spawned height target
 
         child_run : List Value → Run Effect Exit (Value × State Bool)
         child_run vs =
             happens (Emitted (event.Spawn (now ++ m.rank ∷ []))) (here n) then λ s.
-            (what place).spawn (origin.Instance (number_of (functions_of plan) c.name.bytes) vs (now ++ m.rank ∷ [])) s.spawned then λ r.
+            (what destination).spawn (origin.Instance (number_of (functions_of plan) c.name.bytes) vs (now ++ m.rank ∷ [])) s.spawned then λ r.
             done (r.0, record s { rank = s.rank + 1; spawned = r.1 })
 
         more : List Value → List AwaitedChild
-        more vs = record { child = origin.Instance (number_of (functions_of plan) c.name.bytes) vs (now ++ m.rank ∷ []); place = place; after = [] } ∷ []
+        more vs = record { child = origin.Instance (number_of (functions_of plan) c.name.bytes) vs (now ++ m.rank ∷ []); destination = destination; after = [] } ∷ []
 
         none-lower : (vs : List Value) (j : ℕ) → j < height → any_by j (more vs) ≡ false
         none-lower vs j h = ap (λ b. b || false) (not-same j h)
@@ -235,11 +235,11 @@ module _ (plan : PlanView) (path : List ℕ) (parts : List AwaitedChild) (m : Ma
           below-more plan parts (more vs) height (none-lower vs) m.below (omega arith) pends.1,
         )
 
-        by_test : (vs : List Value) (b : Bool) → Fine (tested (what place) plan now b Depth (here n) (child_run vs) then λ p. done (sets target p))
+        by_test : (vs : List Value) (b : Bool) → Fine (tested (what destination) plan now b Depth (here n) (child_run vs) then λ p. done (sets target p))
         by_test vs true = next vs _
         by_test vs false = tt
 
-        by_args : (o : Result (List Value) FaultKind) → Fine (unless_fault (what place) plan now o (here n) (λ vs. tested (what place) plan now (nat_lt (length now + 1) plan.limits.depth) Depth (here n) (child_run vs)) then λ p. done (sets target p))
+        by_args : (o : Result (List Value) FaultKind) → Fine (unless_fault (what destination) plan now o (here n) (λ vs. tested (what destination) plan now (nat_lt (length now + 1) plan.limits.depth) Depth (here n) (child_run vs)) then λ p. done (sets target p))
         by_args (Ok vs) = by_test vs (nat_lt (length now + 1) plan.limits.depth)
         by_args (Err k) = tt
 
@@ -248,8 +248,8 @@ module _ (plan : PlanView) (path : List ℕ) (parts : List AwaitedChild) (m : Ma
         Fine (called (what (Spawned height target)) plan now inside height c (here n) then λ p. done (sets target p))
     fine-call target c n enters is-call w = by_args (values_of c.args m.top.env)
       where
-        place : Destination
-        place = Spawned height target
+        destination : Destination
+        destination = Spawned height target
 
         as_integer : ℕ
         as_integer = number_of (functions_of plan) c.name.bytes
@@ -267,18 +267,18 @@ module _ (plan : PlanView) (path : List ℕ) (parts : List AwaitedChild) (m : Ma
         )
 
         by_function : (vs : List Value) (o : Option Function) → function_at (functions_of plan) as_integer ≡ o →
-            Fine ((frame (what place) plan now inside (height + 1) o vs (here n) then λ r. done (r.0, record (here n) { rank = r.1.rank; steps = r.1.steps })) then λ p. done (sets target p))
+            Fine ((frame (what destination) plan now inside (height + 1) o vs (here n) then λ r. done (r.0, record (here n) { rank = r.1.rank; steps = r.1.steps })) then λ p. done (sets target p))
         by_function vs None e = calm w _
         by_function vs (Some f) e = no-parts (λ ps. UnfilledArePending plan ps (Running (into f.body (begins f vs)))) (subst (λ (k : Machine). UnfilledArePending plan parts (Running k)) (sym (enters f.body (begins f vs))) (callee f vs e))
 
         run : List Value → Run Effect Exit (Value × State Bool)
-        run vs = frame (what place) plan now inside (height + 1) (function_at (functions_of plan) as_integer) vs (here n) then λ r. done (r.0, record (here n) { rank = r.1.rank; steps = r.1.steps })
+        run vs = frame (what destination) plan now inside (height + 1) (function_at (functions_of plan) as_integer) vs (here n) then λ r. done (r.0, record (here n) { rank = r.1.rank; steps = r.1.steps })
 
-        by_test : (vs : List Value) (b : Bool) → Fine (tested (what place) plan now b Calls (here n) (run vs) then λ p. done (sets target p))
+        by_test : (vs : List Value) (b : Bool) → Fine (tested (what destination) plan now b Calls (here n) (run vs) then λ p. done (sets target p))
         by_test vs true = by_function vs (function_at (functions_of plan) as_integer) refl
         by_test vs false = tt
 
-        by_args : (o : Result (List Value) FaultKind) → Fine (unless_fault (what place) plan now o (here n) (λ vs. tested (what place) plan now (nat_lt height 256) Calls (here n) (run vs)) then λ p. done (sets target p))
+        by_args : (o : Result (List Value) FaultKind) → Fine (unless_fault (what destination) plan now o (here n) (λ vs. tested (what destination) plan now (nat_lt height 256) Calls (here n) (run vs)) then λ p. done (sets target p))
         by_args (Ok vs) = by_test vs (nat_lt height 256)
         by_args (Err k) = tt
 
@@ -301,16 +301,16 @@ module _ (plan : PlanView) (path : List ℕ) (parts : List AwaitedChild) (m : Ma
     fine-right x (right.Call at c) n enters w = fine-call (Some x) c n enters.1 enters.0 w
     fine-right x (right.Spawn at c) n enters w = fine-spawn (Some x) c n w
 
-    fine-store : (place : Destination) (x : Name) (i e : Expr) (n : ℕ) → AreIn pending ((judge st).after set) → Fine (store (what place) plan now x i e (here n))
-    fine-store place x i e n w =
-        fine-given place (value_of i m.top.env) (here n) _ (λ k. by_item (at_index (items_of (slot_of m.top.env x.bytes)) (as_integer k)) _ (fine-given place (value_of e m.top.env) (here n) _ (λ v. calm w _)))
+    fine-store : (destination : Destination) (x : Name) (i e : Expr) (n : ℕ) → AreIn pending ((judge st).after set) → Fine (store (what destination) plan now x i e (here n))
+    fine-store destination x i e n w =
+        fine-given destination (value_of i m.top.env) (here n) _ (λ k. by_item (at_index (items_of (slot_of m.top.env x.bytes)) (as_integer k)) _ (fine-given destination (value_of e m.top.env) (here n) _ (λ v. calm w _)))
       where
-        by_item : (o : Option ℤ) (r : Run Effect Exit (State Bool)) → Fine r → Fine (found (what place) plan now o (here n) r)
+        by_item : (o : Option ℤ) (r : Run Effect Exit (State Bool)) → Fine r → Fine (found (what destination) plan now o (here n) r)
         by_item None r h = tt
         by_item (Some old) r h = h
 
     -- at a sync it stands still, or goes on where nothing is unfilled
-    fine-sync : (n : ℕ) → IsSync (act_of st) → Fine (join (what (Spawned height None)) plan now (here n))
+    fine-sync : (n : ℕ) → IsSync (act_of st) → Fine (sync_here (what (Spawned height None)) plan now (here n))
     fine-sync n is-sync = by_spawned m.top.spawned refl
       where
         next : State Bool
@@ -343,21 +343,21 @@ module _ (plan : PlanView) (path : List ℕ) (parts : List AwaitedChild) (m : Ma
 
     fine-loop : (target : Option Name) (c : CallText) (lo : ℤ) (hi : ℕ) (vs : List Value) (n : ℕ) → IsPfor (act_of st) → AreIn pending ((judge st).after set) → Fine (looped (what (Looped target)) plan now lo hi vs target c (here n))
     fine-loop target c lo hi vs n is-pfor w =
-        fine-tested place (nat_lt hi (n + 1)) Budget (here n) _ (fine-tested place (has_room target hi m.top.env) Index (here (n - hi)) _ (fine-tested place (fits_depth (what place) plan now hi) Depth (here (n - hi)) _ (by_size (is_empty_loop o))))
+        fine-tested destination (nat_lt hi (n + 1)) Budget (here n) _ (fine-tested destination (has_room target hi m.top.env) Index (here (n - hi)) _ (fine-tested destination (fits_depth (what destination) plan now hi) Depth (here (n - hi)) _ (by_size (is_empty_loop o))))
       where
-        place : Destination
-        place = Looped target
+        destination : Destination
+        destination = Looped target
 
         o : Origin
         o = origin.Loop (number_of (functions_of plan) c.name.bytes) vs lo (now ++ m.rank ∷ []) (record { lo = 0; hi = hi })
 
         next : State Bool
-        next = record { env = filled target [] m.top.env; rank = m.rank + 1; steps = n - hi; spawned = m.top.spawned }
+        next = record { env = with_loop_values target [] m.top.env; rank = m.rank + 1; steps = n - hi; spawned = m.top.spawned }
 
         more : List AwaitedChild
-        more = record { child = o; place = place; after = [] } ∷ []
+        more = record { child = o; destination = destination; after = [] } ∷ []
 
-        by_size : (b : Bool) → PendingEnd plan parts (Emitted (event.Loop (now ++ m.rank ∷ [])) ∷ (loop_effects b o place ++ [])) (Ok (Stands (with_left m left next)))
+        by_size : (b : Bool) → PendingEnd plan parts (Emitted (event.Loop (now ++ m.rank ∷ [])) ∷ (loop_effects b o destination ++ [])) (Ok (Stands (with_left m left next)))
         by_size true = going w next
         by_size false = (
           still (unfilled height (parts ++ more)) (λ name h. subst (λ (l : Names). Contains l name) (sym (same-unfilled height parts more refl)) h) IsPfor is-pfor next,
@@ -540,10 +540,10 @@ module _ (plan : PlanView) (path : List ℕ) (parts : List AwaitedChild) where
       to_caller v [] s = tt
       to_caller v (caller ∷ below) s =
           let k : Machine = record { rank = m.rank; steps = m.steps; top = record caller { env = with_scalar m.top.target v caller.env }; below = below } in
-          no-more (λ ps. UnfilledArePending plan ps (Running k)) (same-place (still-passed plan (unfilled (length below) parts) caller IsCall call-keeps s.0), s.1)
+          no-more (λ ps. UnfilledArePending plan ps (Running k)) (same-destination (still-passed plan (unfilled (length below) parts) caller IsCall call-keeps s.0), s.1)
         where
-          same-place : ArePending plan (unfilled (length below) parts) caller caller.left → ArePending plan (unfilled (length below) parts) (record caller { env = with_scalar m.top.target v caller.env }) caller.left
-          same-place p = record { function = p.function; of_plan = p.of_plan; now = p.now; stands = p.stands; pending = p.pending }
+          same-destination : ArePending plan (unfilled (length below) parts) caller caller.left → ArePending plan (unfilled (length below) parts) (record caller { env = with_scalar m.top.target v caller.env }) caller.left
+          same-destination p = record { function = p.function; of_plan = p.of_plan; now = p.now; stands = p.stands; pending = p.pending }
 
       by_value : (o : Result Value FaultKind) →
           let r : Run Effect Exit (Value × State Bool) = unless_fault (handing plan (Spawned (length m.below) None)) plan (here_of path m) o (state_of m) (λ v. done (v, state_of m)) in PendingEnd plan parts r.items (gives plan m r.ending)

@@ -9,7 +9,7 @@ use Rattle.script_check.specs.Names.{no_names, union}
 use Rattle.script_check.specs.Statements.{Judged, judge_act, judge, judge_what, after}
 use Rattle.script_check.proofs.FewerPending.Linear.{loop_closed}
 use Rattle.strand_meaning.specs.Machine.{Level}
-use Rattle.strand_meaning.specs.Pending.{act_of, HasBlock, Then, Else, LoopBody, ComesTo, Here, Past, Within, FrameStandsAt, Outside, InScope, judged_by, set_at}
+use Rattle.strand_meaning.specs.Pending.{act_of, HasBlock, Then, Else, LoopBody, ComesTo, Here, Past, Within, FrameStandsAt, Outside, InScope, judged_by, judging_set}
 
 or-left : (a b : Bool) → a ≡ true → (a || b) ≡ true
 or-left a b h = ap (λ c. c || b) h
@@ -49,7 +49,7 @@ judged-within (act.While e a) p name h = or-left (p name) (after a p name) h
 judged-within (act.Pfor x lo hi target c) p name h = h
 judged-within (act.Scope a) p name h = h
 
-pub at-within : (left : List Stmt) (p : check.NameSet) → check.IsWithin p (set_at left p)
+pub at-within : (left : List Stmt) (p : check.NameSet) → check.IsWithin p (judging_set left p)
 at-within [] p name h = h
 at-within (st ∷ left) p name h = judged-within (act_of st) p name h
 
@@ -62,7 +62,7 @@ comes-end (Past c) = comes-end c
 pub record GoesOn (from : check.NameSet) (sts left : List Stmt) (set : check.NameSet) : Type 0 where
   pub now : check.NameSet
   pub comes : ComesTo from sts left now
-  pub all : check.IsWithin set (set_at left now)
+  pub all : check.IsWithin set (judging_set left now)
 
 -- after a block that ends with a set
 after-block : {from now : check.NameSet} {sts left block : List Stmt} {inner : check.NameSet} {again : List Stmt} {st : Stmt} → ComesTo from sts (st ∷ left) now → GoesOn from sts left ((judge st).after now) → HasBlock st now block inner again →
@@ -115,7 +115,7 @@ goes-in {inner = inner} {left = left} {again = again} c (x ∷ xs) b = record { 
 pub record StandsOn (body : List Stmt) (levels : List Level) (left : List Stmt) (set : check.NameSet) : Type 0 where
   pub now : check.NameSet
   pub stands : FrameStandsAt body levels left now
-  pub all : check.IsWithin set (set_at left now)
+  pub all : check.IsWithin set (judging_set left now)
 
 pub stands-on : {body left : List Stmt} {levels : List Level} {st : Stmt} {now : check.NameSet} → FrameStandsAt body levels (st ∷ left) now → StandsOn body levels left ((judge st).after now)
 stands-on (Outside c) = let o = goes-on c in record { now = o.now; stands = Outside o.comes; all = o.all }

@@ -10,9 +10,9 @@ use Rattle.serial_meaning.specs.Plan.{PlanView}
 use Rattle.serial_meaning.specs.declared.value.Value.{Value}
 use Rattle.strand_moves.specs.declared.cursor.Branch.TheVariants as branch
 use Rattle.strand_moves.specs.declared.cursor.Cursor.{Cursor}
-use Rattle.strand_moves.specs.declared.running.Running.{Running}
+use Rattle.strand_moves.specs.declared.instance_parts.InstanceParts.{InstanceParts}
 use Rattle.strand_moves.specs.Cursors.{branch_of, left_of}
-use Rattle.strand_moves.specs.Running.{machine_of, present_of, statements_of}
+use Rattle.strand_moves.specs.InstanceParts.{machine_of, present_of, statements_of}
 use Rattle.strand_moves.specs.Moves.{acted}
 use Rattle.strand_moves.proofs.Statements.Equations.{went, branch, turn}
 
@@ -20,11 +20,11 @@ branch-if : (e : Expr) (first second : List Stmt) (b : Bool) → branch_of (act.
 branch-if e first second true = refl
 branch-if e first second false = refl
 
-module _ (plan : PlanView) (i : Running) (st : Stmt) (e : Expr) (v : Value) (cursor : Cursor) (known : value_of e i.top.env.variables ≡ Ok v) where
+module _ (plan : PlanView) (i : InstanceParts) (st : Stmt) (e : Expr) (v : Value) (cursor : Cursor) (known : value_of e i.top.env.variables ≡ Ok v) where
   abbrev within : List Stmt
   within = statements_of plan i.top
 
-  abbrev pub with_cursor : Running
+  abbrev pub with_cursor : InstanceParts
   with_cursor = record i { top = record i.top { cursor = cursor } }
 
   pub branch-into : (first second : List Stmt) (b : Bool) → b ≡ is_true v → out-Act (out-Stmt st).act ≡ act.If e first second →

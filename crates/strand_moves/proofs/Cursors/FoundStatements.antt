@@ -16,10 +16,10 @@ use Rattle.strand_moves.specs.declared.cursor.Branch.TheVariants as branch
 use Rattle.strand_moves.specs.declared.cursor.Entered.{Entered}
 use Rattle.strand_moves.specs.declared.frame.Frame.{Frame}
 use Rattle.strand_moves.specs.declared.frame.Level.{Level}
-use Rattle.strand_moves.specs.declared.running.Running.{Running}
+use Rattle.strand_moves.specs.declared.instance_parts.InstanceParts.{InstanceParts}
 use Rattle.strand_moves.specs.Cursors.{IsAfterStatement, block_in, block_of, branch_at, branch_of, place_before, scope_at, scope_of}
 use Rattle.strand_moves.specs.Found.{ArePlaces, FindsStatement}
-use Rattle.strand_moves.specs.Running.{AreNamed, IsNamed, block_inside, body_in, body_of, statements_of}
+use Rattle.strand_moves.specs.InstanceParts.{AreNamed, IsNamed, block_inside, body_in, body_of, statements_of}
 
 module _ (is calls : Name → Bool) where
   branch-found : (a : Act-F Act Stmt) (p : Branch) → opened is calls a ≡ true → every_in_block is calls (branch_of a p) ≡ true
@@ -112,5 +112,5 @@ module _ (plan : PlanView) (places : List ℕ) (a : Frame) (all : ArePlaces plac
       after.there
 
 -- the same of an instance's innermost frame
-pub next-found : (plan : PlanView) (places : List ℕ) (i : Running) → ArePlaces places plan → AreNamed plan i → (st : Stmt) → IsAfterStatement (statements_of plan i.top) i.top.cursor st → FindsStatement plan places i.top.env st
+pub next-found : (plan : PlanView) (places : List ℕ) (i : InstanceParts) → ArePlaces places plan → AreNamed plan i → (st : Stmt) → IsAfterStatement (statements_of plan i.top) i.top.cursor st → FindsStatement plan places i.top.env st
 next-found plan places i all named st after = statement-found plan places i.top all (All-head (IsNamed plan) i.top i.below.items named.each) st after

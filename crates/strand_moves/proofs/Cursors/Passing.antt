@@ -7,7 +7,7 @@ use Rattle.serial_meaning.specs.declared.event.Event.{Event}
 use Rattle.strand_meaning.specs.Machine.{Emitted, Machine, end_move, move, statement_move}
 use Rattle.strand_moves.specs.declared.frame.Level.{Level}
 use Rattle.strand_moves.specs.declared.cursor.Cursor.{Cursor}
-use Rattle.strand_moves.specs.declared.running.Running.{Running}
+use Rattle.strand_moves.specs.declared.instance_parts.InstanceParts.{InstanceParts}
 use Rattle.strand_moves.specs.declared.effects.MoveResult.{MoveResult}
 use Rattle.strand_moves.specs.declared.effects.MoveResult.TheVariants as moved
 use Rattle.strand_moves.specs.declared.effects.Effects.TheVariants as effect
@@ -16,13 +16,13 @@ use Rattle.strand_moves.specs.Cursors.{left_of, PassesStatement}
 use Rattle.strand_moves.specs.Moves.{acted, run_of}
 use Rattle.strand_moves.specs.Quick.{EndsFrame, IsSentMove}
 use Rattle.strand_moves.specs.Rows.{ComesToStatement, HasPassedStatement, IsNextStatement, More, Row, RunsOn, Emits, unpassed}
-use Rattle.strand_moves.specs.Running.{IsInstance, KeepsNames, block_inside, body_of, machine_of, path_of, present_of, statements_of}
+use Rattle.strand_moves.specs.InstanceParts.{IsInstance, KeepsNames, block_inside, body_of, machine_of, path_of, present_of, statements_of}
 use Rattle.strand_moves.proofs.Statements.Going.{moves-on}
 use Rattle.strand_moves.proofs.Statements.Naming.{top-named}
 use Rattle.strand_moves.proofs.Statements.QuickLemmas.{cursor-sound, passed-on, quick-showed, with_cursor}
 use Rattle.strand_moves.proofs.OpenScopes.Keeping.{here-is, same-path, stays-instance}
 
-module _ (plan : PlanView) (i : Running) where
+module _ (plan : PlanView) (i : InstanceParts) where
   abbrev with_left : List Stmt → Machine
   with_left left = let m = machine_of plan i in record m { top = record m.top { left = left } }
 
@@ -41,7 +41,7 @@ module _ (plan : PlanView) (i : Running) where
       ∙ ap (λ (left : List Stmt). end_move plan (path_of i) (with_left left) (machine_of plan i).top.levels) (sym none)
 
   module _ (cursor : Cursor) where
-    abbrev pub passed_by : Running
+    abbrev pub passed_by : InstanceParts
     passed_by = record i { top = record i.top { cursor = cursor } }
 
     pub passed-machine : (next : Option Stmt) → IsNextStatement (statements_of plan i.top) i.top.cursor cursor next → unpassed plan passed_by next ≡ machine_of plan i
@@ -57,42 +57,42 @@ module _ (plan : PlanView) (i : Running) where
     passed-has (Some st) sound h = (passed-on plan i _ _ sound h.first, h.after)
 
 -- where moves in a row came to
-module _ {S : Type 0} (after : Event → S → S) (plan : PlanView) (first : Running) (start : S) (now : Running) (sent : S) (next : Option Stmt) (h : ComesToStatement after plan first start now sent next) where
+module _ {S : Type 0} (after : Event → S → S) (plan : PlanView) (first : InstanceParts) (start : S) (now : InstanceParts) (sent : S) (next : Option Stmt) (h : ComesToStatement after plan first start now sent next) where
   pub comes-sound : IsInstance plan now
-  comes-sound = subst (λ (x : Running). IsInstance plan x) (sym h.passed) (passed-sound plan h.before now.top.cursor next h.sound h.at)
+  comes-sound = subst (λ (x : InstanceParts). IsInstance plan x) (sym h.passed) (passed-sound plan h.before now.top.cursor next h.sound h.at)
 
   pub comes-has : HasPassedStatement plan now next
-  comes-has = subst (λ (x : Running). HasPassedStatement plan x next) (sym h.passed) (passed-has plan h.before now.top.cursor next h.sound h.at)
+  comes-has = subst (λ (x : InstanceParts). HasPassedStatement plan x next) (sym h.passed) (passed-has plan h.before now.top.cursor next h.sound h.at)
 
   pub comes-path : path_of now ≡ path_of first
-  comes-path = ap (λ (x : Running). path_of x) h.passed ∙ h.path
+  comes-path = ap (λ (x : InstanceParts). path_of x) h.passed ∙ h.path
 
-  comes-runs : (m : MoveResult) (new : Running) → move plan (path_of now) (unpassed plan now next) ≡ run_of m (machine_of plan new) → RunsOn after plan first start m new sent
+  comes-runs : (m : MoveResult) (new : InstanceParts) → move plan (path_of now) (unpassed plan now next) ≡ run_of m (machine_of plan new) → RunsOn after plan first start m new sent
   comes-runs m new e =
-      let same : unpassed plan now next ≡ machine_of plan h.before = ap (λ (x : Running). unpassed plan x next) h.passed ∙ passed-machine plan h.before now.top.cursor next h.at in
-      let path : path_of now ≡ path_of h.before = ap (λ (x : Running). path_of x) h.passed in
+      let same : unpassed plan now next ≡ machine_of plan h.before = ap (λ (x : InstanceParts). unpassed plan x next) h.passed ∙ passed-machine plan h.before now.top.cursor next h.at in
+      let path : path_of now ≡ path_of h.before = ap (λ (x : InstanceParts). path_of x) h.passed in
       record {
         before = h.before;
         row = h.row;
         last = ap (λ (n : Machine). move plan (path_of h.before) n) (sym same) ∙ ap (λ (p : List ℕ). move plan p (unpassed plan now next)) (sym path) ∙ e;
       }
 
-  pub comes-moved : {E : Type 0} (r : Result MoveResult E) (new : Running) → IfOk r (λ m. move plan (path_of now) (unpassed plan now next) ≡ run_of m (machine_of plan new)) → IfOk r (λ m. RunsOn after plan first start m new sent)
+  pub comes-moved : {E : Type 0} (r : Result MoveResult E) (new : InstanceParts) → IfOk r (λ m. move plan (path_of now) (unpassed plan now next) ≡ run_of m (machine_of plan new)) → IfOk r (λ m. RunsOn after plan first start m new sent)
   comes-moved (Ok m) new e = comes-runs m new e
   comes-moved (Err e) new h = tt
 
 -- the same text
-pub text-same : (plan : PlanView) (old new : Running) → new.top.function ≡ old.top.function → new.top.levels.items ≡ old.top.levels.items → statements_of plan new.top ≡ statements_of plan old.top
+pub text-same : (plan : PlanView) (old new : InstanceParts) → new.top.function ≡ old.top.function → new.top.levels.items ≡ old.top.levels.items → statements_of plan new.top ≡ statements_of plan old.top
 text-same plan old new function levels =
     ap (λ (ls : List Level). block_inside (body_of plan new.top.function) (reverse ls)) levels ∙ ap (λ (f : ℕ). block_inside (body_of plan f) (reverse old.top.levels.items)) function
 
 -- a statement whose step was taken back after moves in a row, and that the cursor still stands after
-pub comes-undone : {S : Type 0} (after : Event → S → S) (plan : PlanView) (first : Running) (start : S) (i : Running) (sent : S) → Row after plan first start i sent → IsInstance plan i → path_of i ≡ path_of first → (st : Stmt) (cursor : Cursor) (n : ℕ) → PassesStatement (statements_of plan i.top) i.top.cursor cursor st → n + 1 ≡ i.steps →
-    (paid : Running) → paid ≡ with_cursor plan i n cursor → (last : Running) → last ≡ record paid { steps = paid.steps + 1 } → (heard : S) → heard ≡ sent → ComesToStatement after plan first start last heard (Some st)
+pub comes-undone : {S : Type 0} (after : Event → S → S) (plan : PlanView) (first : InstanceParts) (start : S) (i : InstanceParts) (sent : S) → Row after plan first start i sent → IsInstance plan i → path_of i ≡ path_of first → (st : Stmt) (cursor : Cursor) (n : ℕ) → PassesStatement (statements_of plan i.top) i.top.cursor cursor st → n + 1 ≡ i.steps →
+    (paid : InstanceParts) → paid ≡ with_cursor plan i n cursor → (last : InstanceParts) → last ≡ record paid { steps = paid.steps + 1 } → (heard : S) → heard ≡ sent → ComesToStatement after plan first start last heard (Some st)
 comes-undone {S = S} after plan first start i sent row sound path st cursor n passes less paid same last back heard is =
     let undone : last ≡ record i { top = record i.top { cursor = cursor } } =
-    back ∙ ap (λ (x : Running). let y : Running = record x { steps = x.steps + 1 } in y) same ∙ ap (λ (k : ℕ). let y : Running = record i { steps = k; top = record i.top { cursor = cursor } } in y) less in
-    subst (λ (x : Running). ComesToStatement after plan first start x heard (Some st)) (sym undone) (record {
+    back ∙ ap (λ (x : InstanceParts). let y : InstanceParts = record x { steps = x.steps + 1 } in y) same ∙ ap (λ (k : ℕ). let y : InstanceParts = record i { steps = k; top = record i.top { cursor = cursor } } in y) less in
+    subst (λ (x : InstanceParts). ComesToStatement after plan first start x heard (Some st)) (sym undone) (record {
       before = i;
       row = subst (λ (x : S). Row after plan first start i x) (sym is) row;
       sound = sound;
@@ -102,39 +102,39 @@ comes-undone {S = S} after plan first start i sent row sound path st cursor n pa
     })
 
 -- moves in a row and one more, after which the instance is sound and on its path
-pub record RowOn {S : Type 0} (after : Event → S → S) (plan : PlanView) (first : Running) (start : S) (i new : Running) (heard : S) : Type 0 where
+pub record RowOn {S : Type 0} (after : Event → S → S) (plan : PlanView) (first : InstanceParts) (start : S) (i new : InstanceParts) (heard : S) : Type 0 where
   pub row : Row after plan first start new heard
   pub sound : IsInstance plan new
   pub path : path_of new ≡ path_of i
 
 -- where no statement of a frame is left
-module _ {S : Type 0} (after : Event → S → S) (plan : PlanView) (first : Running) (start : S) (i : Running) (sent : S) (row : Row after plan first start i sent) (sound : IsInstance plan i) (cursor : Cursor) (none : IsNextStatement (statements_of plan i.top) i.top.cursor cursor None) where
+module _ {S : Type 0} (after : Event → S → S) (plan : PlanView) (first : InstanceParts) (start : S) (i : InstanceParts) (sent : S) (row : Row after plan first start i sent) (sound : IsInstance plan i) (cursor : Cursor) (none : IsNextStatement (statements_of plan i.top) i.top.cursor cursor None) where
   same-end : move plan (path_of i) (machine_of plan i) ≡ move plan (path_of i) (machine_of plan (passed_by plan i cursor))
   same-end = ap (λ (left : List Stmt). move plan (path_of i) (with_left plan i left)) (none.0 ∙ sym none.1)
 
-  ended-on : (new : Running) (heard : S) → IsSentMove after plan (passed_by plan i cursor) sent new heard → IsInstance plan new → path_of new ≡ path_of i → RowOn after plan first start i new heard
+  ended-on : (new : InstanceParts) (heard : S) → IsSentMove after plan (passed_by plan i cursor) sent new heard → IsInstance plan new → path_of new ≡ path_of i → RowOn after plan first start i new heard
   ended-on new heard (inl h) kept path =
       record { row = More i new heard (subst (λ (x : S). Row after plan first start i x) (sym h.1) row) (same-end ∙ h.0) path kept; sound = kept; path = path }
   ended-on new heard (inr h) kept path = record { row = Emits i new sent heard h.0 row (same-end ∙ h.1) h.2 path kept; sound = kept; path = path }
 
   -- a move of its end
-  pub row-ended : (new : Running) (heard : S) → EndsFrame after plan (passed_by plan i cursor) sent new heard true → RowOn after plan first start i new heard
+  pub row-ended : (new : InstanceParts) (heard : S) → EndsFrame after plan (passed_by plan i cursor) sent new heard true → RowOn after plan first start i new heard
   row-ended new heard h = ended-on new heard h.0 h.1 h.2
 
   -- and where the row ends there
-  pub comes-ended : path_of i ≡ path_of first → (last : Running) (heard : S) → EndsFrame after plan (passed_by plan i cursor) sent last heard false → ComesToStatement after plan first start last heard None
+  pub comes-ended : path_of i ≡ path_of first → (last : InstanceParts) (heard : S) → EndsFrame after plan (passed_by plan i cursor) sent last heard false → ComesToStatement after plan first start last heard None
   comes-ended path last heard h =
-      subst (λ (x : Running). ComesToStatement after plan first start x heard None) (sym h.0)
+      subst (λ (x : InstanceParts). ComesToStatement after plan first start x heard None) (sym h.0)
       (record { before = i; row = subst (λ (x : S). Row after plan first start i x) (sym h.1) row; sound = sound; path = path; passed = refl; at = none })
 
-module _ {S : Type 0} (after : Event → S → S) (plan : PlanView) (first : Running) (start : S) (i : Running) (sent : S) (row : Row after plan first start i sent) (sound : IsInstance plan i) (st : Stmt) (cursor : Cursor) (n : ℕ) (passes : PassesStatement (statements_of plan i.top) i.top.cursor cursor st) (less : n + 1 ≡ i.steps) where
-  abbrev paid : Running
+module _ {S : Type 0} (after : Event → S → S) (plan : PlanView) (first : InstanceParts) (start : S) (i : InstanceParts) (sent : S) (row : Row after plan first start i sent) (sound : IsInstance plan i) (st : Stmt) (cursor : Cursor) (n : ℕ) (passes : PassesStatement (statements_of plan i.top) i.top.cursor cursor st) (less : n + 1 ≡ i.steps) where
+  abbrev paid : InstanceParts
   paid = with_cursor plan i n cursor
 
   paid-named : KeepsNames plan i paid
   paid-named = top-named plan i paid refl refl refl refl
 
-  sent-on : (new : Running) (heard : S) (e : Event) → heard ≡ after e sent → acted plan (present_of paid) (machine_of plan paid) st (out-Act (out-Stmt st).act) ≡ run_of (moved.Went (effect.Emitted e)) (machine_of plan new) →
+  sent-on : (new : InstanceParts) (heard : S) (e : Event) → heard ≡ after e sent → acted plan (present_of paid) (machine_of plan paid) st (out-Act (out-Stmt st).act) ≡ run_of (moved.Went (effect.Emitted e)) (machine_of plan new) →
       KeepsNames plan paid new → Stays paid new → Costs paid new → RowOn after plan first start i new heard
   sent-on new heard e is acts named stays few =
       let alike : Stays i new = record { trail = stays.trail; scopes = stays.scopes; leaving = stays.leaving } in
@@ -146,14 +146,14 @@ module _ {S : Type 0} (after : Event → S → S) (plan : PlanView) (first : Run
         path = path;
       }
 
-  pub row-sent : (before : Running) → before ≡ paid → (new : Running) (heard : S) (e : Event) → heard ≡ after e sent → acted plan (present_of before) (machine_of plan before) st (out-Act (out-Stmt st).act) ≡ run_of (moved.Went (effect.Emitted e)) (machine_of plan new) →
+  pub row-sent : (before : InstanceParts) → before ≡ paid → (new : InstanceParts) (heard : S) (e : Event) → heard ≡ after e sent → acted plan (present_of before) (machine_of plan before) st (out-Act (out-Stmt st).act) ≡ run_of (moved.Went (effect.Emitted e)) (machine_of plan new) →
       KeepsNames plan before new → Stays before new → Costs before new → RowOn after plan first start i new heard
   row-sent before same new heard e is acts named stays few =
       sent-on new heard e is
-      (subst (λ (x : Running). acted plan (present_of x) (machine_of plan x) st (out-Act (out-Stmt st).act) ≡ run_of (moved.Went (effect.Emitted e)) (machine_of plan new)) same acts)
-      (subst (λ (x : Running). KeepsNames plan x new) same named) (subst (λ (x : Running). Stays x new) same stays) (subst (λ (x : Running). Costs x new) same few)
+      (subst (λ (x : InstanceParts). acted plan (present_of x) (machine_of plan x) st (out-Act (out-Stmt st).act) ≡ run_of (moved.Went (effect.Emitted e)) (machine_of plan new)) same acts)
+      (subst (λ (x : InstanceParts). KeepsNames plan x new) same named) (subst (λ (x : InstanceParts). Stays x new) same stays) (subst (λ (x : InstanceParts). Costs x new) same few)
 
-  called-on : (new : Running) (heard : S) → heard ≡ sent → acted plan (present_of paid) (machine_of plan paid) st (out-Act (out-Stmt st).act) ≡ run_of (moved.Went effect.Nothing) (machine_of plan new) →
+  called-on : (new : InstanceParts) (heard : S) → heard ≡ sent → acted plan (present_of paid) (machine_of plan paid) st (out-Act (out-Stmt st).act) ≡ run_of (moved.Went effect.Nothing) (machine_of plan new) →
       KeepsNames plan paid new → Stays paid new → Costs paid new → RowOn after plan first start i new heard
   called-on new heard is acts named stays few =
       let alike : Stays i new = record { trail = stays.trail; scopes = stays.scopes; leaving = stays.leaving } in
@@ -165,9 +165,9 @@ module _ {S : Type 0} (after : Event → S → S) (plan : PlanView) (first : Run
         path = path;
       }
 
-  pub row-called : (before : Running) → before ≡ paid → (new : Running) (heard : S) → heard ≡ sent → acted plan (present_of before) (machine_of plan before) st (out-Act (out-Stmt st).act) ≡ run_of (moved.Went effect.Nothing) (machine_of plan new) →
+  pub row-called : (before : InstanceParts) → before ≡ paid → (new : InstanceParts) (heard : S) → heard ≡ sent → acted plan (present_of before) (machine_of plan before) st (out-Act (out-Stmt st).act) ≡ run_of (moved.Went effect.Nothing) (machine_of plan new) →
       KeepsNames plan before new → Stays before new → Costs before new → RowOn after plan first start i new heard
   row-called before same new heard is acts named stays few =
       called-on new heard is
-      (subst (λ (x : Running). acted plan (present_of x) (machine_of plan x) st (out-Act (out-Stmt st).act) ≡ run_of (moved.Went effect.Nothing) (machine_of plan new)) same acts)
-      (subst (λ (x : Running). KeepsNames plan x new) same named) (subst (λ (x : Running). Stays x new) same stays) (subst (λ (x : Running). Costs x new) same few)
+      (subst (λ (x : InstanceParts). acted plan (present_of x) (machine_of plan x) st (out-Act (out-Stmt st).act) ≡ run_of (moved.Went effect.Nothing) (machine_of plan new)) same acts)
+      (subst (λ (x : InstanceParts). KeepsNames plan x new) same named) (subst (λ (x : InstanceParts). Stays x new) same stays) (subst (λ (x : InstanceParts). Costs x new) same few)

@@ -7,8 +7,8 @@ use Rattle.serial_meaning.specs.Plan.{PlanView}
 use Rattle.strand_meaning.specs.Machine.{Frame, Machine}
 use Rattle.strand_meaning.specs.Task.{changed, changed_at}
 use Rattle.strand_moves.specs.declared.frame.Frame as own
-use Rattle.strand_moves.specs.declared.running.Running.{Running}
-use Rattle.strand_moves.specs.Running.{machine_of, frame_of}
+use Rattle.strand_moves.specs.declared.instance_parts.InstanceParts.{InstanceParts}
+use Rattle.strand_moves.specs.InstanceParts.{machine_of, frame_of}
 
 module _ {X : Type 0} (view : X → Frame) (change : Frame → Frame) where
   at-top : (b : Bool) (h : ℕ) (a : Frame) (below : List Frame) → nat_eq h (length below) ≡ b → changed_at h change (a ∷ below) ≡ (if b then change a ∷ below else a ∷ changed_at h change below)
@@ -74,7 +74,7 @@ module _ (change : Frame → Frame) where
   below-changed b h m below e f g =
       sym (ap (λ (t : Bool). if t then record m { top = change m.top } else record m { below = changed_at h change m.below }) (e ∙ f) ∙ ap (λ (l : List Frame). record m { below = l }) g)
 
-module _ (plan : PlanView) (change : Frame → Frame) (h : ℕ) (i : Running) where
+module _ (plan : PlanView) (change : Frame → Frame) (h : ℕ) (i : InstanceParts) where
   other : (n : ℕ) → h < n ⊎ n < h → nat_eq h n ≡ false
   other n l = grind (arith, eq-eqb)
 

@@ -19,13 +19,13 @@ use Rattle.strand_values.specs.Environments.{EnvironmentView}
 use Rattle.strand_moves.specs.declared.frame.Frame.{Frame}
 use Rattle.strand_moves.specs.declared.frame.Level.{Level}
 use Rattle.script_grammar.specs.declared.tree.Stmt.{Stmt}
-use Rattle.strand_moves.specs.declared.running.Running.{Running}
+use Rattle.strand_moves.specs.declared.instance_parts.InstanceParts.{InstanceParts}
 use Rattle.strand_values.specs.declared.halt.Halt as values
 use Rattle.strand_values.specs.declared.halt.Halt.TheVariants as halt
 use Rattle.strand_moves.specs.Acts.{IsCallee, StaysUnlessMemory, Stays}
 use Rattle.strand_moves.specs.Quick.{quiet}
 use Rattle.strand_moves.specs.Cursors.{left_of}
-use Rattle.strand_moves.specs.Running.{frame_of, block_inside, body_in, body_of, levels_of, machine_of, scopes_of}
+use Rattle.strand_moves.specs.InstanceParts.{frame_of, block_inside, body_in, body_of, levels_of, machine_of, scopes_of}
 use Rattle.strand_moves.proofs.Statements.Equations.{callee}
 
 -- Tests
@@ -42,7 +42,7 @@ is_not_below a b h = by_test (nat_lt a b) refl
 
 -- Machines
 
-pub calls-open : (plan : PlanView) (i : Running) → length (machine_of plan i).below ≡ length i.below.items
+pub calls-open : (plan : PlanView) (i : InstanceParts) → length (machine_of plan i).below ≡ length i.below.items
 calls-open plan i = length-map (reverse i.below.items) (frame_of plan false) ∙ length-reverse i.below.items
 
 -- the frames below, with one more
@@ -65,18 +65,18 @@ module _ (plan : PlanView) (number : ℕ) (f : Function) (vs : List Value) (name
       ap (λ (sts : List Stmt). left_of sts a.cursor) text ∙ ap (λ (n : ℕ). left_of (body_of plan n) a.cursor) is.function ∙ ap (λ (o : Option Function). left_of (body_in o) a.cursor) h ∙ is.left f.body in
       rw (left, levels, is.function, is.returning, is.env, is.spawned, is.faulted, is.target) refl
 
-  pub machine-begun : (old new : Running) → IsCallee number with_params target new.top → new.below.items ≡ old.below.items ++ old.top ∷ [] → new.rank ≡ old.rank → new.steps ≡ old.steps → new.leaving ≡ old.leaving → old.leaving ≡ false →
+  pub machine-begun : (old new : InstanceParts) → IsCallee number with_params target new.top → new.below.items ≡ old.below.items ++ old.top ∷ [] → new.rank ≡ old.rank → new.steps ≡ old.steps → new.leaving ≡ old.leaving → old.leaving ≡ false →
       function_at (functions_of plan) number ≡ Some f →
       machine_of plan new ≡ record { rank = old.rank; steps = old.steps; top = callee target number f vs; below = frame_of plan old.leaving old.top ∷ map (frame_of plan false) (reverse old.below.items) }
   machine-begun old new is b r s l e h = rw (l, e, callee-begun new.top is h, b, below-more plan old.below.items old.top, r, s) refl
 
   -- an instance before its first move
-  pub first-begun : (i : Running) → IsCallee number with_params target i.top → i.below.items ≡ [] → i.rank ≡ 0 → i.steps ≡ plan.limits.budget → i.leaving ≡ false → target ≡ None → function_at (functions_of plan) number ≡ Some f →
+  pub first-begun : (i : InstanceParts) → IsCallee number with_params target i.top → i.below.items ≡ [] → i.rank ≡ 0 → i.steps ≡ plan.limits.budget → i.leaving ≡ false → target ≡ None → function_at (functions_of plan) number ≡ Some f →
       begun plan number vs ≡ Stands (machine_of plan i)
   first-begun i is alone rank steps on to there = rw (there, on, callee-begun i.top is there, alone, rank, steps, to) refl
 
 -- a call that begins opens no scope and leaves none
-pub begun-stays : (number : ℕ) (env : EnvironmentView) (target : Option Name) (old new : Running) → IsCallee number env target new.top → new.below.items ≡ old.below.items ++ old.top ∷ [] → new.trail ≡ old.trail → new.leaving ≡ old.leaving → Stays old new
+pub begun-stays : (number : ℕ) (env : EnvironmentView) (target : Option Name) (old new : InstanceParts) → IsCallee number env target new.top → new.below.items ≡ old.below.items ++ old.top ∷ [] → new.trail ≡ old.trail → new.leaving ≡ old.leaving → Stays old new
 begun-stays number env target old new is b t l =
     record {
       trail = t;
@@ -108,7 +108,7 @@ module _ (names : List (List ℕ)) (params : List Param) where
   called-fault args old kind h = fault-by (values_of args old) kind h
 
 -- what a call that shows nothing leaves
-pub stands-quiet : (old new : Running) (r : Result (Unit {0}) values.Halt) → Stays old new → StaysUnlessMemory old new (quiet r)
+pub stands-quiet : (old new : InstanceParts) (r : Result (Unit {0}) values.Halt) → Stays old new → StaysUnlessMemory old new (quiet r)
 stands-quiet old new (Ok u) s = s
 stands-quiet old new (Err (halt.Fault kind)) s = s
 stands-quiet old new (Err halt.Memory) s = tt

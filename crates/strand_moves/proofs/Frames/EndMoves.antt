@@ -9,33 +9,33 @@ use Rattle.strand_meaning.specs.Machine.{end_move, move, move_at, return_move}
 use Rattle.strand_values.specs.declared.halt.Halt as values
 use Rattle.strand_values.specs.declared.halt.Halt.TheVariants as halt
 use Rattle.strand_moves.specs.declared.frame.Level.{Level}
-use Rattle.strand_moves.specs.declared.running.Running.{Running}
+use Rattle.strand_moves.specs.declared.instance_parts.InstanceParts.{InstanceParts}
 use Rattle.strand_moves.specs.declared.effects.Effects.TheVariants as effect
 use Rattle.strand_moves.specs.declared.effects.MoveResult.TheVariants as moved
 use Rattle.strand_moves.specs.Acts.{StaysUnlessMemory, Stays}
 use Rattle.strand_moves.specs.Cursors.{left_of}
 use Rattle.strand_moves.specs.Moves.{Makes, present_pedigree, run_of}
 use Rattle.strand_moves.specs.Quick.{EndsFrame, IsEmittedTo, IsSentMove, IsWent, Shortens, quiet, emitted_if_any}
-use Rattle.strand_moves.specs.Running.{IsInstance, KeepsNames, body_of, levels_of, machine_of, open_scopes, path_of, present_of, statements_of}
+use Rattle.strand_moves.specs.InstanceParts.{IsInstance, KeepsNames, body_of, levels_of, machine_of, open_scopes, path_of, present_of, statements_of}
 use Rattle.strand_moves.proofs.OpenScopes.Keeping.{same-path, stays-instance}
 
 -- A frame's return is paid.
-abbrev pub IsReturning : Running → Running → Type 0
+abbrev pub IsReturning : InstanceParts → InstanceParts → Type 0
 IsReturning old new = new ≡ record old { steps = new.steps; rank = new.rank; top = record old.top { returning = true } }
 
-pub returning-stays : (old new : Running) → IsReturning old new → Stays old new
+pub returning-stays : (old new : InstanceParts) → IsReturning old new → Stays old new
 returning-stays old new is =
-    record { trail = ap (λ (x : Running). x.trail) is; scopes = ap (λ (x : Running). open_scopes x) is; leaving = ap (λ (x : Running). x.leaving) is }
+    record { trail = ap (λ (x : InstanceParts). x.trail) is; scopes = ap (λ (x : InstanceParts). open_scopes x) is; leaving = ap (λ (x : InstanceParts). x.leaving) is }
 
 -- what a return keeps, by what it told
-pub emitted_if_any-stands : (old new : Running) (done : Result (Option Event) values.Halt) → OnOk done (IsReturning old new) → ((kind : FaultKind) → done ≡ Err (halt.Fault kind) → new ≡ old) → StaysUnlessMemory old new (emitted_if_any done)
+pub emitted_if_any-stands : (old new : InstanceParts) (done : Result (Option Event) values.Halt) → OnOk done (IsReturning old new) → ((kind : FaultKind) → done ≡ Err (halt.Fault kind) → new ≡ old) → StaysUnlessMemory old new (emitted_if_any done)
 emitted_if_any-stands old new (Ok None) is same = returning-stays old new is
 emitted_if_any-stands old new (Ok (Some e)) is same = returning-stays old new is
-emitted_if_any-stands old new (Err (halt.Fault kind)) is same = subst (λ (x : Running). Stays old x) (sym (same kind refl)) (record { trail = refl; scopes = refl; leaving = refl })
+emitted_if_any-stands old new (Err (halt.Fault kind)) is same = subst (λ (x : InstanceParts). Stays old x) (sym (same kind refl)) (record { trail = refl; scopes = refl; leaving = refl })
 emitted_if_any-stands old new (Err halt.Memory) is same = tt
 
 -- by what the call at a frame's end answered
-module _ {S : Type 0} (after : Event → S → S) (plan : PlanView) (old new : Running) (from to : S) where
+module _ {S : Type 0} (after : Event → S → S) (plan : PlanView) (old new : InstanceParts) (from to : S) where
   pub did-end : (did : Bool) → did ≡ true → EndsFrame after plan old from new to did → EndsFrame after plan old from new to true
   did-end did e h = subst (EndsFrame after plan old from new to) e h
 
@@ -43,7 +43,7 @@ module _ {S : Type 0} (after : Event → S → S) (plan : PlanView) (old new : R
   did-not-end did e h = subst (EndsFrame after plan old from new to) e h
 
 -- where no statement and no scope of a frame is left
-module _ (plan : PlanView) (i : Running) (h : IsInstance plan i) (on : i.leaving ≡ false) (none : left_of (statements_of plan i.top) i.top.cursor ≡ []) (outside : i.top.levels.items ≡ []) where
+module _ (plan : PlanView) (i : InstanceParts) (h : IsInstance plan i) (on : i.leaving ≡ false) (none : left_of (statements_of plan i.top) i.top.cursor ≡ []) (outside : i.top.levels.items ≡ []) where
   ends-by : (returning : Bool) → i.top.returning ≡ returning → move plan (path_of i) (machine_of plan i) ≡ return_move plan (path_of i) (machine_of plan i) returning
   ends-by returning is =
       let m = machine_of plan i in
@@ -51,7 +51,7 @@ module _ (plan : PlanView) (i : Running) (h : IsInstance plan i) (on : i.leaving
       ∙ ap (λ (ls : List Level). end_move plan (path_of i) m (levels_of (body_of plan i.top.function) (reverse ls))) outside
       ∙ ap (λ (b : Bool). return_move plan (path_of i) m b) is
 
-  module _ {S : Type 0} (after : Event → S → S) (from to : S) (new : Running) (kept : KeepsNames plan i new) (less : new.rank + new.steps ≤ i.rank + i.steps) where
+  module _ {S : Type 0} (after : Event → S → S) (from to : S) (new : InstanceParts) (kept : KeepsNames plan i new) (less : new.rank + new.steps ≤ i.rank + i.steps) where
     ends : Stays i new → IsSentMove after plan i from new to → Shortens i new → EndsFrame after plan i from new to true
     ends stays sent shorter = (sent, stays-instance plan i new h on stays kept less, same-path i new stays, shorter)
 
@@ -69,7 +69,7 @@ module _ (plan : PlanView) (i : Running) (h : IsInstance plan i) (on : i.leaving
     -- its return was paid
     module _ (off : i.top.returning ≡ false) (is : IsReturning i new) (paid : new.steps + 1 ≡ i.steps) where
       shorter : Shortens i new
-      shorter = let frames = ap (λ (x : Running). length x.below.items) is in omega (arith, paid, frames)
+      shorter = let frames = ap (λ (x : InstanceParts). length x.below.items) is in omega (arith, paid, frames)
 
       pub returned-alone : return_move plan (path_of i) (machine_of plan i) false ≡ run_of (moved.Went effect.Nothing) (machine_of plan new) → to ≡ from → EndsFrame after plan i from new to true
       returned-alone moves still = ends (returning-stays i new is) (inl (ends-by false off ∙ moves, still)) shorter

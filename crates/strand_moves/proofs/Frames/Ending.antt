@@ -10,10 +10,10 @@ use Rattle.script_check.specs.Spawns.{spawns_in}
 use Rattle.strand_meaning.specs.Machine.{Stands, Gives, Emitted, back, here_of, sync_effects, with_scalar, return_move, Effect, Machine, Reached}
 use Rattle.strand_values.specs.Environments.{EnvironmentView}
 use Rattle.strand_moves.specs.declared.frame.Frame.{Frame}
-use Rattle.strand_moves.specs.declared.running.Running.{Running}
+use Rattle.strand_moves.specs.declared.instance_parts.InstanceParts.{InstanceParts}
 use Rattle.strand_moves.specs.declared.frame.Level.{Level}
 use Rattle.strand_moves.specs.Acts.{Stays, result_of}
-use Rattle.strand_moves.specs.Running.{frame_of, machine_of, path_of, present_of, scopes_of}
+use Rattle.strand_moves.specs.InstanceParts.{frame_of, machine_of, path_of, present_of, scopes_of}
 use Rattle.strand_moves.proofs.Statements.Equations.{faults, went}
 use Rattle.strand_moves.proofs.Frames.CallLemmas.{below-more, scopes-more}
 use Rattle.script_grammar.specs.declared.tree.Function.{Function}
@@ -45,16 +45,16 @@ module _ (plan : PlanView) (path : List ℕ) (m : Machine) where
       rw (h, s)
       (ap (λ (effects : List Effect). went (Emitted (event.Sync (here_of path m ++ m.rank ∷ [])) ∷ effects) (record m { rank = m.rank + 1; steps = n; top = record m.top { returning = true; spawned = false } })) (append-nil (sync_effects m.top.spawned)))
 
-module _ (plan : PlanView) (i : Running) (here : here_of (path_of i) (machine_of plan i) ≡ present_of i) where
+module _ (plan : PlanView) (i : InstanceParts) (here : here_of (path_of i) (machine_of plan i) ≡ present_of i) where
   pub value-fault : (kind : FaultKind) → result_of (function_at (functions_of plan) i.top.function) i.top.env.variables ≡ Err kind → return_move plan (path_of i) (machine_of plan i) true ≡ faults kind (present_of i ++ i.rank ∷ [])
   value-fault kind k =
       by_fault plan (path_of i) (machine_of plan i) (function_at (functions_of plan) i.top.function) refl kind k ∙ ap (λ (p : List ℕ). faults kind (p ++ i.rank ∷ [])) here
 
-  module _ (paid : Running) (n : ℕ) (is-paid : paid ≡ record i { steps = n }) (less : n + 1 ≡ i.steps) where
+  module _ (paid : InstanceParts) (n : ℕ) (is-paid : paid ≡ record i { steps = n }) (less : n + 1 ≡ i.steps) where
     one-more : i.steps ≡ suc n
     one-more = omega arith
 
-    pub return-joined : (new : Running) → spawns_in (function_at (functions_of plan) i.top.function) ≡ true →
+    pub return-joined : (new : InstanceParts) → spawns_in (function_at (functions_of plan) i.top.function) ≡ true →
         new ≡ record paid { rank = paid.rank + 1; top = record paid.top { returning = true; spawned = false } } →
         return_move plan (path_of i) (machine_of plan i) false ≡ went (Emitted (event.Sync (present_of paid ++ paid.rank ∷ [])) ∷ sync_effects paid.top.spawned) (machine_of plan new)
     return-joined new spawns p =
@@ -64,10 +64,10 @@ module _ (plan : PlanView) (i : Running) (here : here_of (path_of i) (machine_of
         let effects = Emitted (event.Sync (present_of i ++ i.rank ∷ [])) ∷ sync_effects i.top.spawned in
         rw is-paid
         (joined-return plan (path_of i) m n one-more spawns ∙ ap (λ (q : List ℕ). went (Emitted (event.Sync (q ++ i.rank ∷ [])) ∷ sync_effects i.top.spawned) next) here
-        ∙ ap (λ (x : Running). went effects (machine_of plan x)) (sym after))
+        ∙ ap (λ (x : InstanceParts). went effects (machine_of plan x)) (sym after))
 
-module _ (plan : PlanView) (i : Running) (v : Value) (known : result_of (function_at (functions_of plan) i.top.function) i.top.env.variables ≡ Ok v) where
-  pub value-received : (rest : List Frame) (caller : Frame) (env : EnvironmentView) (new : Running) → i.below.items ≡ rest ++ caller ∷ [] → env.variables ≡ with_scalar i.top.target v caller.env.variables →
+module _ (plan : PlanView) (i : InstanceParts) (v : Value) (known : result_of (function_at (functions_of plan) i.top.function) i.top.env.variables ≡ Ok v) where
+  pub value-received : (rest : List Frame) (caller : Frame) (env : EnvironmentView) (new : InstanceParts) → i.below.items ≡ rest ++ caller ∷ [] → env.variables ≡ with_scalar i.top.target v caller.env.variables →
       new.rank ≡ i.rank → new.steps ≡ i.steps → new.leaving ≡ false → new.top ≡ record caller { env = env } → new.below.items ≡ rest →
       return_move plan (path_of i) (machine_of plan i) true ≡ reaches (Stands (machine_of plan new))
   value-received rest caller env new b e r s g t l =
@@ -83,7 +83,7 @@ module _ (plan : PlanView) (i : Running) (v : Value) (known : result_of (functio
       ∙ ap (λ (items : List Frame). reaches (back (map (frame_of plan false) (reverse items)) i.top.target v i.rank i.steps)) none
 
 -- the frame below it has the open scopes where it had none
-pub ended-stays : (i new : Running) (rest : List Frame) (caller : Frame) (env : EnvironmentView) → i.top.levels.items ≡ [] → i.below.items ≡ rest ++ caller ∷ [] → new.top ≡ record caller { env = env } → new.below.items ≡ rest →
+pub ended-stays : (i new : InstanceParts) (rest : List Frame) (caller : Frame) (env : EnvironmentView) → i.top.levels.items ≡ [] → i.below.items ≡ rest ++ caller ∷ [] → new.top ≡ record caller { env = env } → new.below.items ≡ rest →
     new.trail ≡ i.trail → new.leaving ≡ i.leaving → Stays i new
 ended-stays i new rest caller env none b t l trail leaving =
     record {

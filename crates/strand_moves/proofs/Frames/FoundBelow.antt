@@ -7,8 +7,8 @@ use Rattle.serial_meaning.specs.Plan.{PlanView}
 use Rattle.strand_meaning.specs.Found.{FindsAt, FindsTargetIn, functions_in}
 use Rattle.strand_meaning.specs.Machine as meaning
 use Rattle.strand_moves.specs.declared.frame.Frame.{Frame}
-use Rattle.strand_moves.specs.declared.running.Running.{Running}
-use Rattle.strand_moves.specs.Running.{frame_of, machine_of}
+use Rattle.strand_moves.specs.declared.instance_parts.InstanceParts.{InstanceParts}
+use Rattle.strand_moves.specs.InstanceParts.{frame_of, machine_of}
 
 module _ (plan : PlanView) (target : Option Name) where
   -- of these frames, the innermost first
@@ -44,7 +44,7 @@ module _ (plan : PlanView) (target : Option Name) where
       by_first true f rest = found-first h x xs y f
       by_first false f rest = found-later h x xs y f rest
 
-  module _ (i : Running) (h : ℕ) (all : FindsAt plan h target (functions_in (machine_of plan i))) where
+  module _ (i : InstanceParts) (h : ℕ) (all : FindsAt plan h target (functions_in (machine_of plan i))) where
     pub found-innermost : h ≡ length i.below.items → FindsTargetIn plan target i.top.function
     found-innermost same = all.0 (same ∙ sym (many (reverse i.below.items) ∙ length-reverse i.below.items))
 

@@ -11,9 +11,9 @@ use Rattle.serial_meaning.specs.Plan.{PlanView, functions_of}
 use Rattle.strand_meaning.specs.Found.{FindsTargetIn, variables_in}
 use Rattle.strand_values.specs.Environments.{FindsExpression}
 use Rattle.strand_moves.specs.declared.frame.Frame.{Frame}
-use Rattle.strand_moves.specs.declared.running.Running.{Running}
+use Rattle.strand_moves.specs.declared.instance_parts.InstanceParts.{InstanceParts}
 use Rattle.strand_moves.specs.Found.{ArePlaces, FindsTarget}
-use Rattle.strand_moves.specs.Running.{AreNamed, IsNamed, IsNamedIn, KeepsNames, TargetsAreNamed}
+use Rattle.strand_moves.specs.InstanceParts.{AreNamed, IsNamed, IsNamedIn, KeepsNames, TargetsAreNamed}
 use Rattle.strand_meaning.proofs.FoundTargets.LeftStatements.{one-of}
 use Rattle.strand_moves.proofs.Statements.Naming.{same-named}
 
@@ -65,18 +65,18 @@ turned-ties xs ys e = turned xs ∙ ap reverse e ∙ sym (turned ys)
 -- Frames
 
 module _ (plan : PlanView) where
-  pub innermost-named : (i : Running) → AreNamed plan i → IsNamed plan i.top
+  pub innermost-named : (i : InstanceParts) → AreNamed plan i → IsNamed plan i.top
   innermost-named i h = All-head (IsNamed plan) i.top i.below.items h.each
 
   -- nothing changed
-  pub still-named : (old new : Running) → new ≡ old → KeepsNames plan old new
-  still-named old new e h = subst (λ (x : Running). AreNamed plan x) (sym e) h
+  pub still-named : (old new : InstanceParts) → new ≡ old → KeepsNames plan old new
+  still-named old new e h = subst (λ (x : InstanceParts). AreNamed plan x) (sym e) h
 
-  pub one-below-named : (i : Running) → AreNamed plan i → (h : ℕ) (a : Frame) → h < length i.below.items → a ≡ get_or i.below.items h a → IsNamed plan a
+  pub one-below-named : (i : InstanceParts) → AreNamed plan i → (h : ℕ) (a : Frame) → h < length i.below.items → a ≡ get_or i.below.items h a → IsNamed plan a
   one-below-named i all h a within there = subst (IsNamed plan) (sym there) (All-get_or (IsNamed plan) i.below.items h a within (All-tail (IsNamed plan) i.top i.below.items all.each))
 
   -- one of those below is changed
-  module _ (i new : Running) (h : ℕ) (old a : Frame) (within : h < length i.below.items) (there : old ≡ get_or i.below.items h old) (function : a.function ≡ old.function) (target : a.target ≡ old.target) (names : a.env.names ≡ old.env.names) where
+  module _ (i new : InstanceParts) (h : ℕ) (old a : Frame) (within : h < length i.below.items) (there : old ≡ get_or i.below.items h old) (function : a.function ≡ old.function) (target : a.target ≡ old.target) (names : a.env.names ≡ old.env.names) where
     its-tie : tie a ≡ tie (get_or i.below.items h a)
     its-tie =
         ap (λ (t : Option Name). (t, a.env.names)) target ∙ ap (λ (ns : List (List ℕ)). (old.target, ns)) names
@@ -96,7 +96,7 @@ module _ (plan : PlanView) where
         }
 
   -- one frame more
-  pub named-begun : (old new : Running) → new.below.items ≡ old.below.items ++ old.top ∷ [] → IsNamed plan new.top → IsNamedIn plan old.top new.top.target → KeepsNames plan old new
+  pub named-begun : (old new : InstanceParts) → new.below.items ≡ old.below.items ++ old.top ∷ [] → IsNamed plan new.top → IsNamedIn plan old.top new.top.target → KeepsNames plan old new
   named-begun old new below is target h =
       record {
         each =
@@ -106,7 +106,7 @@ module _ (plan : PlanView) where
       }
 
   -- those below one that ends
-  module _ (i : Running) (h : AreNamed plan i) (rest : List Frame) (caller : Frame) (there : i.below.items ≡ rest ++ caller ∷ []) where
+  module _ (i : InstanceParts) (h : AreNamed plan i) (rest : List Frame) (caller : Frame) (there : i.below.items ≡ rest ++ caller ∷ []) where
     below-named : All (IsNamed plan) rest × IsNamed plan caller
     below-named = All-pop (IsNamed plan) i.below.items rest (Some caller) there (All-tail (IsNamed plan) i.top i.below.items h.each)
 
@@ -120,7 +120,7 @@ module _ (plan : PlanView) where
     pub value-named : IsNamedIn plan caller i.top.target
     value-named = targets-below.0
 
-    pub named-ended : (new : Running) → new.top.function ≡ caller.function → new.top.target ≡ caller.target → new.top.env.names ≡ caller.env.names → new.below.items ≡ rest → AreNamed plan new
+    pub named-ended : (new : InstanceParts) → new.top.function ≡ caller.function → new.top.target ≡ caller.target → new.top.env.names ≡ caller.env.names → new.below.items ≡ rest → AreNamed plan new
     named-ended new function target names below =
         record {
           each =

@@ -16,14 +16,14 @@ use Rattle.serial_meaning.specs.declared.event.FaultKind.{FaultKind}
 use Rattle.strand_meaning.specs.Machine.{Effect, Machine, Reached, statement_move}
 use Rattle.strand_values.specs.Gives.{Gives}
 use Rattle.strand_values.specs.declared.halt.Halt as values
-use Rattle.strand_moves.specs.declared.running.Running.{Running}
+use Rattle.strand_moves.specs.declared.instance_parts.InstanceParts.{InstanceParts}
 use Rattle.strand_moves.specs.declared.effects.Spawning.{Spawning}
 use Rattle.strand_moves.specs.declared.effects.MoveResult.TheVariants as moved
 use Rattle.strand_moves.specs.declared.effects.Effects.TheVariants as effect
 use Rattle.strand_moves.specs.Acts.{Acts, Costs, IsKept, Stays}
 use Rattle.strand_moves.specs.Moves.{Makes, acted, spawn_to, present_pedigree}
 use Rattle.strand_moves.specs.Rows.{HasPassedStatement}
-use Rattle.strand_moves.specs.Running.{IsInstance, KeepsNames, machine_of, path_of, present_of}
+use Rattle.strand_moves.specs.InstanceParts.{IsInstance, KeepsNames, machine_of, path_of, present_of}
 use Rattle.strand_moves.specs.Spawns.{DoesAs, HasSpawned, spawn_as_move}
 use Rattle.strand_moves.proofs.Cursors.Passing.{next-moves}
 use Rattle.strand_moves.proofs.OpenScopes.Exits.{shows-exit}
@@ -55,15 +55,15 @@ module _ (st : Stmt) where
 
 -- A spawn after the step of its statement
 
-module _ (i : Running) (n : ℕ) (less : n + 1 ≡ i.steps) where
-  abbrev paid : Running
+module _ (i : InstanceParts) (n : ℕ) (less : n + 1 ≡ i.steps) where
+  abbrev paid : InstanceParts
   paid = record i { steps = n }
 
   -- the step is taken back
-  pub spawn-undone : (last : Running) → last ≡ paid → record last { steps = last.steps + 1 } ≡ i
-  spawn-undone last e = ap (λ (x : Running). let r : Running = record x { steps = x.steps + 1 } in r) e ∙ ap (λ (k : ℕ). let r : Running = record i { steps = k } in r) less
+  pub spawn-undone : (last : InstanceParts) → last ≡ paid → record last { steps = last.steps + 1 } ≡ i
+  spawn-undone last e = ap (λ (x : InstanceParts). let r : InstanceParts = record x { steps = x.steps + 1 } in r) e ∙ ap (λ (k : ℕ). let r : InstanceParts = record i { steps = k } in r) less
 
-  module _ (plan : PlanView) (sound : IsInstance plan i) (st : Stmt) (passed : HasPassedStatement plan i (Some st)) (new : Running) where
+  module _ (plan : PlanView) (sound : IsInstance plan i) (st : Stmt) (passed : HasPassedStatement plan i (Some st)) (new : InstanceParts) where
     pub spawn-kept : KeepsNames plan paid new → Stays paid new → Costs paid new → IsKept plan i new
     spawn-kept named stays few = keeps-paid plan i paid n sound passed.0 refl less new named stays few (Ok (moved.Went effect.Nothing))
 

@@ -4,7 +4,7 @@ use Rattle.std.proofs.lemmas.List.{reverse-append}
 use Rattle.script_grammar.specs.declared.tree.Stmt.{Stmt}
 use Rattle.strand_moves.specs.declared.frame.Level.{Level}
 use Rattle.strand_moves.specs.Cursors.{scope_after}
-use Rattle.strand_moves.specs.Running.{block_inside}
+use Rattle.strand_moves.specs.InstanceParts.{block_inside}
 
 -- the block of the innermost of these scopes, which stand the outermost first
 abbrev pub block_from : List Stmt → List Level → List Stmt

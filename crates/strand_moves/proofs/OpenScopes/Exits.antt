@@ -12,7 +12,7 @@ use Rattle.strand_values.specs.Gives.{Gives}
 use Rattle.strand_values.specs.declared.halt.Halt as values
 use Rattle.strand_values.specs.declared.halt.Halt.TheVariants as halt
 use Rattle.strand_moves.specs.declared.effects.MoveResult.{MoveResult}
-use Rattle.strand_moves.specs.declared.running.Running.{Running}
+use Rattle.strand_moves.specs.declared.instance_parts.InstanceParts.{InstanceParts}
 use Rattle.strand_moves.specs.Acts.{IsKept, Keeps}
 use Rattle.strand_moves.specs.Moves.{Makes, Shows}
 use Rattle.strand_moves.specs.Quick.{emitted, quiet}
@@ -52,7 +52,7 @@ module _ (run : Run Effect Fault Reached) (strand : List ℕ) (m : Machine) wher
   shows-made effects (Err halt.Memory) s f a g = tt
 
 -- and what it keeps
-pub keeps-made : {A : Type 0} (plan : PlanView) (old new : Running) (r : Result MoveResult values.Halt) → OnErr r (r ≡ Err halt.Memory) → OnOk r A → (A → IsKept plan old new) → Keeps plan old new r
+pub keeps-made : {A : Type 0} (plan : PlanView) (old new : InstanceParts) (r : Result MoveResult values.Halt) → OnErr r (r ≡ Err halt.Memory) → OnOk r A → (A → IsKept plan old new) → Keeps plan old new r
 keeps-made plan old new (Ok moved) f a g = g a
 keeps-made plan old new (Err (halt.Fault kind)) f a g = absurd (cc)
 keeps-made plan old new (Err halt.Memory) f a g = tt

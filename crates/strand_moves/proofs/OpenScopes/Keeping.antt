@@ -14,10 +14,10 @@ use Rattle.strand_values.specs.declared.halt.Halt as values
 use Rattle.strand_values.specs.declared.halt.Halt.TheVariants as halt
 use Rattle.strand_moves.specs.declared.frame.Frame.{Frame}
 use Rattle.strand_moves.specs.declared.frame.Level.{Level}
-use Rattle.strand_moves.specs.declared.running.Running.{Running}
+use Rattle.strand_moves.specs.declared.instance_parts.InstanceParts.{InstanceParts}
 use Rattle.strand_moves.specs.declared.effects.MoveResult.{MoveResult}
 use Rattle.strand_moves.specs.Acts.{Costs, GoesIn, Keeps, StaysUnlessMemory, Stays}
-use Rattle.strand_moves.specs.Running.{AreAround, IsInstance, IsNamed, IsStrand, KeepsNames, TargetsAreNamed, frame_of, body_of, levels_of, machine_of, rank_bound, open_scopes, path_around, path_of, present_of, ranks_after, scopes_of}
+use Rattle.strand_moves.specs.InstanceParts.{AreAround, IsInstance, IsNamed, IsStrand, KeepsNames, TargetsAreNamed, frame_of, body_of, levels_of, machine_of, rank_bound, open_scopes, path_around, path_of, present_of, ranks_after, scopes_of}
 use Rattle.strand_moves.proofs.Statements.Naming.{top-named}
 
 -- Paths
@@ -45,7 +45,7 @@ module _ (plan : PlanView) where
       ap (λ (p : List ℕ). inside_of p (levels_of (body_of plan a.function) ls)) rest ∙ inside-levels (body_of plan a.function) ls (scopes_of stack) here h
 
   -- the present path is that of the machine
-  pub here-is : (i : Running) → IsInstance plan i → here_of (path_of i) (machine_of plan i) ≡ present_of i
+  pub here-is : (i : InstanceParts) → IsInstance plan i → here_of (path_of i) (machine_of plan i) ≡ present_of i
   here-is i h = present-below (i.top ∷ reverse i.below.items) i.trail.path h.around
 
 -- Frames whose scopes stay
@@ -66,13 +66,13 @@ scopes-set (x ∷ xs) (suc h) a e =
 
 -- What stays
 
-pub same-path : (old new : Running) → Stays old new → path_of new ≡ path_of old
+pub same-path : (old new : InstanceParts) → Stays old new → path_of new ≡ path_of old
 same-path old new s = ap (λ (ls : List Level). path_around ls new.trail.path) s.scopes ∙ ap (λ (t : Trail). path_around (open_scopes old) t.path) s.trail
 
 going-on : (b : Bool) (n : ℕ) → b ≡ false → (if b then 0 else n) ≡ n
 going-on b n e = ap (λ (t : Bool). if t then 0 else n) e
 
-module _ (plan : PlanView) (old new : Running) (h : IsInstance plan old) (on : old.leaving ≡ false) (s : Stays old new) (kept : KeepsNames plan old new) (less : new.rank + new.steps ≤ old.rank + old.steps) where
+module _ (plan : PlanView) (old new : InstanceParts) (h : IsInstance plan old) (on : old.leaving ≡ false) (s : Stays old new) (kept : KeepsNames plan old new) (less : new.rank + new.steps ≤ old.rank + old.steps) where
   stays-few : rank_bound new < 2 ^ 32
   stays-few =
       let few = h.few in
@@ -107,42 +107,42 @@ module _ (plan : PlanView) (old new : Running) (h : IsInstance plan old) (on : o
   keeps-stays (Err halt.Memory) = tt
 
 -- the same where there may have been no memory
-pub keeps-where : (plan : PlanView) (old new : Running) → IsInstance plan old → old.leaving ≡ false → KeepsNames plan old new → new.rank + new.steps ≤ old.rank + old.steps → (result : Result MoveResult values.Halt) → StaysUnlessMemory old new result → Keeps plan old new result
+pub keeps-where : (plan : PlanView) (old new : InstanceParts) → IsInstance plan old → old.leaving ≡ false → KeepsNames plan old new → new.rank + new.steps ≤ old.rank + old.steps → (result : Result MoveResult values.Halt) → StaysUnlessMemory old new result → Keeps plan old new result
 keeps-where plan old new h on kept less (Ok moved) s = keeps-stays plan old new h on s kept less (Ok moved)
 keeps-where plan old new h on kept less (Err (halt.Fault kind)) s = keeps-stays plan old new h on s kept less (Err (halt.Fault kind))
 keeps-where plan old new h on kept less (Err halt.Memory) s = tt
 
-pub stands-still : (old new : Running) → Stays old new → (result : Result MoveResult values.Halt) → StaysUnlessMemory old new result
+pub stands-still : (old new : InstanceParts) → Stays old new → (result : Result MoveResult values.Halt) → StaysUnlessMemory old new result
 stands-still old new s (Ok moved) = s
 stands-still old new s (Err (halt.Fault kind)) = s
 stands-still old new s (Err halt.Memory) = tt
 
-pub stands-same : (old : Running) (result : Result MoveResult values.Halt) → StaysUnlessMemory old old result
+pub stands-same : (old : InstanceParts) (result : Result MoveResult values.Halt) → StaysUnlessMemory old old result
 stands-same old result = stands-still old old (record { trail = refl; scopes = refl; leaving = refl }) result
 
 -- after the step of a statement
-module _ (plan : PlanView) (old paid : Running) (n : ℕ) (h : IsInstance plan old) (on : old.leaving ≡ false) (is-paid : paid ≡ record old { steps = n }) (less : n + 1 ≡ old.steps) where
-  paid-stays : (new : Running) → Stays paid new → Stays old new
+module _ (plan : PlanView) (old paid : InstanceParts) (n : ℕ) (h : IsInstance plan old) (on : old.leaving ≡ false) (is-paid : paid ≡ record old { steps = n }) (less : n + 1 ≡ old.steps) where
+  paid-stays : (new : InstanceParts) → Stays paid new → Stays old new
   paid-stays new s =
-      let P : Running → Type 0 = λ x. Stays x new in
+      let P : InstanceParts → Type 0 = λ x. Stays x new in
       let t = subst P is-paid s in
       record { trail = t.trail; scopes = t.scopes; leaving = t.leaving }
 
-  paid-costs : (new : Running) → Costs paid new → new.rank + new.steps ≤ old.rank + old.steps
-  paid-costs new c = let P : Running → Type 0 = λ x. Costs x new in let d = subst P is-paid c in omega (arith, d, less)
+  paid-costs : (new : InstanceParts) → Costs paid new → new.rank + new.steps ≤ old.rank + old.steps
+  paid-costs new c = let P : InstanceParts → Type 0 = λ x. Costs x new in let d = subst P is-paid c in omega (arith, d, less)
 
-  paid-kept : (new : Running) → KeepsNames plan paid new → KeepsNames plan old new
-  paid-kept new kept h = let P : Running → Type 0 = λ x. KeepsNames plan x new in subst P is-paid kept (top-named plan old (record old { steps = n }) refl refl refl refl h)
+  paid-kept : (new : InstanceParts) → KeepsNames plan paid new → KeepsNames plan old new
+  paid-kept new kept h = let P : InstanceParts → Type 0 = λ x. KeepsNames plan x new in subst P is-paid kept (top-named plan old (record old { steps = n }) refl refl refl refl h)
 
-  pub keeps-paid : (new : Running) → KeepsNames plan paid new → Stays paid new → Costs paid new → (result : Result MoveResult values.Halt) → Keeps plan old new result
+  pub keeps-paid : (new : InstanceParts) → KeepsNames plan paid new → Stays paid new → Costs paid new → (result : Result MoveResult values.Halt) → Keeps plan old new result
   keeps-paid new kept s c result = keeps-stays plan old new h on (paid-stays new s) (paid-kept new kept) (paid-costs new c) result
 
-  pub keeps-unless : (new : Running) → KeepsNames plan paid new → Costs paid new → (result : Result MoveResult values.Halt) → StaysUnlessMemory paid new result → Keeps plan old new result
+  pub keeps-unless : (new : InstanceParts) → KeepsNames plan paid new → Costs paid new → (result : Result MoveResult values.Halt) → StaysUnlessMemory paid new result → Keeps plan old new result
   keeps-unless new kept c (Ok moved) s = keeps-paid new kept s c (Ok moved)
   keeps-unless new kept c (Err (halt.Fault kind)) s = keeps-paid new kept s c (Err (halt.Fault kind))
   keeps-unless new kept c (Err halt.Memory) s = tt
 
-  into-instance : (new : Running) → KeepsNames plan old new → GoesIn plan (record old { steps = n }) new → IsInstance plan new
+  into-instance : (new : InstanceParts) → KeepsNames plan old new → GoesIn plan (record old { steps = n }) new → IsInstance plan new
   into-instance new kept g =
       let few = h.few in
       let before = going-on old.leaving old.rank on in
@@ -158,23 +158,23 @@ module _ (plan : PlanView) (old paid : Running) (n : ℕ) (h : IsInstance plan o
         named = kept h.named;
       }
 
-  keeps-into-at : (new : Running) → KeepsNames plan old new → (result : Result MoveResult values.Halt) → IfOk result (λ _. GoesIn plan (record old { steps = n }) new) → ((kind : FaultKind) → result ≡ Err (halt.Fault kind) → new ≡ record old { steps = n }) → Keeps plan old new result
+  keeps-into-at : (new : InstanceParts) → KeepsNames plan old new → (result : Result MoveResult values.Halt) → IfOk result (λ _. GoesIn plan (record old { steps = n }) new) → ((kind : FaultKind) → result ≡ Err (halt.Fault kind) → new ≡ record old { steps = n }) → Keeps plan old new result
   keeps-into-at new kept (Ok moved) g same = record { instance = into-instance new kept g; path = ap (λ (ls : List Level). path_around ls new.trail.path) g.scopes }
   keeps-into-at new kept (Err (halt.Fault kind)) g same =
-      let s : Stays old new = subst (λ (x : Running). Stays old x) (sym (same kind refl)) (record { trail = refl; scopes = refl; leaving = refl }) in
-      let rank = ap (λ (x : Running). x.rank) (same kind refl) in
-      let steps = ap (λ (x : Running). x.steps) (same kind refl) in
+      let s : Stays old new = subst (λ (x : InstanceParts). Stays old x) (sym (same kind refl)) (record { trail = refl; scopes = refl; leaving = refl }) in
+      let rank = ap (λ (x : InstanceParts). x.rank) (same kind refl) in
+      let steps = ap (λ (x : InstanceParts). x.steps) (same kind refl) in
       keeps-stays plan old new h on s kept (omega (arith, rank, steps, less)) (Err (halt.Fault kind))
   keeps-into-at new kept (Err halt.Memory) g same = tt
 
-  pub keeps-into : (new : Running) → KeepsNames plan paid new → (result : Result MoveResult values.Halt) → IfOk result (λ _. GoesIn plan paid new) → ((kind : FaultKind) → result ≡ Err (halt.Fault kind) → new ≡ paid) → Keeps plan old new result
+  pub keeps-into : (new : InstanceParts) → KeepsNames plan paid new → (result : Result MoveResult values.Halt) → IfOk result (λ _. GoesIn plan paid new) → ((kind : FaultKind) → result ≡ Err (halt.Fault kind) → new ≡ paid) → Keeps plan old new result
   keeps-into new kept result g same =
-      let P : Running → Type 0 = λ x. IfOk result (λ _. GoesIn plan x new) in
+      let P : InstanceParts → Type 0 = λ x. IfOk result (λ _. GoesIn plan x new) in
       keeps-into-at new (paid-kept new kept) result (subst P is-paid g) (λ kind e. same kind e ∙ is-paid)
 
 -- An instance of which frames were changed, but for their places
 
-module _ (i : Running) (below : List Frame) (same : scopes_of (reverse below) ≡ scopes_of (reverse i.below.items)) where
+module _ (i : InstanceParts) (below : List Frame) (same : scopes_of (reverse below) ≡ scopes_of (reverse i.below.items)) where
   changed-scopes : scopes_of (i.top ∷ reverse below) ≡ open_scopes i
   changed-scopes = ap (λ (ls : List Level). reverse i.top.levels.items ++ ls) same
 
@@ -188,7 +188,7 @@ module _ (i : Running) (below : List Frame) (same : scopes_of (reverse below) �
   changed-around plan h = subst (λ (ls : List Level). AreAround plan ls i.trail.path) (sym changed-scopes) h
 
 -- an instance before its first move
-pub first-sound : (plan : PlanView) (i : Running) → FitsGamma plan.gamma i.trail → length i.trail.path < length plan.gamma → i.rank ≡ 0 → i.steps < 2 ^ 32 → i.leaving ≡ false → i.top.levels.items ≡ [] → i.below.items ≡ [] → IsNamed plan i.top → IsInstance plan i
+pub first-sound : (plan : PlanView) (i : InstanceParts) → FitsGamma plan.gamma i.trail → length i.trail.path < length plan.gamma → i.rank ≡ 0 → i.steps < 2 ^ 32 → i.leaving ≡ false → i.top.levels.items ≡ [] → i.below.items ≡ [] → IsNamed plan i.top → IsInstance plan i
 first-sound plan i fits within rank steps on none alone named =
     let scopes : open_scopes i ≡ [] = ap (λ (ls : List Level). reverse ls ++ scopes_of (reverse i.below.items)) none ∙ ap (λ (below : List Frame). scopes_of (reverse below)) alone in
     let ranks : ranks_after (open_scopes i) ≡ 0 = ap (λ (ls : List Level). ranks_after ls) scopes in
@@ -206,7 +206,7 @@ first-sound plan i fits within rank steps on none alone named =
     }
 
 -- the innermost has other variables, or took a fault
-pub innermost-sound : (plan : PlanView) (i : Running) (env : EnvironmentView) (faulted : Option Fault) → env.names ≡ i.top.env.names → IsInstance plan i → IsInstance plan (record i { top = record i.top { env = env; faulted = faulted } })
+pub innermost-sound : (plan : PlanView) (i : InstanceParts) (env : EnvironmentView) (faulted : Option Fault) → env.names ≡ i.top.env.names → IsInstance plan i → IsInstance plan (record i { top = record i.top { env = env; faulted = faulted } })
 innermost-sound plan i env faulted names h =
     record {
       strand = record { fits = h.strand.fits; within = h.strand.within; few = h.strand.few };

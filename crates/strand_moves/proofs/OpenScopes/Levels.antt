@@ -14,12 +14,12 @@ use Rattle.strand_meaning.specs.Machine.{Opens, Closes, Machine, Emitted, Effect
 use Rattle.strand_meaning.specs.Machine as meaning
 use Rattle.strand_moves.specs.declared.frame.Level.{Level}
 use Rattle.strand_moves.specs.declared.cursor.Cursor.{Cursor}
-use Rattle.strand_moves.specs.declared.running.Running.{Running}
+use Rattle.strand_moves.specs.declared.instance_parts.InstanceParts.{InstanceParts}
 use Rattle.strand_moves.specs.Acts.{GoesIn, IsKept}
 use Rattle.strand_moves.specs.Cursors.{IsAfterStatement, left_of, scope_after, scope_at, scope_of}
 use Rattle.strand_moves.specs.Moves.{acted}
 use Rattle.strand_moves.proofs.Frames.CallLemmas.{is_below}
-use Rattle.strand_moves.specs.Running.{AreAround, IsInstance, body_of, block_inside, levels_of, machine_of, open_scopes, path_around, path_of, present_of, ranks_after, scopes_of, statements_of}
+use Rattle.strand_moves.specs.InstanceParts.{AreAround, IsInstance, body_of, block_inside, levels_of, machine_of, open_scopes, path_around, path_of, present_of, ranks_after, scopes_of, statements_of}
 use Rattle.strand_moves.proofs.Statements.Equations.{scope, went}
 use Rattle.strand_moves.proofs.OpenScopes.Keeping.{here-is}
 use Rattle.strand_moves.proofs.Statements.Naming.{top-named}
@@ -56,7 +56,7 @@ module _ {X : Type 0} where
   turned-some : (xs : List X) → (xs ≡ [] → ⊥) → reverse xs ≡ [] → ⊥
   turned-some xs h e = h (sym (reverse-reverse xs) ∙ ap (λ (ys : List X). reverse ys) e)
 
-module _ (plan : PlanView) (i : Running) (h : IsInstance plan i) where
+module _ (plan : PlanView) (i : InstanceParts) (h : IsInstance plan i) where
   -- out of the innermost scope
   module _ (rest : List Level) (l : Level) (there : i.top.levels.items ≡ rest ++ l ∷ []) (leaves : i.leaving ≡ true) where
     opened : open_scopes i ≡ l ∷ (reverse rest ++ scopes_of (reverse i.below.items))
@@ -72,18 +72,18 @@ module _ (plan : PlanView) (i : Running) (h : IsInstance plan i) where
         omega (arith, few, ranks)
 
     -- where the instance goes on
-    abbrev pub IsOut : Running → Type 0
+    abbrev pub IsOut : InstanceParts → Type 0
     IsOut new = (new.top.levels.items ≡ rest) × (new ≡ record i { trail = l.trail; rank = l.rank + 1; leaving = false; top = record i.top { levels = new.top.levels; cursor = l.cursor } })
 
-    pub is-out : (popped new : Running) → popped ≡ record i { top = record i.top { levels = popped.top.levels } } → popped.top.levels.items ≡ rest →
+    pub is-out : (popped new : InstanceParts) → popped ≡ record i { top = record i.top { levels = popped.top.levels } } → popped.top.levels.items ≡ rest →
         new ≡ record popped { trail = l.trail; rank = l.rank + 1; leaving = false; top = record popped.top { cursor = l.cursor } } → IsOut new
     is-out popped new is left e = (
-      ap (λ (x : Running). x.top.levels.items) e ∙ left,
-      e ∙ ap (λ (x : Running). let y : Running = record x { trail = l.trail; rank = l.rank + 1; leaving = false; top = record x.top { cursor = l.cursor } } in y) is
-          ∙ ap (λ (x : Running). let y : Running = record i { trail = l.trail; rank = l.rank + 1; leaving = false; top = record i.top { levels = x.top.levels; cursor = l.cursor } } in y) (sym e),
+      ap (λ (x : InstanceParts). x.top.levels.items) e ∙ left,
+      e ∙ ap (λ (x : InstanceParts). let y : InstanceParts = record x { trail = l.trail; rank = l.rank + 1; leaving = false; top = record x.top { cursor = l.cursor } } in y) is
+          ∙ ap (λ (x : InstanceParts). let y : InstanceParts = record i { trail = l.trail; rank = l.rank + 1; leaving = false; top = record i.top { levels = x.top.levels; cursor = l.cursor } } in y) (sym e),
     )
 
-    pub out-moves : (new : Running) → IsOut new → end_move plan (path_of i) (machine_of plan i) (machine_of plan i).top.levels ≡ went (Closes (l.trail.path ++ l.rank ∷ []) ∷ []) (machine_of plan new)
+    pub out-moves : (new : InstanceParts) → IsOut new → end_move plan (path_of i) (machine_of plan i) (machine_of plan i).top.levels ≡ went (Closes (l.trail.path ++ l.rank ∷ []) ∷ []) (machine_of plan new)
     out-moves new out =
         let m = machine_of plan i in
         let body = body_of plan i.top.function in
@@ -91,17 +91,17 @@ module _ (plan : PlanView) (i : Running) (h : IsInstance plan i) where
         let place = here-is plan i h ∙ stands.0 in
         let next : Machine = record m { rank = l.rank + 1; top = record m.top { left = left_of (block_inside body (reverse rest)) l.cursor; levels = levels_of body (reverse rest); leaving = false } } in
         let machine : machine_of plan new ≡ next =
-        ap (λ (x : Running). machine_of plan x) out.1
+        ap (λ (x : InstanceParts). machine_of plan x) out.1
         ∙ ap (λ (ls : List Level). record m { rank = l.rank + 1; top = record m.top { left = left_of (block_inside body (reverse ls)) l.cursor; levels = levels_of body (reverse ls); leaving = false } }) out.0 in
         goes-out plan (path_of i) m (record { rank = l.rank; left = left_of (block_inside body (reverse rest)) l.cursor }) (levels_of body (reverse rest)) levels leaves
         ∙ ap (λ (p : List ℕ). went (Closes p ∷ []) next) place
         ∙ ap (λ (n : Machine). went (Closes (l.trail.path ++ l.rank ∷ []) ∷ []) n) (sym machine)
 
-    out-scopes : (new : Running) → IsOut new → open_scopes new ≡ reverse rest ++ scopes_of (reverse i.below.items)
+    out-scopes : (new : InstanceParts) → IsOut new → open_scopes new ≡ reverse rest ++ scopes_of (reverse i.below.items)
     out-scopes new out =
-        ap (λ (x : Running). open_scopes x) out.1 ∙ ap (λ (ls : List Level). reverse ls ++ scopes_of (reverse i.below.items)) out.0
+        ap (λ (x : InstanceParts). open_scopes x) out.1 ∙ ap (λ (ls : List Level). reverse ls ++ scopes_of (reverse i.below.items)) out.0
 
-    out-instance : (new : Running) → IsOut new → IsInstance plan (record i { trail = l.trail; rank = l.rank + 1; leaving = false; top = record i.top { levels = new.top.levels; cursor = l.cursor } })
+    out-instance : (new : InstanceParts) → IsOut new → IsInstance plan (record i { trail = l.trail; rank = l.rank + 1; leaving = false; top = record i.top { levels = new.top.levels; cursor = l.cursor } })
     out-instance new out =
         let few = h.few in
         let fits = rank-fits in
@@ -119,18 +119,18 @@ module _ (plan : PlanView) (i : Running) (h : IsInstance plan i) where
           named = top-named plan i (record i { trail = l.trail; rank = l.rank + 1; leaving = false; top = record i.top { levels = new.top.levels; cursor = l.cursor } }) refl refl refl refl h.named;
         }
 
-    pub out-kept : (new : Running) → IsOut new → IsKept plan i new
+    pub out-kept : (new : InstanceParts) → IsOut new → IsKept plan i new
     out-kept new out =
         record {
-          instance = subst (λ (x : Running). IsInstance plan x) (sym out.1) (out-instance new out);
+          instance = subst (λ (x : InstanceParts). IsInstance plan x) (sym out.1) (out-instance new out);
           path =
-              ap (λ (ls : List Level). path_around ls new.trail.path) (out-scopes new out) ∙ ap (λ (x : Running). path_around (reverse rest ++ scopes_of (reverse i.below.items)) x.trail.path) out.1
+              ap (λ (ls : List Level). path_around ls new.trail.path) (out-scopes new out) ∙ ap (λ (x : InstanceParts). path_around (reverse rest ++ scopes_of (reverse i.below.items)) x.trail.path) out.1
               ∙ sym (ap (λ (ls : List Level). path_around ls i.trail.path) opened);
         }
 
   -- at the sync at its end
   module _ (some : i.top.levels.items ≡ [] → ⊥) (on : i.leaving ≡ false) where
-    abbrev pub joined : Running
+    abbrev pub joined : InstanceParts
     joined = record i { rank = i.rank + 1; leaving = true; top = record i.top { spawned = false } }
 
     first : (l : Level) × ((rest : List Level) × (reverse i.top.levels.items ≡ l ∷ rest))
@@ -164,7 +164,7 @@ module _ (plan : PlanView) (i : Running) (h : IsInstance plan i) where
 scope-there : (body : List Stmt) (c : Cursor) (st : Stmt) (block : List Stmt) → IsAfterStatement body c st → out-Act (out-Stmt st).act ≡ act.Scope block → scope_after body c ≡ block
 scope-there body c st block after is = ap (λ (s : Option Stmt). scope_at s) after.there ∙ ap (λ (a : Act-F Act Stmt). scope_of a) is
 
-module _ (i new : Running) (inner : Trail) where
+module _ (i new : InstanceParts) (inner : Trail) where
   -- where the block of a scope begins
   abbrev pub Begins : Type 0
   Begins =
@@ -179,20 +179,20 @@ module _ (i new : Running) (inner : Trail) where
   in-turned b = ap (λ (ls : List Level). reverse ls) b.0 ∙ turned i.top.levels.items last
 
   pub in-scopes : Begins → open_scopes new ≡ last ∷ open_scopes i
-  in-scopes b = ap (λ (x : Running). open_scopes x) b.2 ∙ ap (λ (ls : List Level). ls ++ scopes_of (reverse i.below.items)) (in-turned b)
+  in-scopes b = ap (λ (x : InstanceParts). open_scopes x) b.2 ∙ ap (λ (ls : List Level). ls ++ scopes_of (reverse i.below.items)) (in-turned b)
 
   pub goes-in : (plan : PlanView) → Begins → FitsGamma plan.gamma inner → inner.path ≡ present_of i ++ i.rank ∷ [] → length (present_of i) + 1 < length plan.gamma → GoesIn plan i new
   goes-in plan b fits path within =
-      let trail = ap (λ (x : Running). x.trail) b.2 in
+      let trail = ap (λ (x : InstanceParts). x.trail) b.2 in
       let longer = ap (λ (p : List ℕ). length p) (ap (λ (t : Trail). t.path) trail ∙ path) ∙ length-append (present_of i) (i.rank ∷ []) in
       record {
         fits = subst (λ (t : Trail). FitsGamma plan.gamma t) (sym trail) fits;
         path = ap (λ (t : Trail). t.path) trail ∙ path;
         within = omega (arith, within, longer);
         scopes = in-scopes b;
-        rank = ap (λ (x : Running). x.rank) b.2;
-        steps = ap (λ (x : Running). x.steps) b.2;
-        leaving = ap (λ (x : Running). x.leaving) b.2;
+        rank = ap (λ (x : InstanceParts). x.rank) b.2;
+        steps = ap (λ (x : InstanceParts). x.steps) b.2;
+        leaving = ap (λ (x : InstanceParts). x.leaving) b.2;
       }
 
   pub in-moves : (plan : PlanView) (st : Stmt) (block : List Stmt) → Begins → IsAfterStatement (statements_of plan i.top) i.top.cursor st → out-Act (out-Stmt st).act ≡ act.Scope block → length (present_of i) + 1 < plan.limits.depth →
@@ -204,7 +204,7 @@ module _ (i new : Running) (inner : Trail) where
       let text = ap (λ (ls : List Level). block_inside body ls) (in-turned b) ∙ scope-there (statements_of plan i.top) i.top.cursor st block after is in
       let levels = ap (λ (ls : List Level). levels_of body ls) (in-turned b) in
       let machine : machine_of plan new ≡ record m { rank = 0; top = record m.top { left = block; levels = record { rank = m.rank; left = m.top.left } ∷ m.top.levels } } =
-      ap (λ (x : Running). machine_of plan x) b.2
+      ap (λ (x : InstanceParts). machine_of plan x) b.2
       ∙ ap (λ (left : List Stmt). record m { rank = 0; top = record m.top { left = left; levels = levels_of body (reverse new.top.levels.items) } }) (starts ∙ text)
       ∙ ap (λ (ls : List meaning.Level). record m { rank = 0; top = record m.top { left = block; levels = ls } }) levels in
       scope plan (present_of i) m st block (is_below (length (present_of i) + 1) plan.limits.depth deep)

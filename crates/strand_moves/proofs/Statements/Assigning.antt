@@ -17,9 +17,9 @@ use Rattle.strand_values.specs.Changes.{assigned}
 use Rattle.strand_values.specs.Environments.{EnvironmentView, with_variables}
 use Rattle.strand_values.specs.declared.halt.Halt as values
 use Rattle.strand_values.specs.declared.halt.Halt.TheVariants as halt
-use Rattle.strand_moves.specs.declared.running.Running.{Running}
+use Rattle.strand_moves.specs.declared.instance_parts.InstanceParts.{InstanceParts}
 use Rattle.strand_moves.specs.Acts.{Acts}
-use Rattle.strand_moves.specs.Running.{machine_of, present_of}
+use Rattle.strand_moves.specs.InstanceParts.{machine_of, present_of}
 use Rattle.strand_moves.specs.Quick.{quiet}
 use Rattle.strand_moves.proofs.Statements.Equations.{set-value, set-value-fault}
 use Rattle.strand_moves.proofs.Statements.Naming.{variables-are}
@@ -36,7 +36,7 @@ given-fault : (d : Val) (f : Value → Env) (kind : FaultKind) → (d >>= λ v. 
 given-fault (Ok v) f kind h = absurd (cc)
 given-fault (Err k) f kind h = let e : k ≡ kind = cc in ap Err e
 
-pub assigned-acts : (plan : PlanView) (i : Running) (env : EnvironmentView) (st : Stmt) (x : Name) (e : Expr) (r : Result (Unit {0}) values.Halt) → OnOk r (assigned i.top.env.variables x e ≡ Ok env.variables) →
+pub assigned-acts : (plan : PlanView) (i : InstanceParts) (env : EnvironmentView) (st : Stmt) (x : Name) (e : Expr) (r : Result (Unit {0}) values.Halt) → OnOk r (assigned i.top.env.variables x e ≡ Ok env.variables) →
     ((kind : FaultKind) → r ≡ Err (halt.Fault kind) → assigned i.top.env.variables x e ≡ Err kind) →
     Acts plan st (act.Set x (right.Value e)) i (record i { top = record i.top { env = env } }) (quiet r)
 assigned-acts plan i env st x e (Ok u) ok fault =
@@ -51,7 +51,7 @@ assigned-acts plan i env st x e (Err halt.Memory) ok fault = tt
 pub assigned-number : (env new : Env) (x : Name) (e : Expr) (n : ℤ) → value_of e env ≡ Ok (Int n) → new ≡ with_slot env x.bytes (Scalar (Int n)) → assigned env x e ≡ Ok new
 assigned-number env new x e n is set = ap (λ (d : Val). d >>= λ v. Ok (with_slot env x.bytes (Scalar v))) is ∙ ap Ok (sym set)
 
-pub number-acts : (plan : PlanView) (i : Running) (env : EnvironmentView) (st : Stmt) (x : Name) (e : Expr) (n : ℤ) → value_of e i.top.env.variables ≡ Ok (Int n) →
+pub number-acts : (plan : PlanView) (i : InstanceParts) (env : EnvironmentView) (st : Stmt) (x : Name) (e : Expr) (n : ℤ) → value_of e i.top.env.variables ≡ Ok (Int n) →
     env ≡ with_variables i.top.env (with_slot i.top.env.variables x.bytes (Scalar (Int n))) →
     Acts plan st (act.Set x (right.Value e)) i (record i { top = record i.top { env = env } }) (quiet (Ok tt))
 number-acts plan i env st x e n is set =

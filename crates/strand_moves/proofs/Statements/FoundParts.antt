@@ -12,7 +12,7 @@ use Rattle.script_grammar.specs.declared.tree.Act.{out-Act}
 use Rattle.script_grammar.specs.declared.tree.Act.TheOpen as act
 use Rattle.script_check.specs.Places.{every_in, every_in_all, every_in_block, every_in_right, every_in_statement, every_in_target}
 use Rattle.serial_meaning.specs.Plan.{PlanView}
-use Rattle.strand_moves.specs.declared.running.Running.{Running}
+use Rattle.strand_moves.specs.declared.instance_parts.InstanceParts.{InstanceParts}
 use Rattle.strand_moves.specs.Found.{EveryInSpawn, FindsStatement}
 use Rattle.strand_meaning.proofs.FoundTargets.LeftStatements.{opened-found}
 
@@ -76,5 +76,5 @@ module _ (is calls : Name → Bool) where
       every-set e = let call = in_spawned r at c same (in_set x r e).1 in record { target = (in_set x r e).0; called = call.0; args = call.1 }
 
 -- after the step of the statement
-pub paid-finds : (plan : PlanView) (places : List ℕ) (i paid : Running) (n : ℕ) → paid ≡ record i { steps = n } → (st : Stmt) → FindsStatement plan places i.top.env st → FindsStatement plan places paid.top.env st
-paid-finds plan places i paid n same st h = subst (λ (x : Running). FindsStatement plan places x.top.env st) (sym same) h
+pub paid-finds : (plan : PlanView) (places : List ℕ) (i paid : InstanceParts) (n : ℕ) → paid ≡ record i { steps = n } → (st : Stmt) → FindsStatement plan places i.top.env st → FindsStatement plan places paid.top.env st
+paid-finds plan places i paid n same st h = subst (λ (x : InstanceParts). FindsStatement plan places x.top.env st) (sym same) h

@@ -6,7 +6,7 @@ use Rattle.script_grammar.specs.declared.tree.Act.TheOpen.{Act-F}
 use Rattle.serial_meaning.specs.Plan.{PlanView}
 use Rattle.serial_meaning.specs.declared.event.Event.{Event}
 use Rattle.strand_values.specs.declared.halt.Halt as values
-use Rattle.strand_moves.specs.declared.running.Running.{Running}
+use Rattle.strand_moves.specs.declared.instance_parts.InstanceParts.{InstanceParts}
 use Rattle.strand_moves.specs.declared.effects.MoveResult.{MoveResult}
 use Rattle.strand_moves.specs.declared.effects.Spawning.{Spawning}
 use Rattle.strand_moves.specs.Acts.{Acts}
@@ -21,7 +21,7 @@ emitted_if_any-child plan (Ok (Some e)) = tt
 emitted_if_any-child plan (Err h) = tt
 
 -- a spawn does as a move what it does
-pub handed-acts : (plan : PlanView) (st : Stmt) (a : Act-F Act Stmt) (old new : Running) (done : Result Spawning values.Halt) (r : Result MoveResult values.Halt) → IsHanded done r → Acts plan st a old new (spawn_as_move done) → Acts plan st a old new r
+pub handed-acts : (plan : PlanView) (st : Stmt) (a : Act-F Act Stmt) (old new : InstanceParts) (done : Result Spawning values.Halt) (r : Result MoveResult values.Halt) → IsHanded done r → Acts plan st a old new (spawn_as_move done) → Acts plan st a old new r
 handed-acts plan st a old new done r (inl e) h = subst (Acts plan st a old new) (sym e) h
 handed-acts plan st a old new done r (inr e) h = subst (Acts plan st a old new) (sym e) tt
 

@@ -9,7 +9,7 @@ use Rattle.script_grammar.specs.declared.tree.Act.TheOpen as act
 use Rattle.serial_meaning.specs.Values.{value_of, values_of, as_integer}
 use Rattle.serial_meaning.specs.Functions.{number_of}
 use Rattle.serial_meaning.specs.Plan.{PlanView, functions_of}
-use Rattle.serial_meaning.specs.Exec.{count_of, has_room, filled, fits_depth}
+use Rattle.serial_meaning.specs.Exec.{count_of, has_room, with_loop_values, fits_depth}
 use Rattle.serial_meaning.specs.Open.{is_zero}
 use Rattle.serial_meaning.specs.declared.value.Value.{Value}
 use Rattle.serial_meaning.specs.declared.event.FaultKind.{FaultKind}
@@ -44,7 +44,7 @@ module _ (plan : PlanView) (path : List ℕ) (m : Machine) (st : Stmt) (var : Na
 
     -- a loop whose steps there are, whose target has room, and whose pedigrees are short enough
     abbrev pub looped_on : Machine
-    looped_on = record m { rank = m.rank + 1; steps = m.steps - n; top = record m.top { env = filled target [] m.top.env } }
+    looped_on = record m { rank = m.rank + 1; steps = m.steps - n; top = record m.top { env = with_loop_values target [] m.top.env } }
 
     depth-same : (k : ℕ) → fits_depth (handing plan (Looped target)) plan path k ≡ loop_fits plan path k
     depth-same zero = refl

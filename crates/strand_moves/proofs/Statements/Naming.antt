@@ -7,9 +7,9 @@ use Rattle.serial_meaning.specs.Plan.{PlanView, functions_of}
 use Rattle.serial_meaning.specs.Values.{Env}
 use Rattle.strand_values.specs.Environments.{EnvironmentView, with_variables}
 use Rattle.strand_moves.specs.declared.frame.Frame.{Frame}
-use Rattle.strand_moves.specs.declared.running.Running.{Running}
+use Rattle.strand_moves.specs.declared.instance_parts.InstanceParts.{InstanceParts}
 use Rattle.strand_moves.specs.Quick.{StaysThere}
-use Rattle.strand_moves.specs.Running.{IsNamed, KeepsNames, TargetsAreNamed}
+use Rattle.strand_moves.specs.InstanceParts.{IsNamed, KeepsNames, TargetsAreNamed}
 
 -- what is left of an environment of which variables were changed
 module _ (new old : EnvironmentView) (vs : Env) (is : new ≡ with_variables old vs) where
@@ -24,7 +24,7 @@ module _ (plan : PlanView) where
   same-named old new function names h =
       record { function = h.function; of_plan = ap (λ (f : ℕ). function_at (functions_of plan) f) function ∙ h.of_plan; names = names ∙ h.names }
 
-  pub top-named : (old new : Running) → new.below.items ≡ old.below.items → new.top.function ≡ old.top.function → new.top.target ≡ old.top.target → new.top.env.names ≡ old.top.env.names → KeepsNames plan old new
+  pub top-named : (old new : InstanceParts) → new.below.items ≡ old.below.items → new.top.function ≡ old.top.function → new.top.target ≡ old.top.target → new.top.env.names ≡ old.top.env.names → KeepsNames plan old new
   top-named old new below function target names h =
       record {
         each =
@@ -35,5 +35,5 @@ module _ (plan : PlanView) where
             (subst (λ (frames : List Frame). TargetsAreNamed plan old.top.target (reverse frames)) (sym below) h.targets);
       }
 
-  pub there-named : (old new : Running) → StaysThere old new → KeepsNames plan old new
+  pub there-named : (old new : InstanceParts) → StaysThere old new → KeepsNames plan old new
   there-named old new there = top-named old new there.below there.function there.target there.names

@@ -13,11 +13,11 @@ use Rattle.serial_meaning.specs.declared.event.Fault.{Fault}
 use Rattle.serial_meaning.specs.declared.event.FaultKind.TheVariants.{Budget}
 use Rattle.strand_meaning.specs.Machine.{Effect, Machine, Reached, here_of, statement_move}
 use Rattle.strand_values.specs.declared.halt.Halt as values
-use Rattle.strand_moves.specs.declared.running.Running.{Running}
+use Rattle.strand_moves.specs.declared.instance_parts.InstanceParts.{InstanceParts}
 use Rattle.strand_moves.specs.declared.effects.MoveResult.{MoveResult}
 use Rattle.strand_moves.specs.Acts.{Acts}
 use Rattle.strand_moves.specs.Cursors.{IsAfterStatement}
-use Rattle.strand_moves.specs.Running.{machine_of, path_of, present_of, statements_of}
+use Rattle.strand_moves.specs.InstanceParts.{machine_of, path_of, present_of, statements_of}
 use Rattle.strand_moves.specs.Moves.{acted, Makes, present_pedigree}
 use Rattle.strand_moves.proofs.Statements.Equations.{after_statement, faults, paid-move, unpaid-move}
 
@@ -38,8 +38,8 @@ module _ (plan : PlanView) (path : List ℕ) (m : Machine) (st : Stmt) (x : Name
   unfolding acted
   spawn-at = refl
 
-module _ (plan : PlanView) (i paid : Running) (n : ℕ) (is-paid : paid ≡ record i { steps = n }) (less : n + 1 ≡ i.steps) where
-  pub statement-paid : here_of (path_of i) (machine_of plan i) ≡ present_of i → (st : Stmt) (a : Act-F Act Stmt) (new : Running) (result : Result MoveResult values.Halt) → out-Act (out-Stmt st).act ≡ a → Acts plan st a paid new result →
+module _ (plan : PlanView) (i paid : InstanceParts) (n : ℕ) (is-paid : paid ≡ record i { steps = n }) (less : n + 1 ≡ i.steps) where
+  pub statement-paid : here_of (path_of i) (machine_of plan i) ≡ present_of i → (st : Stmt) (a : Act-F Act Stmt) (new : InstanceParts) (result : Result MoveResult values.Halt) → out-Act (out-Stmt st).act ≡ a → Acts plan st a paid new result →
       Makes (statement_move plan (path_of i) (machine_of plan i) st (machine_of plan i).top.left) (present_pedigree (present_of i) (machine_of plan i)) (machine_of plan new) result
   statement-paid here st a new result e h =
       let m = machine_of plan i in
@@ -50,9 +50,9 @@ module _ (plan : PlanView) (i paid : Running) (n : ℕ) (is-paid : paid ≡ reco
       ∙ ap (λ (p : List ℕ). acted plan p (record m { steps = n }) st a) here) acts
 
   pub paid-after : (st : Stmt) → IsAfterStatement (statements_of plan i.top) i.top.cursor st → IsAfterStatement (statements_of plan paid.top) paid.top.cursor st
-  paid-after st h = let P : Running → Type 0 = λ x. IsAfterStatement (statements_of plan x.top) x.top.cursor st in subst P (sym is-paid) h
+  paid-after st h = let P : InstanceParts → Type 0 = λ x. IsAfterStatement (statements_of plan x.top) x.top.cursor st in subst P (sym is-paid) h
 
 -- a statement for which no step is left
-pub statement-unpaid : (plan : PlanView) (i : Running) (st : Stmt) (left : List Stmt) → i.steps ≡ 0 → here_of (path_of i) (machine_of plan i) ≡ present_of i →
+pub statement-unpaid : (plan : PlanView) (i : InstanceParts) (st : Stmt) (left : List Stmt) → i.steps ≡ 0 → here_of (path_of i) (machine_of plan i) ≡ present_of i →
     statement_move plan (path_of i) (machine_of plan i) st left ≡ faults Budget (present_of i ++ i.rank ∷ [])
 statement-unpaid plan i st left none here = unpaid-move plan (path_of i) (machine_of plan i) st left none ∙ ap (λ (p : List ℕ). faults Budget (p ++ i.rank ∷ [])) here

@@ -11,10 +11,10 @@ use Rattle.strand_meaning.specs.Machine.{Effect, here_of, move}
 use Rattle.strand_values.specs.declared.halt.Halt as values
 use Rattle.strand_values.specs.declared.halt.Halt.TheVariants as halt
 use Rattle.strand_moves.specs.declared.cursor.Cursor.{Cursor}
-use Rattle.strand_moves.specs.declared.running.Running.{Running}
+use Rattle.strand_moves.specs.declared.instance_parts.InstanceParts.{InstanceParts}
 use Rattle.strand_moves.specs.Acts.{Acts, BeginsOne, StaysUnlessMemory}
 use Rattle.strand_moves.specs.Cursors.{IsAfterStatement, left_of, PassesStatement}
-use Rattle.strand_moves.specs.Running.{IsInstance, machine_of, path_of, present_of, statements_of}
+use Rattle.strand_moves.specs.InstanceParts.{IsInstance, machine_of, path_of, present_of, statements_of}
 use Rattle.strand_moves.specs.Moves.{acted, MovesTrail, present_pedigree}
 use Rattle.strand_moves.specs.Quick.{HasCalled, HasEmitted, IsDone, IsQuiet, IsEmittedTo, IsWent, emitted, is_plain, is_emitting, quiet}
 use Rattle.strand_moves.proofs.Statements.Equations.{paid-move}
@@ -33,7 +33,7 @@ emitted-child plan (Ok e) = tt
 emitted-child plan (Err h) = tt
 
 -- what a call did for a statement, by what it answered
-module _ (st : Stmt) (a : Act-F Act Stmt) (old new : Running) (is : out-Act (out-Stmt st).act ≡ a) where
+module _ (st : Stmt) (a : Act-F Act Stmt) (old new : InstanceParts) (is : out-Act (out-Stmt st).act ≡ a) where
   quiet-at : (done : Result (Unit {0}) values.Halt) (went : Bool) → ((plan : PlanView) → IsAfterStatement (statements_of plan old.top) old.top.cursor st → Acts plan st a old new (quiet done)) →
       ((kind : FaultKind) → done ≡ Err (halt.Fault kind) → new ≡ old) → IsWent done went → IsQuiet st old new went
   quiet-at (Ok u) went acts same w =
@@ -49,7 +49,7 @@ module _ (st : Stmt) (a : Act-F Act Stmt) (old new : Running) (is : out-Act (out
   quiet-is done (Err e) acts same w = tt
 
 -- the same of a call that did this act, whatever the cursor
-module _ (st : Stmt) (a : Act-F Act Stmt) (old new : Running) where
+module _ (st : Stmt) (a : Act-F Act Stmt) (old new : InstanceParts) where
   done-at : (done : Result (Unit {0}) values.Halt) (went : Bool) → ((plan : PlanView) → Acts plan st a old new (quiet done)) → ((kind : FaultKind) → done ≡ Err (halt.Fault kind) → new ≡ old) → IsWent done went → IsDone st a old new went
   done-at (Ok u) went acts same w = subst (IsDone st a old new) (sym w) (λ plan. acts plan)
   done-at (Err (halt.Fault kind)) went acts same w =
@@ -72,7 +72,7 @@ module _ (st : Stmt) (a : Act-F Act Stmt) (old new : Running) where
     done-quiet (Err x) d = tt
 
 -- the same of a call that showed an event, which the sink took
-module _ {S : Type 0} (after : Event → S → S) (plan : PlanView) (st : Stmt) (a : Act-F Act Stmt) (old new : Running) (from to : S) where
+module _ {S : Type 0} (after : Event → S → S) (plan : PlanView) (st : Stmt) (a : Act-F Act Stmt) (old new : InstanceParts) (from to : S) where
   sent-at : (done : Result Event values.Halt) (sent : Bool) → Acts plan st a old new (emitted done) → ((kind : FaultKind) → done ≡ Err (halt.Fault kind) → new ≡ old) → IsEmittedTo after done from to sent → HasEmitted after plan st a old from new to sent
   sent-at (Ok e) sent acts same w = subst (HasEmitted after plan st a old from new to) (sym w.0) (e, w.1, acts)
   sent-at (Err (halt.Fault kind)) sent acts same w =
@@ -101,7 +101,7 @@ module _ {S : Type 0} (after : Event → S → S) (plan : PlanView) (st : Stmt) 
   did-not-emit sent e h = subst (HasEmitted after plan st a old from new to) e h
 
 -- the same of a call
-module _ (plan : PlanView) (st : Stmt) (a : Act-F Act Stmt) (old new : Running) where
+module _ (plan : PlanView) (st : Stmt) (a : Act-F Act Stmt) (old new : InstanceParts) where
   called-at : (done : Result (Unit {0}) values.Halt) (called : Bool) → Acts plan st a old new (quiet done) → ((kind : FaultKind) → done ≡ Err (halt.Fault kind) → new ≡ old) → StaysUnlessMemory old new (quiet done) → OnOk done (BeginsOne old new) →
       IsWent done called → HasCalled plan st a old new called
   called-at (Ok u) called acts same stays begins w = subst (HasCalled plan st a old new) (sym w) (acts, stays, begins)
@@ -129,17 +129,17 @@ module _ (plan : PlanView) (st : Stmt) (a : Act-F Act Stmt) (old new : Running) 
   pub did-not-call : (called : Bool) → called ≡ false → HasCalled plan st a old new called → HasCalled plan st a old new false
   did-not-call called e h = subst (HasCalled plan st a old new) e h
 
-pub did-quiet : (st : Stmt) (old new : Running) (went : Bool) → went ≡ true → IsQuiet st old new went → IsQuiet st old new true
+pub did-quiet : (st : Stmt) (old new : InstanceParts) (went : Bool) → went ≡ true → IsQuiet st old new went → IsQuiet st old new true
 did-quiet st old new went e h = subst (IsQuiet st old new) e h
 
-pub did-nothing : (st : Stmt) (old new : Running) (went : Bool) → went ≡ false → IsQuiet st old new went → IsQuiet st old new false
+pub did-nothing : (st : Stmt) (old new : InstanceParts) (went : Bool) → went ≡ false → IsQuiet st old new went → IsQuiet st old new false
 did-nothing st old new went e h = subst (IsQuiet st old new) e h
 
-module _ (plan : PlanView) (i : Running) where
+module _ (plan : PlanView) (i : InstanceParts) where
   abbrev text : List Stmt
   text = statements_of plan i.top
 
-  abbrev pub with_cursor : ℕ → Cursor → Running
+  abbrev pub with_cursor : ℕ → Cursor → InstanceParts
   with_cursor n cursor = record i { steps = n; top = record i.top { cursor = cursor } }
 
   module _ (st : Stmt) (cursor : Cursor) (n : ℕ) (here : here_of (path_of i) (machine_of plan i) ≡ present_of i) (passes : PassesStatement text i.top.cursor cursor st) (steps : n + 1 ≡ i.steps) where
@@ -152,11 +152,11 @@ module _ (plan : PlanView) (i : Running) where
         ∙ ap (λ (p : List ℕ). acted plan p (machine_of plan (with_cursor n cursor)) st (out-Act (out-Stmt st).act)) here
 
     -- a statement that was paid and done
-    pub quick-went : (new : Running) → IsQuiet st (with_cursor n cursor) new true → move plan (path_of i) (machine_of plan i) ≡ equations.went [] (machine_of plan new)
+    pub quick-went : (new : InstanceParts) → IsQuiet st (with_cursor n cursor) new true → move plan (path_of i) (machine_of plan i) ≡ equations.went [] (machine_of plan new)
     quick-went new acts = passed ∙ acts plan passes.after
 
     -- one that showed these effects
-    pub quick-showed : (effects : List Effect) (new : Running) →
+    pub quick-showed : (effects : List Effect) (new : InstanceParts) →
         acted plan (present_of (with_cursor n cursor)) (machine_of plan (with_cursor n cursor)) st (out-Act (out-Stmt st).act) ≡ equations.went effects (machine_of plan new) →
         move plan (path_of i) (machine_of plan i) ≡ equations.went effects (machine_of plan new)
     quick-showed effects new acts = passed ∙ acts

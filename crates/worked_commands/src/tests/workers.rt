@@ -20,7 +20,7 @@ const THREE_CHILDREN: &str =
 const CHILD_AFTER_A_SYNC: &str =
     "fn f(n) { return n; } fn main() { let a = spawn f(1); sync; print a; let b = spawn f(2); sync; print b; return 0; }";
 
-// A strand is held for at most so many turns of a loop.
+// A strand is held for at most so many rounds of a loop.
 const MOST_TURNS: u32 = 50000000;
 
 /// Strands that wait for one another, of which so many are to come.

@@ -104,7 +104,7 @@ fn take_64(rt: &impl Abort, join: &mut Join<Square>)
 #[test]
 fn nobody_looks_for_a_give_that_is_alone(rt: HostRuntime) -> Result<(), Memory> {
     let alloc = rt.alloc();
-    let mut join: Join<Square> = Join::idle();
+    let mut join: Join<Square> = Join::alone();
     same(&rt, "no child", join.look(), Look::Ready);
     let give = join.hand(alloc, &5)?;
     assert!(rt; give.is_alone());

@@ -8,6 +8,6 @@ loop-place-preserved c =
     let within : c.loop-place.place-index < length c.loop-place.out = omega arith in
     record {
       written = take_more_set c.loop-place.out c.loop-place.place-index c.loop-place.dot within ∙ dots_more c.args.first c.args.step c.loop-place.place-index _ _ c.loop-place.invariant.written c.loop-place.invariant.next;
-      next = dot_more c.args.first c.args.step c.loop-place.place-index _ _ c.loop-place.invariant.next c.sum_of-dot.ensures.value;
-      small = c.sum_of-dot.ensures.small;
+      next = dot_more c.args.first c.args.step c.loop-place.place-index _ _ c.loop-place.invariant.next c.residue_sum-dot.ensures.value;
+      small = c.residue_sum-dot.ensures.small;
     }

@@ -27,22 +27,22 @@ loop-next-smaller c =
     let l = c.loop-next in
     less-left (arc_value c.args.plan.now) c.args.workers c.args.number l.words l.state l.invariant c.next_word-word.result c.next_word-word.new.self c.next_word-word.ensures c.in-On.next (rw c.in-On.is at c.in_ok-next.ensures)
 
-pub returns-in-Over-clause-plan : goal.returns-in-Over-clause-plan
-returns-in-Over-clause-plan c =
+pub returns-in-Finished-clause-plan : goal.returns-in-Finished-clause-plan
+returns-in-Finished-clause-plan c =
     let l = c.loop-next in
-    (mains-are (arc_value c.args.plan.now) c.args.workers c.args.number l.words l.state l.invariant c.next_word-word.result c.next_word-word.new.self c.next_word-word.ensures c.in-Over.simulated (rw c.in-Over.is at c.in_ok-next.ensures)).plan_is
+    (mains-are (arc_value c.args.plan.now) c.args.workers c.args.number l.words l.state l.invariant c.next_word-word.result c.next_word-word.new.self c.next_word-word.ensures c.in-Finished.simulated (rw c.in-Finished.is at c.in_ok-next.ensures)).plan_is
 
-pub returns-in-Over-clause-origin : goal.returns-in-Over-clause-origin
-returns-in-Over-clause-origin c =
+pub returns-in-Finished-clause-origin : goal.returns-in-Finished-clause-origin
+returns-in-Finished-clause-origin c =
     let l = c.loop-next in
-    (mains-are (arc_value c.args.plan.now) c.args.workers c.args.number l.words l.state l.invariant c.next_word-word.result c.next_word-word.new.self c.next_word-word.ensures c.in-Over.simulated (rw c.in-Over.is at c.in_ok-next.ensures)).origin
+    (mains-are (arc_value c.args.plan.now) c.args.workers c.args.number l.words l.state l.invariant c.next_word-word.result c.next_word-word.new.self c.next_word-word.ensures c.in-Finished.simulated (rw c.in-Finished.is at c.in_ok-next.ensures)).origin
 
-pub returns-in-Over-clause-fault : goal.returns-in-Over-clause-fault
-returns-in-Over-clause-fault c =
+pub returns-in-Finished-clause-fault : goal.returns-in-Finished-clause-fault
+returns-in-Finished-clause-fault c =
     let l = c.loop-next in
-    (mains-are (arc_value c.args.plan.now) c.args.workers c.args.number l.words l.state l.invariant c.next_word-word.result c.next_word-word.new.self c.next_word-word.ensures c.in-Over.simulated (rw c.in-Over.is at c.in_ok-next.ensures)).fault
+    (mains-are (arc_value c.args.plan.now) c.args.workers c.args.number l.words l.state l.invariant c.next_word-word.result c.next_word-word.new.self c.next_word-word.ensures c.in-Finished.simulated (rw c.in-Finished.is at c.in_ok-next.ensures)).fault
 
-pub returns-in-Over-clause-worker : goal.returns-in-Over-clause-worker
-returns-in-Over-clause-worker c =
+pub returns-in-Finished-clause-worker : goal.returns-in-Finished-clause-worker
+returns-in-Finished-clause-worker c =
     let l = c.loop-next in
-    worker-is (arc_value c.args.plan.now) c.args.workers c.args.number l.words l.state l.invariant c.next_word-word.result c.next_word-word.new.self c.next_word-word.ensures c.in-Over.simulated (rw c.in-Over.is at c.in_ok-next.ensures)
+    worker-is (arc_value c.args.plan.now) c.args.workers c.args.number l.words l.state l.invariant c.next_word-word.result c.next_word-word.new.self c.next_word-word.ensures c.in-Finished.simulated (rw c.in-Finished.is at c.in_ok-next.ensures)

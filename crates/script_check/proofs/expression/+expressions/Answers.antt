@@ -3,7 +3,7 @@ use Rattle.script_grammar.specs.declared.tree.Kind.TheVariants.{Int, Id}
 use Rattle.script_grammar.specs.declared.tree.Expr.{the_lemmas}
 use Rattle.script_check.specs.Expressions.{read, read_sum_part, read_product_part, wanted, two_wanted, all_wanted}
 use Rattle.script_check.specs.Walk.{known_in, pending_in}
-use Rattle.script_check.proofs.LeastViolation.Noted.{after_two}
+use Rattle.script_check.proofs.LeastViolation.Earliest.{after_two}
 use Rattle.script_check.proofs.Walk.Reading.{one_part}
 use Rattle.script_check.proofs.expression.+expressions.Goals as goal
 

@@ -55,16 +55,16 @@ collect_one-returns-else-first-clause-state t c =
     c.in_ok-second-in-If.ensures.state ∙ ap (λ (t : WalkState). record t { names = union b t.names }) c.in_ok-first-in-If.ensures.state
     ∙ ap (λ (p : NameSet). record s { names = p }) (two_sets a b s.names ∙ ap (λ (f : NameSet). union f s.names) (sym e))
 
-pub collect_one-returns-in_ok-spawn_to-in-Let-default-Spawn-clause-state : goal.collect_one-returns-in_ok-spawn_to-in-Let-default-Spawn-clause-state
-collect_one-returns-in_ok-spawn_to-in-Let-default-Spawn-clause-state t c =
+pub collect_one-returns-in_ok-add_pending-in-Let-default-Spawn-clause-state : goal.collect_one-returns-in_ok-add_pending-in-Let-default-Spawn-clause-state
+collect_one-returns-in_ok-add_pending-in-Let-default-Spawn-clause-state t c =
     let x = c.in-Let-default-Spawn.x.bytes in
     let s = state_of c.args.symbols.now in
     let e : (judge c.args.statement.now).after no_names ≡ with_name x no_names = search (rules, the_lemmas) in
-    c.in_ok-spawn_to-in-Let-default-Spawn.ensures ∙ ap (λ (p : NameSet). record s { names = p }) (alone x s.names ∙ ap (λ (f : NameSet). union f s.names) (sym e))
+    c.in_ok-add_pending-in-Let-default-Spawn.ensures ∙ ap (λ (p : NameSet). record s { names = p }) (alone x s.names ∙ ap (λ (f : NameSet). union f s.names) (sym e))
 
-pub collect_one-returns-in_ok-spawn_to-in-Set-default-Spawn-clause-state : goal.collect_one-returns-in_ok-spawn_to-in-Set-default-Spawn-clause-state
-collect_one-returns-in_ok-spawn_to-in-Set-default-Spawn-clause-state t c =
+pub collect_one-returns-in_ok-add_pending-in-Set-default-Spawn-clause-state : goal.collect_one-returns-in_ok-add_pending-in-Set-default-Spawn-clause-state
+collect_one-returns-in_ok-add_pending-in-Set-default-Spawn-clause-state t c =
     let x = c.in-Set-default-Spawn.x.bytes in
     let s = state_of c.args.symbols.now in
     let e : (judge c.args.statement.now).after no_names ≡ with_name x no_names = search (rules, the_lemmas) in
-    c.in_ok-spawn_to-in-Set-default-Spawn.ensures ∙ ap (λ (p : NameSet). record s { names = p }) (alone x s.names ∙ ap (λ (f : NameSet). union f s.names) (sym e))
+    c.in_ok-add_pending-in-Set-default-Spawn.ensures ∙ ap (λ (p : NameSet). record s { names = p }) (alone x s.names ∙ ap (λ (f : NameSet). union f s.names) (sym e))

@@ -2,7 +2,7 @@ use Rattle.std.proofs.Common.{◌≡◌, Bool, ◌||◌, ◌&&◌, true, false, 
 use Rattle.script_grammar.specs.declared.tree.Kind.TheVariants.{Int}
 use Rattle.script_grammar.specs.declared.tree.Act.{Act}
 use Rattle.script_grammar.specs.declared.tree.Act.TheVariants as variant
-use Rattle.script_check.specs.Violations.{noted}
+use Rattle.script_check.specs.Violations.{earliest}
 use Rattle.script_check.specs.Names.{no_names, union}
 use Rattle.script_check.specs.Expressions.{read, wanted}
 use Rattle.script_check.specs.Statements.{context, Judged, judge_what, judge_all, violations_each, after}
@@ -40,7 +40,7 @@ judge_nested-returns-in_ok-end_if-in-If-clause-found t c in_block =
     let what : st.act ≡ variant.If c.in-If.e a b = search rules in
     if_violations fs a b in_block condition s (state_of c.judge_block.new.symbols) c.args.found.now c.want.new.found c.judge_block.new.found c.judge_block-in-If.new.found
     c.want.ensures.found c.in_ok-first-in-If.ensures.found c.in_ok-first-in-If.ensures.state c.in_ok-second-in-If.ensures.found
-    ∙ ap (λ (j : Judged). noted c.args.found.now (j.violations (context fs in_block) s.known s.names)) (sym (judge_is st ∙ ap (λ (w : Act). judge_what w st.at) what ∙ judge_if st.at c.in-If.e a b))
+    ∙ ap (λ (j : Judged). earliest c.args.found.now (j.violations (context fs in_block) s.known s.names)) (sym (judge_is st ∙ ap (λ (w : Act). judge_what w st.at) what ∙ judge_if st.at c.in-If.e a b))
 
 pub judge_nested-returns-in_ok-judge_block-in-While-clause-state : goal.judge_nested-returns-in_ok-judge_block-in-While-clause-state
 judge_nested-returns-in_ok-judge_block-in-While-clause-state t c =
@@ -64,10 +64,10 @@ judge_nested-returns-in_ok-judge_block-in-While-clause-found t c in_block =
     let what : st.act ≡ variant.While c.in-While.e a = search rules in
     let known : m.known ≡ s.known = ap (λ (t : WalkState). t.known) c.in_ok-begin_while-in-While.ensures in
     let set : m.names ≡ union s.names (after a s.names) = ap (λ (t : WalkState). t.names) c.in_ok-begin_while-in-While.ensures in
-    let body : c.judge_block-in-While.new.found ≡ noted c.want-in-While.new.found (violations_each (judge_all a) (context fs true) m.known m.names) = search rules in
+    let body : c.judge_block-in-While.new.found ≡ earliest c.want-in-While.new.found (violations_each (judge_all a) (context fs true) m.known m.names) = search rules in
     while_violations fs a (read c.in-While.e) s.known m.known s.names m.names c.args.found.now c.want-in-While.new.found c.judge_block-in-While.new.found
     known set c.want-in-While.ensures.found body
-    ∙ ap (λ (j : Judged). noted c.args.found.now (j.violations (context fs in_block) s.known s.names)) (sym (judge_is st ∙ ap (λ (w : Act). judge_what w st.at) what ∙ judge_while st.at c.in-While.e a))
+    ∙ ap (λ (j : Judged). earliest c.args.found.now (j.violations (context fs in_block) s.known s.names)) (sym (judge_is st ∙ ap (λ (w : Act). judge_what w st.at) what ∙ judge_while st.at c.in-While.e a))
 
 pub judge_nested-returns-in_ok-sync-in-Scope-clause-state : goal.judge_nested-returns-in_ok-sync-in-Scope-clause-state
 judge_nested-returns-in_ok-sync-in-Scope-clause-state t c =
@@ -88,8 +88,8 @@ judge_nested-returns-in_ok-sync-in-Scope-clause-found t c in_block =
     let a = c.as_slice-in-Scope.result.now in
     let s = state_of c.args.symbols.now in
     let what : st.act ≡ variant.Scope a = search rules in
-    let block : c.judge_block-in-Scope.new.found ≡ noted c.args.found.now (violations_each (judge_all a) (context fs true) s.known s.names) = search rules in
-    block ∙ ap (λ (j : Judged). noted c.args.found.now (j.violations (context fs in_block) s.known s.names)) (sym (judge_is st ∙ ap (λ (w : Act). judge_what w st.at) what ∙ judge_scope st.at a))
+    let block : c.judge_block-in-Scope.new.found ≡ earliest c.args.found.now (violations_each (judge_all a) (context fs true) s.known s.names) = search rules in
+    block ∙ ap (λ (j : Judged). earliest c.args.found.now (j.violations (context fs in_block) s.known s.names)) (sym (judge_is st ∙ ap (λ (w : Act). judge_what w st.at) what ∙ judge_scope st.at a))
 
 pub judge_each-loop-statement-preserved : goal.judge_each-loop-statement-preserved
 judge_each-loop-statement-preserved t c =

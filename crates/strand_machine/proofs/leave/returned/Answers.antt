@@ -21,10 +21,10 @@ pub pass-requires : goal.pass-requires
 pass-requires c =
     let b = c.args.parts.now.body in
     let v = c.args.value in
-    pass-sound c.steps_are_sound.ensures b (work.Runs (stage.Returned v)) (work.Over v false) c.requires (give-loop b v _ _ _ _ _ (sym c.origin.ensures ∙ c.in-Loop.is)) tt
+    pass-sound c.steps_are_sound.ensures b (work.Runs (stage.Returned v)) (work.Finished v false) c.requires (give-loop b v _ _ _ _ _ (sym c.origin.ensures ∙ c.in-Loop.is)) tt
 
 pub returns-in-Loop-clause-step : goal.returns-in-Loop-clause-step
 returns-in-Loop-clause-step c =
     let b = c.args.parts.now.body in
     let v = c.args.value in
-    pass-is b (work.Runs (stage.Returned v)) (work.Over v false) _ tt (give-loop b v _ _ _ _ _ (sym c.origin.ensures ∙ c.in-Loop.is)) c.pass.ensures.made
+    pass-is b (work.Runs (stage.Returned v)) (work.Finished v false) _ tt (give-loop b v _ _ _ _ _ (sym c.origin.ensures ∙ c.in-Loop.is)) c.pass.ensures.made

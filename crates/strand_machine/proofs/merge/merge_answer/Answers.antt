@@ -17,7 +17,7 @@ pub merge_value-requires-clause-works : goal.merge_value-requires-clause-works
 merge_value-requires-clause-works c = subst (λ (p : PlanView). Works p c.args.parts.now.work) (sym c.plan.ensures) c.requires.works
 
 pub merge_value-requires-clause-found : goal.merge_value-requires-clause-found
-merge_value-requires-clause-found c = subst (λ (p : PlanView). WorkFinds p (destination_of c.args.after.place) (work_of p c.args.parts.now.work)) (sym c.plan.ensures) c.requires.found
+merge_value-requires-clause-found c = subst (λ (p : PlanView). WorkFinds p (destination_of c.args.after.destination) (work_of p c.args.parts.now.work)) (sym c.plan.ensures) c.requires.found
 
 pub returns-in-Ok-clause-takes : goal.returns-in-Ok-clause-takes
 returns-in-Ok-clause-takes c =

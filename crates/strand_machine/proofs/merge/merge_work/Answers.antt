@@ -9,7 +9,7 @@ pub merge_stage-requires-clause-stands : goal.merge_stage-requires-clause-stands
 merge_stage-requires-clause-stands c = stands-of c.args.plan.now c.args.work.now _ c.requires.works c.in-Runs.is
 
 pub merge_stage-requires-clause-found : goal.merge_stage-requires-clause-found
-merge_stage-requires-clause-found c = target-of c.args.plan.now (destination_of c.args.place) c.args.work.now _ c.in-Runs.is c.requires.found
+merge_stage-requires-clause-found c = target-of c.args.plan.now (destination_of c.args.destination) c.args.work.now _ c.in-Runs.is c.requires.found
 
 pub returns-in_ok-merge_stage-in-Runs : goal.returns-in_ok-merge_stage-in-Runs
-returns-in_ok-merge_stage-in-Runs c = runs-taken (takes (destination_of c.args.place) (result_of_outcome c.args.outcome)) c.args.work.now _ _ c.in-Runs.is c.in_ok-merge_stage-in-Runs.ensures
+returns-in_ok-merge_stage-in-Runs c = runs-taken (takes (destination_of c.args.destination) (result_of_outcome c.args.outcome)) c.args.work.now _ _ c.in-Runs.is c.in_ok-merge_stage-in-Runs.ensures

@@ -61,11 +61,11 @@ returns-in-Ok-Some-clause-step c =
 -- another move
 
 -- a spawn that isn't one changed nothing
-same : (c : After-instance-in-loop-next-1) → c.match-next.instance.running.value ≡ c.row.new.self.running.value
+same : (c : After-instance-in-loop-next-1) → c.match-next.instance.parts.value ≡ c.row.new.self.parts.value
 same c =
     elim c.match-next.branch [
-      | in-Some+in-Ok-None w ↦ ap (λ (i : Instance). i.running.value) w.instance-is ∙ (rw w.in-Ok-None.field-0-is at w.in-Ok-None.ensures.did)
-      | in_default w ↦ ap (λ (i : Instance). i.running.value) w.instance-is
+      | in-Some+in-Ok-None w ↦ ap (λ (i : Instance). i.parts.value) w.instance-is ∙ (rw w.in-Ok-None.field-0-is at w.in-Ok-None.ensures.did)
+      | in_default w ↦ ap (λ (i : Instance). i.parts.value) w.instance-is
     ]
 
 last : (c : After-instance-in-loop-next-1) (m : MoveResult) (new : Instance) → move c.plan-plan.result.now (path_of c.match-next.instance) (unpassed c.plan-plan.result.now c.match-next.instance (option_copied c.in-Ok.next)) ≡ run_of m (machine_of c.plan-plan.result.now new) →

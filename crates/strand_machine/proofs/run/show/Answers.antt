@@ -9,7 +9,7 @@ use Rattle.strand_machine.specs.Effects.{HasSoundEffects, task_after_effects}
 use Rattle.strand_machine.specs.Made.{made}
 use Rattle.strand_machine.specs.Stops.{KeepsStep, step_of}
 use Rattle.strand_machine.specs.Tasks.{view_of, fresh, with_child}
-use Rattle.strand_machine.specs.declared.destination.Destination.TheVariants as place
+use Rattle.strand_machine.specs.declared.destination.Destination.TheVariants as destination
 use Rattle.strand_machine.specs.declared.stop.MoveOrStop.{MoveOrStop}
 use Rattle.strand_machine.specs.declared.stop.MoveOrStop.TheVariants as step
 use Rattle.strand_machine.specs.declared.stop.Stop.TheVariants as stop
@@ -94,7 +94,7 @@ returns-clause-step c =
     let o = c.unboxed-child.result in
     let p = c.emit-in-Looped.new.self in
     made-ok c.spawn.new.parts c.spawn.result
-    (λ (r : MoveOrStop). r ≡ step.Stops (stop.Spawn (fresh b.family.plan o.child.origin) (view_of (with_child (with_trace b p) o.child.origin (place.Looped o.target)) (work.Runs (stage.AtLoop i)))))
+    (λ (r : MoveOrStop). r ≡ step.Stops (stop.Spawn (fresh b.family.plan o.child.origin) (view_of (with_child (with_trace b p) o.child.origin (destination.Looped o.target)) (work.Runs (stage.AtLoop i)))))
     (λ (r : MoveOrStop). step_of r ≡ stops_at (child_in (effects_of c.args.effects)) (task_after_effects b i c.args.effects))
     (λ r h. looped-step b i c.args.effects c.in-Looped.event o p r (c.in-Looped.is ∙ ap (λ (o : LoopedChild). effect.Looped c.in-Looped.event o) (sym c.unboxed-child.ensures)) c.in_ok-emit-in-Looped.ensures h) c.spawn.ensures.made
 
@@ -104,7 +104,7 @@ returns-clause-keeps c =
     let i = c.args.instance in
     let o = c.unboxed-child.result in
     let p = c.emit-in-Looped.new.self in
-    let at = place.Looped o.target in
+    let at = destination.Looped o.target in
     made-ok c.spawn.new.parts c.spawn.result
     (λ (r : MoveOrStop). r ≡ step.Stops (stop.Spawn (fresh b.family.plan o.child.origin) (view_of (with_child (with_trace b p) o.child.origin at) (work.Runs (stage.AtLoop i)))))
     (KeepsStep (view_of b (work.Runs (stage.Running i)))) (λ r h. spawns-keep b p (work.Runs (stage.Running i)) (work.Runs (stage.AtLoop i)) o.child.origin at r refl h) c.spawn.ensures.made

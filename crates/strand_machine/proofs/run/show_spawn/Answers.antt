@@ -5,7 +5,7 @@ use Rattle.strand_moves.specs.declared.effects.Effects.TheVariants as effect
 use Rattle.strand_machine.specs.Effects.{task_after_effects}
 use Rattle.strand_machine.specs.Stops.{KeepsStep, step_of}
 use Rattle.strand_machine.specs.Tasks.{view_of, fresh, with_child}
-use Rattle.strand_machine.specs.declared.destination.Destination.TheVariants as place
+use Rattle.strand_machine.specs.declared.destination.Destination.TheVariants as destination
 use Rattle.strand_machine.specs.declared.stop.MoveOrStop.{MoveOrStop}
 use Rattle.strand_machine.specs.declared.stop.MoveOrStop.TheVariants as step
 use Rattle.strand_machine.specs.declared.stop.Stop.TheVariants as stop
@@ -34,7 +34,7 @@ returns-clause-step c =
     let o = s.spawned in
     let p = c.emit.new.self in
     made-ok c.spawn.new.parts c.spawn.result
-    (λ (r : MoveOrStop). r ≡ step.Stops (stop.Spawn (fresh b.family.plan o.child.origin) (view_of (with_child (with_trace b p) o.child.origin (place.Spawned o.height o.target)) (work.Runs (stage.Running i)))))
+    (λ (r : MoveOrStop). r ≡ step.Stops (stop.Spawn (fresh b.family.plan o.child.origin) (view_of (with_child (with_trace b p) o.child.origin (destination.Spawned o.height o.target)) (work.Runs (stage.Running i)))))
     (λ (r : MoveOrStop). step_of r ≡ stops_at (child_in (effects_of (effect.Spawned s.event o))) (task_after_effects b i (effect.Spawned s.event o)))
     (λ r h. spawned-step b i (effect.Spawned s.event o) s.event o p r refl c.in_ok-emit.ensures h) c.spawn.ensures.made
 
@@ -44,7 +44,7 @@ returns-clause-keeps c =
     let w = work.Runs (stage.Running c.args.instance) in
     let o = c.args.spawning.spawned in
     let p = c.emit.new.self in
-    let at = place.Spawned o.height o.target in
+    let at = destination.Spawned o.height o.target in
     made-ok c.spawn.new.parts c.spawn.result
     (λ (r : MoveOrStop). r ≡ step.Stops (stop.Spawn (fresh b.family.plan o.child.origin) (view_of (with_child (with_trace b p) o.child.origin at) w)))
     (KeepsStep (view_of b w)) (λ r h. spawns-keep b p w w o.child.origin at r refl h) c.spawn.ensures.made

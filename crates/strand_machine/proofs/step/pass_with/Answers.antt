@@ -21,11 +21,11 @@ returns-in-Runs-clause-step c =
     subst (λ (x : Work). IfOk c.run.result (λ passed. GoesOn (view_of c.args.parts.now.body x) (made c.run.new.parts passed))) (sym c.in-Runs.is) c.run.ensures.step
 
 pub end_loop-requires : goal.end_loop-requires
-end_loop-requires c = sound-at c.args.parts.now.body c.args.work (work.Over c.in-Over.value c.in-Over.gone_on) c.in-Over.is c.requires
+end_loop-requires c = sound-at c.args.parts.now.body c.args.work (work.Finished c.in-Finished.value c.in-Finished.gone_on) c.in-Finished.is c.requires
 
-pub returns-in-Over-clause-step : goal.returns-in-Over-clause-step
-returns-in-Over-clause-step c =
-    subst (λ (x : Work). IfOk c.end_loop.result (λ passed. GoesOn (view_of c.args.parts.now.body x) (made c.end_loop.new.parts passed))) (sym c.in-Over.is) c.end_loop.ensures.step
+pub returns-in-Finished-clause-step : goal.returns-in-Finished-clause-step
+returns-in-Finished-clause-step c =
+    subst (λ (x : Work). IfOk c.end_loop.result (λ passed. GoesOn (view_of c.args.parts.now.body x) (made c.end_loop.new.parts passed))) (sym c.in-Finished.is) c.end_loop.ensures.step
 
 pub unreachable-requires : goal.unreachable-requires
 unreachable-requires c = (sound-at c.args.parts.now.body c.args.work (work.Ends _) c.in-Ends.is c.requires).works

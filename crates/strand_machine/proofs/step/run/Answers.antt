@@ -4,7 +4,7 @@ use Rattle.strand_machine.specs.Tasks.{view_of}
 use Rattle.strand_machine.specs.declared.work.InstanceState.{InstanceState}
 use Rattle.strand_machine.specs.declared.work.InstanceState.TheVariants as stage
 use Rattle.strand_machine.specs.declared.work.Work.TheVariants as work
-use Rattle.strand_machine.proofs.Moves.Arms.{stage-sound, stage-is, sync-sound, sync-is, loop-sound, loop-is, joined-ends, joined-is}
+use Rattle.strand_machine.proofs.Moves.Arms.{stage-sound, stage-is, sync-sound, sync-is, loop-sound, loop-is, child_fault-ends, child_fault-is}
 use Rattle.strand_machine.proofs.step.run.Goals as goal
 
 pub go-requires : goal.go-requires
@@ -39,7 +39,7 @@ pub returns-in-Faulted-clause-step : goal.returns-in-Faulted-clause-step
 returns-in-Faulted-clause-step c = stage-is c.args.parts.now.body c.args.stage (stage.Faulted c.in-Faulted.own) _ c.in-Faulted.is c.faulted.ensures.step
 
 pub returns-in-ChildFaulted-clause-step : goal.returns-in-ChildFaulted-clause-step
-returns-in-ChildFaulted-clause-step c = joined-is c.args.parts.now.body c.args.stage c.in-ChildFaulted.fault _ c.in-ChildFaulted.is refl
+returns-in-ChildFaulted-clause-step c = child_fault-is c.args.parts.now.body c.args.stage c.in-ChildFaulted.fault _ c.in-ChildFaulted.is refl
 
 pub returns-in-ChildFaulted-clause-sound : goal.returns-in-ChildFaulted-clause-sound
-returns-in-ChildFaulted-clause-sound c = joined-ends c.steps_are_sound.ensures c.args.parts.now.body c.args.stage c.in-ChildFaulted.fault c.in-ChildFaulted.is c.requires
+returns-in-ChildFaulted-clause-sound c = child_fault-ends c.steps_are_sound.ensures c.args.parts.now.body c.args.stage c.in-ChildFaulted.fault c.in-ChildFaulted.is c.requires

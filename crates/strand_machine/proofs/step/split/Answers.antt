@@ -6,7 +6,7 @@ use Rattle.strand_machine.specs.Stops.{IsStep}
 use Rattle.strand_machine.specs.Tasks.{view_of, with_child, fresh}
 use Rattle.strand_machine.specs.declared.stop.MoveOrStop.TheVariants as step
 use Rattle.strand_machine.specs.declared.stop.Stop.TheVariants as stop
-use Rattle.strand_machine.specs.declared.destination.Destination.TheVariants as place
+use Rattle.strand_machine.specs.declared.destination.Destination.TheVariants as destination
 use Rattle.strand_machine.specs.declared.work.Left.{Left}
 use Rattle.strand_machine.specs.declared.work.Work.TheVariants as work
 use Rattle.strand_machine.proofs.Moves.Dispatch.{end-answers, end-is, part-trail, pass-sound, pass-is, spawn-sound, spawn-is, split-many, split-none, split-one}
@@ -23,7 +23,7 @@ spawn-requires-clause-known c =
     let parts = halves l.range c.split.result p c.in-Some.is c.split.ensures.halves in
     let two = many (l.range.hi - l.range.lo) c.split.result p c.in-Some.is c.split.ensures.too_few in
     let child : c.in_ok-origin.origin ≡ only b.family.origin p.0 = c.in_ok-origin.ensures ∙ ap (λ (o : Origin). only o p.0) c.origin.ensures in
-    (spawn-sound c.steps_are_sound.ensures b (work.Splits l) (work.Splits upper) c.in_ok-origin.origin place.Half c.requires
+    (spawn-sound c.steps_are_sound.ensures b (work.Splits l) (work.Splits upper) c.in_ok-origin.origin destination.Half c.requires
     (split-many b l upper p.0 c.in_ok-origin.origin two parts.0 parts.1 child) c.requires.works).0
 
 pub spawn-requires-clause-trail : goal.spawn-requires-clause-trail
@@ -42,7 +42,7 @@ spawn-requires-clause-sound c =
     let parts = halves l.range c.split.result p c.in-Some.is c.split.ensures.halves in
     let two = many (l.range.hi - l.range.lo) c.split.result p c.in-Some.is c.split.ensures.too_few in
     let child : c.in_ok-origin.origin ≡ only b.family.origin p.0 = c.in_ok-origin.ensures ∙ ap (λ (o : Origin). only o p.0) c.origin.ensures in
-    (spawn-sound c.steps_are_sound.ensures b (work.Splits l) (work.Splits upper) c.in_ok-origin.origin place.Half c.requires
+    (spawn-sound c.steps_are_sound.ensures b (work.Splits l) (work.Splits upper) c.in_ok-origin.origin destination.Half c.requires
     (split-many b l upper p.0 c.in_ok-origin.origin two parts.0 parts.1 child) c.requires.works).1
 
 pub returns-in-Some-clause-step : goal.returns-in-Some-clause-step
@@ -55,8 +55,8 @@ returns-in-Some-clause-step c =
     let two = many (l.range.hi - l.range.lo) c.split.result p c.in-Some.is c.split.ensures.too_few in
     let child : c.in_ok-origin.origin ≡ only b.family.origin p.0 = c.in_ok-origin.ensures ∙ ap (λ (o : Origin). only o p.0) c.origin.ensures in
     made-ok c.spawn.new.parts c.spawn.result
-    (λ s. s ≡ step.Stops (stop.Spawn (fresh b.family.plan c.in_ok-origin.origin) (view_of (with_child b c.in_ok-origin.origin place.Half) (work.Splits upper)))) (IsStep (view_of b (work.Splits l)))
-    (λ s h. spawn-is b (work.Splits l) (work.Splits upper) c.in_ok-origin.origin place.Half s c.requires.works (split-many b l upper p.0 c.in_ok-origin.origin two parts.0 parts.1 child) h)
+    (λ s. s ≡ step.Stops (stop.Spawn (fresh b.family.plan c.in_ok-origin.origin) (view_of (with_child b c.in_ok-origin.origin destination.Half) (work.Splits upper)))) (IsStep (view_of b (work.Splits l)))
+    (λ s h. spawn-is b (work.Splits l) (work.Splits upper) c.in_ok-origin.origin destination.Half s c.requires.works (split-many b l upper p.0 c.in_ok-origin.origin two parts.0 parts.1 child) h)
     c.spawn.ensures.made
 
 pub returns-then-len-eq0-clause-step : goal.returns-then-len-eq0-clause-step

@@ -1,5 +1,5 @@
 use Rattle.std.proofs.Common.{◌≡◌, drop, reverse}
-use Rattle.strand_moves.specs.Running.{block_inside}
+use Rattle.strand_moves.specs.InstanceParts.{block_inside}
 use Rattle.strand_moves.proofs.OpenScopes.Blocks.{block_from}
 use Rattle.strand_moves.proofs.frame.inside.Given as goal
 

@@ -1,14 +1,14 @@
 use Rattle.std.proofs.Common.{◌≡◌, ℕ, ◌++◌, ◌∷◌, [], length, replicate, true, false, ap, ◌∙◌, sym, subst, arith}
 use Rattle.meet_block.specs.Joined.{joined}
 use Rattle.meet_block.specs.CounterViews.{InOrder, known, tags_of}
-use Rattle.meet_block.specs.Rows.{listed}
+use Rattle.meet_block.specs.CounterLists.{listed}
 use Rattle.meet_block.proofs.Orders.{order_any, finds_all, finds_owing}
-use Rattle.meet_block.proofs.Rows.{listed_with}
+use Rattle.meet_block.proofs.CounterLists.{listed_with}
 use Rattle.meet_block.proofs.counters.Counters.look.Goals as goal
 
 pub invariant_of-self : goal.invariant_of-self
 invariant_of-self g c =
-    let bs = c.self.inside.blocks in let vs = c.look_from.new.blocks in let f = c.in-Some.ensures.owing in
+    let bs = c.self.inside.counters in let vs = c.look_from.new.counters in let f = c.in-Some.ensures.owing in
     let same = c.as_mut_slice.ensures.value in
     let long : length vs ≡ length (listed bs) = omega (arith, ap length same) in
     subst (λ l. InOrder c.in-Some.at (length l) l × (c.self.inside.count ≡ length (tags_of l))) (sym (listed_with bs vs long))
@@ -16,7 +16,7 @@ invariant_of-self g c =
 
 pub invariant_of-self-in-None : goal.invariant_of-self-in-None
 invariant_of-self-in-None g c =
-    let bs = c.self.inside.blocks in let vs = c.look_from.new.blocks in let f = c.in-None.ensures.ready in
+    let bs = c.self.inside.counters in let vs = c.look_from.new.counters in let f = c.in-None.ensures.ready in
     let same = c.as_mut_slice.ensures.value in
     let long : length vs ≡ length (listed bs) = omega (arith, ap length same) in
     let is = listed_with bs vs long in let n = length c.as_slice.result.now in
@@ -27,7 +27,7 @@ invariant_of-self-in-None g c =
 
 pub returns-in-Some-clause-answers : goal.returns-in-Some-clause-answers
 returns-in-Some-clause-answers g c =
-    let bs = c.self.inside.blocks in let us = c.as_mut_slice.result.now in let vs = c.look_from.new.blocks in let f = c.in-Some.ensures.owing in
+    let bs = c.self.inside.counters in let us = c.as_mut_slice.result.now in let vs = c.look_from.new.counters in let f = c.in-Some.ensures.owing in
     let same = c.as_mut_slice.ensures.value in
     let long : length vs ≡ length (listed bs) = omega (arith, ap length same) in
     let was = ap known same ∙ c.self.view_is in (
@@ -42,7 +42,7 @@ returns-in-Some-clause-answers g c =
 
 pub returns-in-None-clause-answers : goal.returns-in-None-clause-answers
 returns-in-None-clause-answers g c =
-    let bs = c.self.inside.blocks in let us = c.as_mut_slice.result.now in let vs = c.look_from.new.blocks in let f = c.in-None.ensures.ready in
+    let bs = c.self.inside.counters in let us = c.as_mut_slice.result.now in let vs = c.look_from.new.counters in let f = c.in-None.ensures.ready in
     let same = c.as_mut_slice.ensures.value in
     let long : length vs ≡ length (listed bs) = omega (arith, ap length same) in
     let was = ap known same ∙ c.self.view_is in

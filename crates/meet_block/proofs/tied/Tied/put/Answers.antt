@@ -10,9 +10,9 @@ load-requires g c = (search rules, search rules, claims _ _ _ _ c.self.inside.ow
 
 pub fetch_sub-requires : goal.fetch_sub-requires
 fetch_sub-requires g c =
-    let m = c.self.inside.seat.me in let place = c.self.inside.place in (
+    let m = c.self.inside.seat.me in let slot = c.self.inside.slot in (
       search rules,
       search rules,
-      arrives _ _ _ place _ (child m.0.own Claimed m.0.tags) c.args.value
-          (c.exchange.ensures.3 ∙ ap (λ r. (c.load.new.seat.me.0, (place, Some r) ∷ rest c.load.new.seat.me.1)) c.filled-room.ensures ∙ ap (λ m. (m.0, (place, Some (Some c.args.value)) ∷ rest m.1)) c.load.ensures.2) c.self.inside.placed refl (c.requires ∙ sym c.self.view_is),
+      arrives _ _ _ slot _ (child m.0.own Claimed m.0.tags) c.args.value
+          (c.exchange.ensures.3 ∙ ap (λ r. (c.load.new.seat.me.0, (slot, Some r) ∷ rest c.load.new.seat.me.1)) c.filled-room.ensures ∙ ap (λ m. (m.0, (slot, Some (Some c.args.value)) ∷ rest m.1)) c.load.ensures.2) c.self.inside.placed refl (c.requires ∙ sym c.self.view_is),
     )

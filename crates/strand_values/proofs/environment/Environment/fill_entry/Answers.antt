@@ -27,17 +27,17 @@ invariant_of-self c =
     let i = c.self.inside in
     let env = c.args.self.now in
     let place = c.args.place in
-    let noted = rw c.replace.ensures.value at c.with_filled.ensures in
+    let listed_now = rw c.replace.ensures.value at c.with_filled.ensures in
     entry_put i.names.value i.entries.items i.filled.items c.self.invariant env c.self.view_is place (get_or env.names place []) c.requires
-    c.index.result.now c.index.ensures c.with_filled.result.items noted c.set_front.new.self (Array (with_front (items_of (held c.index_mut.result.now)) c.args.values.now)) c.set_front.ensures
+    c.index.result.now c.index.ensures c.with_filled.result.items listed_now c.set_front.new.self (Array (with_front (items_of (held c.index_mut.result.now)) c.args.values.now)) c.set_front.ensures
 
 pub returns : goal.returns
 returns c = λ name there.
     let i = c.self.inside in
     let env = c.args.self.now in
     let place = c.args.place in
-    let noted = rw c.replace.ensures.value at c.with_filled.ensures in
+    let listed_now = rw c.replace.ensures.value at c.with_filled.ensures in
     seen_put i.names.value i.entries.items i.filled.items c.self.invariant env c.self.view_is place name there
-    c.index.result.now c.index.ensures c.with_filled.result.items noted c.set_front.new.self (Array (with_front (items_of (held c.index_mut.result.now)) c.args.values.now)) c.set_front.ensures
+    c.index.result.now c.index.ensures c.with_filled.result.items listed_now c.set_front.new.self (Array (with_front (items_of (held c.index_mut.result.now)) c.args.values.now)) c.set_front.ensures
     ∙ ap (λ o. with_variables env (with_slot env.variables name (Array (with_front (items_of o) c.args.values.now))))
     (entry_holds i.names.value i.entries.items i.filled.items c.self.invariant env c.self.view_is place name there c.index_mut.result.now c.index_mut.ensures.value)

@@ -21,17 +21,17 @@ pub invariant_of-self : goal.invariant_of-self
 invariant_of-self c =
     let i = c.self.inside in
     let env = c.args.self.now in
-    let noted = rw c.replace.ensures.value at c.with_filled.ensures in
+    let listed_now = rw c.replace.ensures.value at c.with_filled.ensures in
     let some = some_of (held c.args.entry) c.requires.some in
     entry_put i.names.value i.entries.items i.filled.items c.self.invariant env c.self.view_is c.args.place (get_or env.names c.args.place []) c.requires.there
-    c.index.result.now c.index.ensures c.with_filled.result.items noted c.args.entry some.0 some.1
+    c.index.result.now c.index.ensures c.with_filled.result.items listed_now c.args.entry some.0 some.1
 
 pub returns : goal.returns
 returns c = λ name there.
     let i = c.self.inside in
     let env = c.args.self.now in
-    let noted = rw c.replace.ensures.value at c.with_filled.ensures in
+    let listed_now = rw c.replace.ensures.value at c.with_filled.ensures in
     let some = some_of (held c.args.entry) c.requires.some in
     seen_put i.names.value i.entries.items i.filled.items c.self.invariant env c.self.view_is c.args.place name there
-    c.index.result.now c.index.ensures c.with_filled.result.items noted c.args.entry some.0 some.1
+    c.index.result.now c.index.ensures c.with_filled.result.items listed_now c.args.entry some.0 some.1
     ∙ ap (λ o. with_variables env (with_what env.variables name o)) (sym some.1)

@@ -22,8 +22,8 @@ index_mut-requires c =
     let within = entry_there i.names.value i.entries.items i.filled.items c.self.invariant env c.self.view_is place x.bytes there in
     omega (arith, within, i.entries.ok.0)
 
-pub set_at-requires : goal.set_at-requires
-set_at-requires c =
+pub put_item-requires : goal.put_item-requires
+put_item-requires c =
     let i = c.self.inside in
     let env = c.args.self.now in
     let x = c.args.name.now in
@@ -42,8 +42,8 @@ invariant_of-self c =
     let e = c.index_mut.result.now in
     let is = sym (entry_holds i.names.value i.entries.items i.filled.items c.self.invariant env c.self.view_is place x.bytes there e c.index_mut.ensures.value) in
     let some = some_of (held e) (array_there (held e) c.args.index (item_there _ _ c.args.index is c.requires.there)) in
-    let noted = sym (ap (λ o. with_filled i.filled.items place o) some.1) in
-    entry_put i.names.value i.entries.items i.filled.items c.self.invariant env c.self.view_is place x.bytes there e c.index_mut.ensures.value i.filled.items noted c.set_at.new.self _ c.set_at.ensures
+    let listed_now = sym (ap (λ o. with_filled i.filled.items place o) some.1) in
+    entry_put i.names.value i.entries.items i.filled.items c.self.invariant env c.self.view_is place x.bytes there e c.index_mut.ensures.value i.filled.items listed_now c.put_item.new.self _ c.put_item.ensures
 
 pub returns : goal.returns
 returns c =
@@ -55,8 +55,8 @@ returns c =
     let e = c.index_mut.result.now in
     let is = sym (entry_holds i.names.value i.entries.items i.filled.items c.self.invariant env c.self.view_is place x.bytes there e c.index_mut.ensures.value) in
     let some = some_of (held e) (array_there (held e) c.args.index (item_there _ _ c.args.index is c.requires.there)) in
-    let noted = sym (ap (λ o. with_filled i.filled.items place o) some.1) in
+    let listed_now = sym (ap (λ o. with_filled i.filled.items place o) some.1) in
     let fits : SFits w64 c.number.result = search rules in
-    let holds = rw (to_z-of_z w64 c.args.index c.ranges.index, to_z-of_z w64 c.number.result fits, c.number.ensures) at c.set_at.ensures in
-    seen_put i.names.value i.entries.items i.filled.items c.self.invariant env c.self.view_is place x.bytes there e c.index_mut.ensures.value i.filled.items noted c.set_at.new.self (Array (with_item (items_of (held e)) (nat_abs c.args.index) (as_integer c.args.value.now))) holds
+    let holds = rw (to_z-of_z w64 c.args.index c.ranges.index, to_z-of_z w64 c.number.result fits, c.number.ensures) at c.put_item.ensures in
+    seen_put i.names.value i.entries.items i.filled.items c.self.invariant env c.self.view_is place x.bytes there e c.index_mut.ensures.value i.filled.items listed_now c.put_item.new.self (Array (with_item (items_of (held e)) (nat_abs c.args.index) (as_integer c.args.value.now))) holds
     ∙ ap (λ s. with_variables env (with_slot env.variables x.bytes s)) (stored_there (slot_of env.variables x.bytes) (held e) c.args.index c.args.value.now is c.requires.there)

@@ -35,9 +35,9 @@ invariant_of-self c =
     let x = c.args.name.now in
     let place = get_or c.args.places.now x.at 0 in
     let there = place_found c.args.places.now env.names x c.requires in
-    let noted = rw c.replace.ensures.value at c.with_filled.ensures in
+    let listed_now = rw c.replace.ensures.value at c.with_filled.ensures in
     let holds = rw (to_z-of_z w64 c.args.number c.ranges.number) at c.set_number.ensures in
-    entry_put i.names.value i.entries.items i.filled.items c.self.invariant env c.self.view_is place x.bytes there c.index.result.now c.index.ensures c.with_filled.result.items noted c.set_number.new.self (Scalar (Int c.args.number)) holds
+    entry_put i.names.value i.entries.items i.filled.items c.self.invariant env c.self.view_is place x.bytes there c.index.result.now c.index.ensures c.with_filled.result.items listed_now c.set_number.new.self (Scalar (Int c.args.number)) holds
 
 pub returns : goal.returns
 returns c =
@@ -46,6 +46,6 @@ returns c =
     let x = c.args.name.now in
     let place = get_or c.args.places.now x.at 0 in
     let there = place_found c.args.places.now env.names x c.requires in
-    let noted = rw c.replace.ensures.value at c.with_filled.ensures in
+    let listed_now = rw c.replace.ensures.value at c.with_filled.ensures in
     let holds = rw (to_z-of_z w64 c.args.number c.ranges.number) at c.set_number.ensures in
-    seen_put i.names.value i.entries.items i.filled.items c.self.invariant env c.self.view_is place x.bytes there c.index.result.now c.index.ensures c.with_filled.result.items noted c.set_number.new.self (Scalar (Int c.args.number)) holds
+    seen_put i.names.value i.entries.items i.filled.items c.self.invariant env c.self.view_is place x.bytes there c.index.result.now c.index.ensures c.with_filled.result.items listed_now c.set_number.new.self (Scalar (Int c.args.number)) holds

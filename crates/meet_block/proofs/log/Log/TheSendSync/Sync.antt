@@ -1,8 +1,0 @@
--- And any thread may share it.
-use denote.RattleType.{RattleType}
-use denote.Param.Send.{IsSync, part_keyless}
-use Rattle.meet_block.specs.contracts.log.Log.{the_row}
-use Rattle.meet_block.proofs.log.Log.TheSendSync.Send.{send}
-
-pub sync : (T : RattleType) → IsSync (the_row T)
-sync T = record { shared = λ d b o κ q. part_keyless (the_row T) (send T) q d b o }

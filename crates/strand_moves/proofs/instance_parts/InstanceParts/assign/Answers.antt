@@ -1,0 +1,80 @@
+use Rattle.script_check.specs.Places.{finds_callee, has_place}
+use Rattle.serial_meaning.specs.Plan.{functions_of}
+use Rattle.strand_moves.specs.InstanceParts.{machine_of, present_of}
+use Rattle.strand_moves.proofs.Statements.FoundParts.{in_called, in_spawned, in_value}
+use Rattle.strand_moves.proofs.Statements.Paying.{call-at, spawn-at}
+use Rattle.strand_moves.proofs.Statements.Handing.{handed-acts, handed-child}
+use Rattle.strand_moves.proofs.Statements.QuickLemmas.{emitted-child, quiet-child}
+use Rattle.strand_moves.proofs.instance_parts.InstanceParts.assign.Goals as goal
+
+pub returns-in-Value-clause-shows : goal.returns-in-Value-clause-shows
+returns-in-Value-clause-shows c = λ st. rw (c.in-Value.is, c.quiet.ensures) (c.set_value.ensures.shows c.args.plan.now st)
+
+pub returns-in-Draw-clause-shows : goal.returns-in-Draw-clause-shows
+returns-in-Draw-clause-shows c = λ st. rw (c.in-Draw.is, c.emitted.ensures) (c.draw.ensures.shows st c.in-Draw.field-0)
+
+pub returns-in-New-clause-shows : goal.returns-in-New-clause-shows
+returns-in-New-clause-shows c = λ st. rw (c.in-New.is, c.emitted-in-New.ensures) (c.make_object.ensures.shows c.args.plan.now st c.in-New.field-0)
+
+pub returns-in-Call-clause-shows : goal.returns-in-Call-clause-shows
+returns-in-Call-clause-shows c = λ st.
+    let i = c.args.self.now in
+    let m = machine_of c.args.plan.now i in
+    rw (c.in-Call.is, call-at c.args.plan.now (present_of i) m st c.args.x.now c.in-Call.field-0 c.in-Call.c, c.quiet-in-Call.ensures) (c.call.ensures.shows st)
+
+pub returns-in-Spawn-clause-shows : goal.returns-in-Spawn-clause-shows
+returns-in-Spawn-clause-shows c = λ st.
+    let i = c.args.self.now in
+    let m = machine_of c.args.plan.now i in
+    handed-acts c.args.plan.now st _ i c.spawn.new.self c.spawn.result c.handed.result c.handed.ensures
+    (rw (c.in-Spawn.is, spawn-at c.args.plan.now (present_of i) m st c.args.x.now c.in-Spawn.field-0 c.in-Spawn.c) (c.spawn.ensures.shows st))
+
+pub returns-in-Value-clause-child : goal.returns-in-Value-clause-child
+returns-in-Value-clause-child c = rw c.quiet.ensures (quiet-child c.args.plan.now c.set_value.result)
+
+pub returns-in-Draw-clause-child : goal.returns-in-Draw-clause-child
+returns-in-Draw-clause-child c = rw c.emitted.ensures (emitted-child c.args.plan.now c.draw.result)
+
+pub returns-in-New-clause-child : goal.returns-in-New-clause-child
+returns-in-New-clause-child c = rw c.emitted-in-New.ensures (emitted-child c.args.plan.now c.make_object.result)
+
+pub returns-in-Call-clause-child : goal.returns-in-Call-clause-child
+returns-in-Call-clause-child c = rw c.quiet-in-Call.ensures (quiet-child c.args.plan.now c.call.result)
+
+pub returns-in-Call-clause-stays : goal.returns-in-Call-clause-stays
+returns-in-Call-clause-stays c = rw c.quiet-in-Call.ensures c.call.ensures.stays
+
+pub returns-in-Spawn-clause-child : goal.returns-in-Spawn-clause-child
+returns-in-Spawn-clause-child c = handed-child c.args.plan.now c.spawn.result c.handed.result c.handed.ensures c.spawn.ensures.child
+
+pub set_value-requires-clause-value : goal.set_value-requires-clause-value
+set_value-requires-clause-value c = in_value (has_place c.args.places.now c.args.self.now.top.env.names) (finds_callee (functions_of c.args.plan.now)) c.args.r.now c.in-Value.e c.in-Value.is c.requires.right
+
+pub call-requires-clause-called : goal.call-requires-clause-called
+call-requires-clause-called c = (in_called (has_place c.args.places.now c.args.self.now.top.env.names) (finds_callee (functions_of c.args.plan.now)) c.args.r.now c.in-Call.field-0 c.in-Call.c c.in-Call.is c.requires.right).0
+
+pub call-requires-clause-args : goal.call-requires-clause-args
+call-requires-clause-args c = (in_called (has_place c.args.places.now c.args.self.now.top.env.names) (finds_callee (functions_of c.args.plan.now)) c.args.r.now c.in-Call.field-0 c.in-Call.c c.in-Call.is c.requires.right).1
+
+pub call-requires-clause-target : goal.call-requires-clause-target
+call-requires-clause-target c = c.requires.name
+
+pub returns-in-Value-clause-named : goal.returns-in-Value-clause-named
+returns-in-Value-clause-named c = c.set_value.ensures.named c.args.plan.now
+
+pub returns-in-Draw-clause-named : goal.returns-in-Draw-clause-named
+returns-in-Draw-clause-named c = c.draw.ensures.named c.args.plan.now
+
+pub returns-in-New-clause-named : goal.returns-in-New-clause-named
+returns-in-New-clause-named c = c.make_object.ensures.named c.args.plan.now
+
+pub returns-in-Call-clause-named : goal.returns-in-Call-clause-named
+returns-in-Call-clause-named c = c.call.ensures.named
+
+pub returns-in-Spawn-clause-named : goal.returns-in-Spawn-clause-named
+returns-in-Spawn-clause-named c = c.spawn.ensures.named c.args.plan.now
+
+pub spawn-requires-clause-finds : goal.spawn-requires-clause-finds
+spawn-requires-clause-finds c =
+    let call = in_spawned (has_place c.args.places.now c.args.self.now.top.env.names) (finds_callee (functions_of c.args.plan.now)) c.args.r.now c.in-Spawn.field-0 c.in-Spawn.c c.in-Spawn.is c.requires.right in
+    record { target = c.requires.name; called = call.0; args = call.1 }

@@ -1,4 +1,0 @@
-use Rattle.strand_moves.proofs.running.Running.receive.Goals as goal
-
-pub receive-requires : goal.receive-requires
-receive-requires c = rw c.in-Some.is at c.requires

@@ -1,0 +1,159 @@
+// What an instance is, and its moves.
+
+ghost use Rattle.std.specs.Prelude.{◌≡◌, ◌<◌, ◌+◌, ◌^◌, ◌++◌, ◌∷◌, [], Err, IfOk, OnOk, length};
+ghost use Rattle.std.specs.Option.{option_copied};
+ghost use Rattle.dotmix.specs.Trails.{FitsGamma};
+ghost use Rattle.serial_meaning.specs.Plan.{functions_of};
+ghost use Rattle.strand_meaning.specs.Machine.{Stands, begun, move};
+
+use crate::effects::MoveResult;
+use crate::frame::Frame;
+use crate::memory::Memory;
+use dotmix::Trail;
+use ped_path::Pedigree;
+use script_grammar::Stmt;
+use serial_meaning::{Fault, FaultKind, Plan, Value};
+use std::alloc::Global;
+use strand_values::{Environment, Halt};
+
+/// What stands in an instance's box: its present path, its rank and the steps that it has left, and its frames.
+#[derive(Drop)]
+pub(crate) struct InstanceParts {
+    /// The trail of the present path: the instance's own, and then the ranks of the open scopes.
+    pub(crate) trail: Trail,
+    pub(crate) rank: u64,
+    pub(crate) steps: u64,
+    /// Whether the sync at the end of the innermost open scope is after it.
+    pub(crate) leaving: bool,
+    /// The innermost frame.
+    pub(crate) top: Frame,
+    /// The others, which are its open calls, the outermost first.
+    pub(crate) below: Vec<Frame>,
+}
+
+impl InstanceParts {
+    ghost use Rattle.strand_moves.specs.Acts.{Keeps};
+    ghost use Rattle.strand_moves.specs.InstanceParts.{IsInstance, machine_of, path_of, present_of};
+    ghost use Rattle.strand_moves.specs.Moves.{run_of, Makes, MovesTrail, present_pedigree};
+    ghost use Rattle.strand_moves.specs.Rows.{HasPassedStatement, unpassed};
+
+    /// An instance of the function at this place in the script, before its first move.
+    #[inline(always)]
+    pub fn new(
+        alloc: Global,
+        plan: &Plan,
+        function: u32,
+        args: &[Value],
+        trail: Trail,
+    ) -> Result<Box<InstanceParts>, Memory>
+        requires there { function < length (functions_of plan.now) }
+        requires fits { FitsGamma plan.now.gamma trail }
+        requires within { length trail.path < plan.now.limits.depth }
+        ensures begins { IfOk result (λ i. begun plan.now function args.now ≡ Stands (machine_of plan.now i.value)) }
+        ensures path { IfOk result (λ i. path_of i.value ≡ trail.path) }
+        ensures sound { IfOk result (λ i. IsInstance plan.now i.value) }
+    {
+        let f = &plan.functions()[function as usize];
+        let Some(names) = plan.names(function) else {
+            unreachable!()
+        };
+        // its contract tells that no two parameters have one name
+        plan.places();
+        let env = Environment::bound(alloc, names, f.params.as_slice(), args)?;
+        let parts = InstanceParts {
+            trail,
+            rank: 0,
+            steps: plan.limits.budget as u64,
+            leaving: false,
+            top: Frame::new(alloc, function, env, None),
+            below: Vec::new(alloc),
+        };
+        match Box::new(alloc, parts) {
+            Ok(parts) => Ok(parts),
+            Err(failed) => {
+                drop(failed);
+                Err(Memory)
+            }
+        }
+    }
+
+    /// One move. Where there was no memory for it the instance is of no more use.
+    pub fn make_move(&mut self, alloc: Global, plan: &Plan) -> Result<MoveResult, Memory>
+        requires { IsInstance plan.now self.old }
+        ensures moves { IfOk result (λ moved. move plan.now (path_of self.old) (machine_of plan.now self.old) ≡ run_of moved (machine_of plan.now self.new)) }
+        ensures child { IfOk result (MovesTrail plan.now) }
+        ensures path { IfOk result (λ _. path_of self.new ≡ path_of self.old) }
+        ensures sound { IfOk result (λ _. IsInstance plan.now self.new) }
+    {
+        let text = self.top.statements(plan);
+        match self.top.cursor.pass(text) {
+            Some(statement) => self.make(alloc, plan, Some(statement)),
+            None => self.make(alloc, plan, None),
+        }
+    }
+
+    /// The move of a statement that the cursor has just passed, or where none was left.
+    #[inline(always)]
+    pub(crate) fn make(
+        &mut self,
+        alloc: Global,
+        plan: &Plan,
+        next: Option<&Stmt>,
+    ) -> Result<MoveResult, Memory>
+        requires sound { IsInstance plan.now self.old }
+        requires passed { HasPassedStatement plan.now self.old (option_copied next) }
+        ensures moves { IfOk result (λ moved. move plan.now (path_of self.old) (unpassed plan.now self.old (option_copied next.entry)) ≡ run_of moved (machine_of plan.now self.new)) }
+        ensures child { IfOk result (MovesTrail plan.now) }
+        ensures path { IfOk result (λ _. path_of self.new ≡ path_of self.old) }
+        ensures sound { IfOk result (λ _. IsInstance plan.now self.new) }
+    {
+        let rank = self.rank;
+        match self.act(alloc, plan, next) {
+            Ok(moved) => Ok(moved),
+            Err(Halt::Fault(kind)) => {
+                let path = self.trail.path.share()?;
+                let at = Pedigree { path, rank };
+                Ok(MoveResult::Faulted(Fault { kind, at }))
+            }
+            Err(Halt::Memory) => Err(Memory),
+        }
+    }
+
+    /// The same, or the kind of the fault by which it ends.
+    fn act(&mut self, alloc: Global, plan: &Plan, next: Option<&Stmt>) -> Result<MoveResult, Halt>
+        requires sound { IsInstance plan.now self.old }
+        requires passed { HasPassedStatement plan.now self.old (option_copied next) }
+        ensures moves { Makes (move plan.now (path_of self.old) (unpassed plan.now self.old (option_copied next.entry))) (present_pedigree (present_of self.old) (machine_of plan.now self.old)) (machine_of plan.now self.new) result }
+        ensures child { IfOk result (MovesTrail plan.now) }
+        ensures keeps { Keeps plan.now self.old self.new result }
+    {
+        match next {
+            Some(statement) => self.statement(alloc, plan, plan.places(), statement),
+            None => self.end_block(plan),
+        }
+    }
+
+    /// Pays a step.
+    pub(crate) fn pay(&mut self) -> Result<(), FaultKind>
+        ensures ok { OnOk result (self.new ≡ record self.old { steps = self.new.steps }) }
+        ensures paid { OnOk result (self.new.steps + 1 ≡ self.old.steps) }
+        ensures err { (kind : _) → result ≡ Err kind → (self.new ≡ self.old) × (self.old.steps ≡ 0) × (kind ≡ FaultKind.Budget) }
+    {
+        if self.steps == 0 {
+            return Err(FaultKind::Budget);
+        }
+        self.steps -= 1;
+        Ok(())
+    }
+
+    /// The pedigree of the strand.
+    pub(crate) fn pedigree(&self) -> Result<Pedigree, Memory>
+        requires { self.now.rank < 2 ^ 32 }
+        ensures { IfOk result (λ j. j ≡ present_of self.now ++ self.now.rank ∷ []) }
+    {
+        Ok(Pedigree {
+            path: self.trail.path.share()?,
+            rank: self.rank,
+        })
+    }
+}
