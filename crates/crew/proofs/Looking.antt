@@ -1,10 +1,10 @@
 -- What a look made of a hand, by what became of the task that was stalled.
 use Rattle.std.proofs.Common.{◌≡◌, List, [], ◌∷◌, ◌++◌, Some, None, sym, ap, ◌∙◌, subst}
 use Rattle.strand_machine.specs.Tasks.{TaskView}
-use Rattle.crew.specs.Hands.{HandView, IsTurnedOver, GoesOn, TakesUp, Looks, LooksNewest}
+use Rattle.crew.specs.Hands.{HandView, IsTurnedOver, ResumesFirst, TakesUp, Looks, LooksNewest}
 use Rattle.crew.specs.declared.hand.Looked.TheVariants as looked
 use Rattle.crew.specs.declared.steps.TakeUp.{TakeUp}
-use Rattle.crew.specs.declared.steps.TakeUp.TheVariants.{Missing, Waits, Goes}
+use Rattle.crew.specs.declared.steps.TakeUp.TheVariants.{Missing, Waits, Resumes}
 
 -- the middle hand lacks the task alone
 abbrev ChangesStalledAlone : HandView → HandView → Type 0
@@ -27,9 +27,9 @@ looks old mid t Waits new front lacks h = (
   subst (λ (l : List TaskView). IsTurnedOver l new.stalled) (sym front) (h.0, h.1, ap (λ (x : HandView). x.stalled) h.2),
   with_stalled old mid new _ lacks h.2,
 )
-looks old mid t Goes new front lacks h = (
+looks old mid t Resumes new front lacks h = (
   h.0,
-  subst (λ (l : List TaskView). GoesOn l h.0 new.stalled) (sym front) (h.1, ap (λ (x : HandView). x.stalled) h.2),
+  subst (λ (l : List TaskView). ResumesFirst l h.0 new.stalled) (sym front) (h.1, ap (λ (x : HandView). x.stalled) h.2),
   with_current old mid new h.0 lacks h.2,
 )
 
@@ -39,7 +39,7 @@ newest_waits old mid t new none last lacks h =
     (none, (mid.stalled, t, h.0, last, h.1, ap (λ (x : HandView). x.stalled) h.2), with_stalled old mid new _ lacks h.2)
 
 pub newest_goes : (old mid : HandView) (t : TaskView) (new : HandView) → old.current ≡ None → old.stalled ≡ mid.stalled ++ t ∷ [] → ChangesStalledAlone old mid →
-    TakesUp t mid Goes new → LooksNewest old looked.Goes new
+    TakesUp t mid Resumes new → LooksNewest old looked.Resumes new
 newest_goes old mid t new none last lacks h = (
   h.0,
   none,

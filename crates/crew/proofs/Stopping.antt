@@ -13,7 +13,7 @@ use Rattle.serial_meaning.specs.declared.answer.Outcome.{Outcome}
 use Rattle.serial_meaning.specs.declared.answer.Outcome.TheVariants as outcome
 use Rattle.strand_meaning.specs.Machine.{Effect, Reached, Stands, Gives, move}
 use Rattle.strand_meaning.specs.Trace.{AwaitedChild}
-use Rattle.strand_meaning.specs.Task.{InstanceState, Running, AtSync, AtLoop, Ended, Work, Splits, Runs, Finished, Task, own_instance, MoveOrStop, Passes, Stops, Stop, Spawn, Wait, End, IsNext, Now, Later, stage_after, child_in, stops_at, passing, moved, ends_unless, faults_after, gave, stage_step, split_step, over_step, work_step}
+use Rattle.strand_meaning.specs.Task.{Stage, Running, AtSync, AtLoop, Ended, Remaining, Splits, Runs, Finished, Task, own_instance, MoveOrStop, Passes, Stops, Stop, Spawn, Wait, End, IsNext, Now, Later, stage_after, child_in, stops_at, passing, step_result, ends_unless, faults_after, returned, stage_step, split_step, over_step, remaining_step}
 use Rattle.strand_machine.specs.Family.{tag}
 use Rattle.strand_meaning.specs.Cuts.{IsByFaultOf}
 use Rattle.strand_meaning.specs.Laws.{IsFaultOf}
@@ -46,7 +46,7 @@ module _ (t : Task) where
   at-child None next = tt
   at-child (Some o) next = tt
 
-  at-move : (ts : List Effect) (e : Result Reached Fault) → StandsInStep (moved t ts e)
+  at-move : (ts : List Effect) (e : Result Reached Fault) → StandsInStep (step_result t ts e)
   at-move ts (Ok (Stands m)) = at-child (child_in ts) (passing t ts (Runs (stage_after ts m)))
   at-move ts (Ok (Gives v)) = tt
   at-move ts (Err f) = tt
@@ -55,11 +55,11 @@ module _ (t : Task) where
   at-fault [] f = at-end t.trace.fault _
   at-fault (p ∷ ps) f = refl
 
-  at-value : (o : Origin) (v : Value) → StandsInStep (gave t o v)
+  at-value : (o : Origin) (v : Value) → StandsInStep (returned t o v)
   at-value (Instance function args path) v = at-end t.trace.fault _
   at-value (Loop function rest first path range) v = tt
 
-  at-stage : (stage : InstanceState) → StandsInStep (stage_step t stage)
+  at-stage : (stage : Stage) → StandsInStep (stage_step t stage)
   at-stage (Running m) = let r = move t.plan (path_of (own_instance t.origin)) m in at-move r.items r.ending
   at-stage (AtSync m) = refl
   at-stage (AtLoop m) = refl
@@ -81,14 +81,14 @@ module _ (t : Task) where
       by_size (suc zero) g = rw g (at-end t.trace.fault _)
       by_size (suc (suc n)) g = rw g refl
 
-  at-work : (work : Work) → StandsInStep (work_step t work)
-  at-work (Splits left) = at-split left (left.hi - left.lo)
-  at-work (Runs stage) = at-stage stage
-  at-work (Finished v true) = at-end t.trace.fault _
-  at-work (Finished v false) = at-over v t.origin
+  at-remaining : (remaining : Remaining) → StandsInStep (remaining_step t remaining)
+  at-remaining (Splits left) = at-split left (left.hi - left.lo)
+  at-remaining (Runs stage) = at-stage stage
+  at-remaining (Finished v true) = at-end t.trace.fault _
+  at-remaining (Finished v false) = at-over v t.origin
 
 stands-in : (t : Task) (stop : Stop) → IsNext t stop → StandsIn stop
-stands-in t stop (Now h) = subst StandsInStep h (at-work t t.work)
+stands-in t stop (Now h) = subst StandsInStep h (at-remaining t t.remaining)
 stands-in t stop (Later next h n) = stands-in next stop n
 
 -- Only its end comes of a task that took a cut.

@@ -8,13 +8,13 @@ use Rattle.strand_meaning.specs.Task.{Task, start, Stop, Spawn, Wait, End}
 use Rattle.sched_meaning.specs.Core.{Worker}
 use Rattle.sched_meaning.specs.Steps.{WorkerRuns, WorkerPops, WorkerPasses}
 use Rattle.steal_deck.specs.Ends.{OwnerEnd, Pops}
-use Rattle.strand_machine.specs.Stops.{IsStop, IsCutEnd, IsOn, IsResumed, any_cut, Advances as AdvancesTo}
+use Rattle.strand_machine.specs.Stops.{IsStop, IsCutEnd, IsCutOn, IsResumed, any_cut, looked, view_on, Advances as AdvancesTo}
 use Rattle.strand_machine.proofs.NextStops.ByCut.{advances, advances-at}
 use Rattle.strand_machine.specs.Tasks.{TaskView}
 use Rattle.strand_machine.specs.declared.stop.Stop.{Stop as Stops}
 use Rattle.strand_machine.specs.declared.stop.Stop.TheVariants as stop
 use Rattle.strand_machine.specs.declared.stop.Resumed.TheVariants as resumed
-use Rattle.crew.specs.Hands.{HandView, IsPut, Runs, EndsTask, AdvancesCurrent, IsNewest, IsTurnedOver, GoesOn, Seeks, IsTurn, IsTurnFrom, StaysLast, LastGoesOn, LooksNewest}
+use Rattle.crew.specs.Hands.{HandView, IsPut, Runs, EndsTask, AdvancesCurrent, IsNewest, IsTurnedOver, ResumesFirst, Seeks, IsTurn, IsTurnFrom, StaysLast, LastGoesOn, LooksNewest}
 use Rattle.crew.specs.Ties.{tasks, worker_of, OwnerLeaves, IsEnd, IsNoEnd, RunsTo, EndsByCut, TakesLast, ResumesAt, PassesAt, LooksBefore, IsTied, IsTiedLook}
 use Rattle.crew.specs.declared.hand.Looked.{Looked}
 use Rattle.crew.specs.declared.hand.Looked.TheVariants as looked
@@ -218,21 +218,33 @@ module _ (old new : HandView) (free : old.current ≡ None) where
       new ≡ record old { current = Some next; deck = new.deck; stalled = remove old.stalled place } → ResumesAt place left old new
   resumes-at place left t next there (answers, are, is, passed) h = by (any_cut answers) refl
     where
-      by-whole : IsOn t next → ResumesAt place left old new
+      by-whole : next ≡ view_on (looked next.loads t) → ResumesAt place left old new
       by-whole gone = inl (
         t.task,
         record {
           free = was-free;
           there = front place t old.stalled there;
           after =
-              worker-is left new _ _ _ (ap (λ (x : HandView). task-of x.current) h ∙ ap Some gone.task) (ap (λ (x : HandView). tasks left ++ tasks x.overflow) h)
+              worker-is left new _ _ _ (ap (λ (x : HandView). task-of x.current) h ∙ ap (λ (v : TaskView). Some v.task) gone) (ap (λ (x : HandView). tasks left ++ tasks x.overflow) h)
               (ap (λ (x : HandView). tasks x.stalled) h ∙ without place old.stalled);
         },
       )
 
+      cut-on : IsCutOn answers (looked next.loads t) next → IsCutOn answers t next
+      cut-on c = record {
+        plan = c.plan;
+        origin = c.origin;
+        prefix = c.prefix;
+        handed = c.handed;
+        waits = c.waits;
+        advanced = c.advanced;
+        cut = c.cut;
+        children = c.children;
+      }
+
       by : (cut : Bool) → any_cut answers ≡ cut → ResumesAt place left old new
       by false e = by-whole (is.whole e)
-      by true e = inr (t, next, answers, is.cut e, free, there, h)
+      by true e = inr (t, next, answers, cut-on (is.cut e).0, free, there, h)
 
   -- the hand after a look at the front of its stalled tasks that was in vain
   passed : (mid : HandView) → mid.current ≡ old.current → mid.overflow ≡ old.overflow → (stalled : List TaskView) → old.stalled ≡ stalled → IsTurnedOver stalled mid.stalled → PassesAt 0 [] old mid
@@ -240,7 +252,7 @@ module _ (old new : HandView) (free : old.current ≡ None) where
   passed mid c k (t ∷ ts) e (same, stays, after) =
       (t.task, passes 0 [] t same mid (ap (λ l. slice_get l 0) e) stays.0 c k (after ∙ ap (λ l. remove l 0 ++ same ∷ []) (sym e)))
 
-  goes : (t : TaskView) (stalled : List TaskView) → old.stalled ≡ stalled → GoesOn stalled t new.stalled → new ≡ record old { current = Some t; deck = new.deck; stalled = new.stalled } →
+  goes : (t : TaskView) (stalled : List TaskView) → old.stalled ≡ stalled → ResumesFirst stalled t new.stalled → new ≡ record old { current = Some t; deck = new.deck; stalled = new.stalled } →
       ResumesAt 0 [] old new
   goes t [] e h is = absurd h
   goes t (first ∷ ts) e (on, after) is =
@@ -318,7 +330,7 @@ module _ (old new : HandView) where
   )
 
   goes-last : (next : TaskView) → old.current ≡ None → LastGoesOn old.stalled next new.stalled → new ≡ record old { current = Some next; stalled = new.stalled } →
-      IsTiedLook old looked.Goes new
+      IsTiedLook old looked.Resumes new
   goes-last next free (t, last, on) h = (
     length new.stalled,
     one-more new.stalled t ∙ ap length (sym last),
@@ -334,4 +346,4 @@ module _ (old new : HandView) where
 pub tied_look : (old : HandView) (found : Looked) (new : HandView) → LooksNewest old found new → IsTiedLook old found new
 tied_look old looked.Nothing new h = h.0
 tied_look old looked.Waits new (free, stays-last, h) = stays old new old.stalled refl free stays-last h
-tied_look old looked.Goes new (t, free, last, h) = goes-last old new t free last h
+tied_look old looked.Resumes new (t, free, last, h) = goes-last old new t free last h

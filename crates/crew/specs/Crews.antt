@@ -4,7 +4,7 @@ use Rattle.serial_meaning.specs.Answer.{AnswerTag, AnswerView, IsEval}
 use Rattle.serial_meaning.specs.Eval.{main_origin}
 use Rattle.serial_meaning.specs.Plan.{PlanView}
 use Rattle.steal_deck.specs.Ends.{DeckId, ThiefEnd, new_owner, new_thief}
-use Rattle.meet_block.specs.Joined.{Joined, joined}
+use Rattle.meet_block.specs.Joined.{Joined, joined_with}
 use Rattle.strand_machine.specs.Family.{tag}
 use Rattle.strand_machine.specs.Tasks.{TaskView, fresh}
 use Rattle.crew.specs.Hands.{HandView, IsRoots}
@@ -17,7 +17,7 @@ IsMainAlone (t ∷ u ∷ us) = ⊥
 
 -- the root of a plan, whose answer wasn't put, and its task
 abbrev pub new_root : PlanView → Joined AnswerTag
-new_root plan = joined (tag plan (main_origin plan) ∷ []) (false ∷ []) false []
+new_root plan = joined_with (tag plan (main_origin plan) ∷ []) (false ∷ []) false []
 
 abbrev pub root_task : PlanView → TaskView
 root_task plan = fresh plan (main_origin plan)

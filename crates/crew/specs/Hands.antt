@@ -99,21 +99,21 @@ IsTurnedOver [] after = ⊥
 IsTurnedOver (t ∷ ts) after = (same : TaskView) × IsResumed t (resumed.NotYet same) × (after ≡ ts ++ same ∷ [])
 
 -- It goes on, and is stalled no more.
-abbrev pub GoesOn : List TaskView → TaskView → List TaskView → Type 0
-GoesOn [] next after = ⊥
-GoesOn (t ∷ ts) next after = IsResumed t (resumed.On next) × (after ≡ ts)
+abbrev pub ResumesFirst : List TaskView → TaskView → List TaskView → Type 0
+ResumesFirst [] next after = ⊥
+ResumesFirst (t ∷ ts) next after = IsResumed t (resumed.On next) × (after ≡ ts)
 
 -- What a look at a task that was stalled made of the hand.
 abbrev pub TakesUp : TaskView → HandView → TakeUp → HandView → Type 0
 TakesUp t old found.Missing new = ⊥
 TakesUp t old found.Waits new = (same : TaskView) × IsResumed t (resumed.NotYet same) × (new ≡ record old { stalled = old.stalled ++ same ∷ [] })
-TakesUp t old found.Goes new = (next : TaskView) × IsResumed t (resumed.On next) × (new ≡ record old { current = Some next })
+TakesUp t old found.Resumes new = (next : TaskView) × IsResumed t (resumed.On next) × (new ≡ record old { current = Some next })
 
 -- What a look at the front of the stalled tasks found.
 abbrev pub Looks : HandView → TakeUp → HandView → Type 0
 Looks old found.Missing new = (old.stalled ≡ []) × (new ≡ old)
 Looks old found.Waits new = IsTurnedOver old.stalled new.stalled × (new ≡ record old { stalled = new.stalled })
-Looks old found.Goes new = (t : TaskView) × GoesOn old.stalled t new.stalled × (new ≡ record old { current = Some t; stalled = new.stalled })
+Looks old found.Resumes new = (t : TaskView) × ResumesFirst old.stalled t new.stalled × (new ≡ record old { current = Some t; stalled = new.stalled })
 
 -- a thief whose steal took nothing
 abbrev pub missed : ThiefEnd TaskView → ThiefEnd TaskView
@@ -144,7 +144,7 @@ abbrev pub Seeks : HandView → Turn → HandView → Type 0
 Seeks old Popped new =
     (t : TaskView) × IsNewest t old.overflow old.deck new.overflow new.deck × (new ≡ record old { current = Some t; overflow = new.overflow; deck = new.deck })
 Seeks old ResumedOne new =
-    (t : TaskView) × FindsNoTask old new × GoesOn old.stalled t new.stalled × (new ≡ record old { current = Some t; deck = new.deck; stalled = new.stalled })
+    (t : TaskView) × FindsNoTask old new × ResumesFirst old.stalled t new.stalled × (new ≡ record old { current = Some t; deck = new.deck; stalled = new.stalled })
 Seeks old Stole new =
     (t : TaskView) × FindsNoTask old new × (((old.stalled ≡ []) × (new.stalled ≡ [])) ⊎ IsTurnedOver old.stalled new.stalled) × FirstSteals old.thieves t new.thieves
     × (new ≡ record old { current = Some t; deck = new.deck; stalled = new.stalled; thieves = new.thieves })
@@ -178,5 +178,5 @@ LastGoesOn before next after = (t : TaskView) × (before ≡ after ++ t ∷ []) 
 abbrev pub LooksNewest : HandView → Looked → HandView → Type 0
 LooksNewest old looked.Nothing new = (new ≡ old) × (old.current ≡ None → old.stalled ≡ [])
 LooksNewest old looked.Waits new = (old.current ≡ None) × StaysLast old.stalled new.stalled × (new ≡ record old { stalled = new.stalled })
-LooksNewest old looked.Goes new =
+LooksNewest old looked.Resumes new =
     (t : TaskView) × (old.current ≡ None) × LastGoesOn old.stalled t new.stalled × (new ≡ record old { current = Some t; stalled = new.stalled })

@@ -90,4 +90,4 @@ IsTied old Idle new = FindsNone old.deck new.deck × (worker_of [] old ≡ free_
 abbrev pub IsTiedLook : HandView → Looked → HandView → Type 0
 IsTiedLook old looked.Nothing new = new ≡ old
 IsTiedLook old looked.Waits new = (place : ℕ) × (place + 1 ≡ length old.stalled) × ((left : List TaskView) → PassesAt place left old new)
-IsTiedLook old looked.Goes new = (place : ℕ) × (place + 1 ≡ length old.stalled) × ((left : List TaskView) → ResumesAt place left old new)
+IsTiedLook old looked.Resumes new = (place : ℕ) × (place + 1 ≡ length old.stalled) × ((left : List TaskView) → ResumesAt place left old new)

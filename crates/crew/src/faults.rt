@@ -33,7 +33,7 @@ pub(crate) struct Faults {
 }
 
 /// The fault for a cell. There is none where no memory was found.
-fn known(alloc: Global, plan: &Arc<Plan>, fault: &Fault) -> Option<Box<Known>>
+fn known_fault(alloc: Global, plan: &Arc<Plan>, fault: &Fault) -> Option<Box<Known>>
     requires { Contains (faults (arc_value plan.now)) fault.now }
     ensures { IfSome result (λ known. known.value.fault ≡ fault.now) }
 {
@@ -204,7 +204,7 @@ impl Faults {
         if !is_news(self.least(plan), fault) {
             return;
         }
-        if let Some(known) = known(alloc, plan, fault) {
+        if let Some(known) = known_fault(alloc, plan, fault) {
             self.offer(known);
         }
     }

@@ -42,7 +42,7 @@ pub enum Looked {
     /// The task still waits.
     Waits,
     /// All of its children have answered. It is the current one.
-    Goes,
+    Resumes,
 }
 
 /// The hands of a crew, by number from 0.

@@ -5,7 +5,7 @@ use std::alloc::{AllocError, Global};
 const TURNS: u32 = 4096;
 
 /// How far the heap is grown, in bytes. A turn keeps some 400 of them, for a child's path and the events around its spawn.
-const ROOM: usize = 4 * 1024 * 1024;
+const HEAP_GROWTH: usize = 4 * 1024 * 1024;
 
 /// The heap of a hand's thread.
 #[derive(Drop)]
@@ -25,7 +25,7 @@ impl Heap {
     /// take memory. Where there is no such room, the heap grows as before.
     pub fn count_turn(&mut self) {
         if self.turns == 0 {
-            let room: Result<Vec<u8>, AllocError> = Vec::with_capacity(self.alloc, ROOM);
+            let room: Result<Vec<u8>, AllocError> = Vec::with_capacity(self.alloc, HEAP_GROWTH);
             drop(room);
             self.turns = TURNS;
         }

@@ -32,13 +32,13 @@ pub struct Roots(pub Items<Root>);
 
 impl Root {
     ghost use Rattle.std.specs.Prelude.{◌≡◌, ◌∷◌, [], true};
-    ghost use Rattle.meet_block.specs.Joined.{Answers};
+    ghost use Rattle.meet_block.specs.Joined.{LookAnswers};
     ghost use Rattle.serial_meaning.specs.Render.{IsWhole};
     ghost use Rattle.strand_machine.specs.Family.{tag};
 
     /// Says whether the answer was put. It takes no memory and doesn't wait.
     pub fn look(&mut self) -> Look
-        ensures answers { Answers self.old self.new result }
+        ensures answers { LookAnswers self.old self.new result }
         ensures tags { self.new.tags ≡ self.old.tags }
     {
         self.join.look()

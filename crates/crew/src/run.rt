@@ -40,7 +40,7 @@ fn look_on(alloc: Global, signals: &Signals, hand: &mut Hand) -> Option<Looked> 
 /// After a turn in which the current task came to a stop: where it handed out a child, its rest can be stolen. Else it waits, and a hand
 /// that cuts all that it begins sleeps for a while.
 #[inline(always)]
-fn go_on<R: Wait>(
+fn keep_turning<R: Wait>(
     rt: &R,
     alloc: Global,
     naps: &mut Naps,
@@ -50,7 +50,7 @@ fn go_on<R: Wait>(
 ) {
     match look_on(alloc, signals, hand) {
         Some(Looked::Waits) if cuts => naps.wait(rt, signals, 0),
-        Some(Looked::Nothing) if !cuts => signals.offer(),
+        Some(Looked::Nothing) if !cuts => signals.wake_one(),
         _ => {}
     }
 }
@@ -60,7 +60,7 @@ fn go_on<R: Wait>(
 ///
 /// Where all tasks that a hand begins are cut, it sleeps after each that it leaves waiting, and neither its pushes nor its steals wake
 /// anyone: the hands from which it steals come to the ends of their tasks faster by themselves.
-fn work<R: Wait, G: Gate>(
+fn take_turns<R: Wait, G: Gate>(
     rt: &R,
     alloc: Global,
     mut naps: Naps,
@@ -76,20 +76,20 @@ fn work<R: Wait, G: Gate>(
         let turn = hand.turn(alloc, gate);
         let cuts = hand.cuts();
         if !cuts && !matches!(turn, Ok(Turn::Waiting | Turn::Idle)) {
-            naps.end(signals);
+            naps.reset(signals);
         }
         match turn {
             Ok(Turn::Ran) => {
                 heap.count_turn();
-                go_on(rt, alloc, &mut naps, signals, hand, cuts);
+                keep_turning(rt, alloc, &mut naps, signals, hand, cuts);
             }
             Ok(Turn::Answered(_)) => {
                 look_on(alloc, signals, hand);
             }
             Ok(Turn::Waiting) => naps.wait(rt, signals, hand.stalled_count()),
             Ok(Turn::Idle) => naps.idle(rt, signals),
-            Ok(Turn::Stole) if !cuts => signals.offer(),
-            Ok(Turn::Ended(_)) => signals.end(),
+            Ok(Turn::Stole) if !cuts => signals.wake_one(),
+            Ok(Turn::Ended(_)) => signals.root_ended(),
             Ok(_) => {}
             Err(_) => signals.end_all(),
         }
@@ -122,7 +122,7 @@ fn is_meant(answer: &Answer)
 }
 
 /// Looks until the root's answer is there, and takes it.
-fn answer_of<R: Wait>(rt: &R, mut root: Root) -> Answer
+fn roots_answer<R: Wait>(rt: &R, mut root: Root) -> Answer
     ensures tag { root.tags ≡ tag result.plan result.origin ∷ [] }
     ensures whole { IsWhole result.outcome }
     ensures meant { IsEval result.plan result.origin result.out result.outcome }
@@ -161,7 +161,7 @@ fn run_hands<R: Threads + Wait + Sync, G: Gate + Sync>(
         rt,
         alloc,
         hands.0.0,
-        &|hand| { work(rt, alloc, Naps::new(workers), shared, hand, gate) },
+        &|hand| { take_turns(rt, alloc, Naps::new(workers), shared, hand, gate) },
     );
     let is_ended = signals.is_ended();
     drop(signals);
@@ -186,7 +186,7 @@ pub fn run_crew<R: Threads + Wait + Sync, G: Gate + Sync>(
 {
     let (root, hands) = Crew::new(alloc, plan, workers)?;
     run_hands(rt, alloc, hands, 1, gate)?;
-    let answer = answer_of(rt, root);
+    let answer = roots_answer(rt, root);
     ends_within_faults(&answer);
     Ok(answer)
 }
@@ -197,7 +197,7 @@ fn answers_of<R: Wait>(rt: &R, alloc: Global, roots: Vec<Root>) -> Result<Items<
 {
     let mut answers = Vec::new(alloc);
     for root in roots {
-        answers.push(answer_of(rt, root))?;
+        answers.push(roots_answer(rt, root))?;
     }
     Ok(Items(answers))
 }

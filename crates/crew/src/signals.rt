@@ -55,7 +55,7 @@ impl Signals {
     }
 
     /// One more root's answer was put. With the last one no hand takes another turn.
-    pub fn end(&self) {
+    pub fn root_ended(&self) {
         let ended: &AtomicU64 = &self.ended;
         let before = ended.fetch_add(1, Ordering::SeqCst);
         if before.saturating_add(1) >= self.roots {
@@ -70,7 +70,7 @@ impl Signals {
     }
 
     /// One more hand looks for a task.
-    fn seek(&self) {
+    fn begin_seek(&self) {
         let seeking: &AtomicU64 = &self.seeking;
         seeking.fetch_add(1, Ordering::SeqCst);
     }
@@ -89,12 +89,12 @@ impl Signals {
         asleep.fetch_add(1, Ordering::SeqCst);
         stop.park_timeout(rt, 0, Duration::from_micros(micros));
         asleep.fetch_sub(1, Ordering::SeqCst);
-        self.seek();
+        self.begin_seek();
     }
 
     /// There is a task to steal: where no hand looks for one, one of those that sleep does so now. It writes nothing where a hand looks or
     /// none sleeps, so that a push costs no more than two reads of what seldom changes.
-    pub fn offer(&self) {
+    pub fn wake_one(&self) {
         let seeking: &AtomicU64 = &self.seeking;
         let asleep: &AtomicU64 = &self.asleep;
         if seeking.load(Ordering::SeqCst) == 0 && asleep.load(Ordering::SeqCst) != 0 {
@@ -133,7 +133,7 @@ impl Naps {
     }
 
     /// The hand found something to do.
-    pub fn end(&mut self, signals: &Signals) {
+    pub fn reset(&mut self, signals: &Signals) {
         if self.ended {
             return;
         }
@@ -166,7 +166,7 @@ impl Naps {
         }
         self.vain = 0;
         if !mem::replace(&mut self.seeks, true) {
-            signals.seek();
+            signals.begin_seek();
         }
         if self.backoff.is_completed() {
             signals.sleep(rt, self.next.min(longest));

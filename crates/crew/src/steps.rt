@@ -1,7 +1,6 @@
 // The steps of a hand's turn.
-ghost use Rattle.std.specs.Prelude.{◌≡◌, ◌≤◌, ◌↔◌, ◌⊎◌, [], ◌∷◌, ◌++◌, length, reverse, IfOk, OnOk, OnErr, IfSome, IfNone, IsTrue, None, true, false};
+ghost use Rattle.std.specs.Prelude.{◌≡◌, ◌≤◌, ◌⊎◌, [], ◌∷◌, ◌++◌, length, reverse, IfOk, OnOk, OnErr, IfSome, IfNone, None, true, false};
 ghost use Rattle.serial_meaning.specs.Answer.{IsCut};
-ghost use Rattle.serial_meaning.specs.Eval.{main_origin};
 ghost use Rattle.strand_meaning.specs.Cuts.{IsByFaultOf};
 ghost use Rattle.strand_machine.specs.Family.{tag};
 ghost use Rattle.strand_machine.specs.Tasks.{is_cut_short};
@@ -17,8 +16,7 @@ use crate::memory::Memory;
 use crate::stalled::Stalled;
 use meet_block::Give;
 use script_grammar::Items;
-use serial_meaning::plan::function_number;
-use serial_meaning::{Answer, Fault, Origin, Outcome, Plan};
+use serial_meaning::{Answer, Fault, Outcome};
 use std::alloc::Global;
 use std::collections::VecDeque;
 use steal_deck::{Deck, Steal, Thief};
@@ -32,7 +30,7 @@ pub(crate) enum TakeUp {
     /// It still waits, and is at the end of the stalled tasks.
     Waits,
     /// It is the current one.
-    Goes,
+    Resumes,
 }
 
 /// The rest goes to the end of the private list.
@@ -101,31 +99,13 @@ fn stall(stalled: &mut VecDeque<Stalled>, task: Task) -> Result<(), Memory>
     Ok(())
 }
 
-/// Whether it is main's origin, that of a root.
-fn is_main(plan: &Plan, origin: &Origin) -> bool
-    ensures { IsTrue result ↔ (origin.now ≡ main_origin plan.now) }
-{
-    match origin {
-        Origin::Instance {
-            function,
-            args,
-            path,
-        } => {
-            path.len() == 0
-                && args.as_slice().is_empty()
-                && *function == function_number(plan.functions(), b"main")
-        }
-        Origin::Loop { .. } => false,
-    }
-}
-
 /// Puts the answer of a task that has ended or was cut.
 #[inline(never)]
 fn put_answer(answer: Answer, give: Give<Answer>) -> Turn
     requires { give ≡ tag answer.plan answer.origin }
     ensures { IsAnswered give result }
 {
-    let is_roots = is_main(&answer.plan, &answer.origin);
+    let is_roots = answer.plan.is_main_origin(&answer.origin);
     let arrived = give.put(answer);
     if is_roots {
         Turn::Ended(arrived)
@@ -215,7 +195,7 @@ fn run<G: Gate>(held: &mut Held, task: Task, alloc: Global, gate: &G) -> Result<
 }
 
 /// The newest of the hand's own tasks.
-fn newest(deck: &mut Deck<Task>, overflow: &mut Vec<Task>) -> Option<Task>
+fn newest_stalled(deck: &mut Deck<Task>, overflow: &mut Vec<Task>) -> Option<Task>
     ensures some { IfSome result (λ task. IsNewest task overflow.old.items deck.old overflow.new.items deck.new) }
     ensures none { IfNone result ((overflow.old.items ≡ []) × (overflow.new.items ≡ []) × FindsNone deck.old deck.new) }
     ensures late { IsLate overflow.old.items deck.old → IsLate overflow.new.items deck.new }
@@ -235,7 +215,7 @@ fn pop(held: &mut Held) -> Option<Turn>
     ensures none { IfNone result (FindsNoTask (view_of held.old) (view_of held.new) × (view_of held.new ≡ record (view_of held.old) { deck = held.new.deck })) }
     ensures late { KeepsLate (view_of held.old) (view_of held.new) }
 {
-    held.current = newest(&mut held.deck, &mut held.overflow);
+    held.current = newest_stalled(&mut held.deck, &mut held.overflow);
     match &held.current {
         Some(_) => Some(Turn::Popped),
         None => None,
@@ -271,7 +251,7 @@ fn take_up(held: &mut Held, task: Task, alloc: Global) -> Result<TakeUp, Memory>
     match resumed {
         Resumed::On(task) => {
             held.current = Some(task);
-            Ok(TakeUp::Goes)
+            Ok(TakeUp::Resumes)
         }
         Resumed::NotYet(task) => {
             stall(&mut held.stalled, task)?;
@@ -347,7 +327,7 @@ fn seek(held: &mut Held, alloc: Global) -> Result<Turn, Memory>
         return Ok(turn);
     }
     match look(held, alloc)? {
-        TakeUp::Goes => Ok(Turn::Resumed),
+        TakeUp::Resumes => Ok(Turn::Resumed),
         TakeUp::Waits => Ok(steal_or(held, alloc, Turn::Waiting)),
         TakeUp::Missing => Ok(steal_or(held, alloc, Turn::Idle)),
     }
@@ -380,7 +360,7 @@ pub(crate) fn look_newest(held: &mut Held, alloc: Global) -> Result<Looked, Memo
     };
     let Stalled { task } = stalled;
     match take_up(held, task, alloc)? {
-        TakeUp::Goes => Ok(Looked::Goes),
+        TakeUp::Resumes => Ok(Looked::Resumes),
         TakeUp::Waits => Ok(Looked::Waits),
         TakeUp::Missing => Ok(Looked::Nothing),
     }

@@ -9,7 +9,7 @@ use std::thread::{Builder, Threads};
 const STACK: usize = 1024 * 1024;
 
 /// How far the stack of the calling thread is grown before the others start, in pages of 4 KiB.
-const ROOM: u64 = 64;
+const STACK_PAGES: u64 = 64;
 
 /// What is kept for the heap while the others start, in bytes. Else their stacks may take all that the process may have.
 const SPARE: usize = 4 * 1024 * 1024;
@@ -33,7 +33,7 @@ fn at_one<T, F: Fn(&mut T)>(f: &F, one: &mut T)
 
 /// A block that is kept while so many other threads start. Before it is taken, the stack of the calling thread is grown. Where so much
 /// memory isn't there, or no thread is to start, there is no block, and the stack is left as it is: to grow it would end the process.
-fn spare(alloc: Global, others: usize) -> Option<Vec<u8>> {
+fn spare_block(alloc: Global, others: usize) -> Option<Vec<u8>> {
     if others == 0 {
         return None;
     }
@@ -42,7 +42,7 @@ fn spare(alloc: Global, others: usize) -> Option<Vec<u8>> {
         return None;
     }
     drop(room);
-    grow_stack(&AtomicU64::new(0), ROOM);
+    grow_stack(&AtomicU64::new(0), STACK_PAGES);
     Vec::with_capacity(alloc, SPARE).ok()
 }
 
@@ -66,9 +66,9 @@ pub(crate) fn at_each<R: Threads + Wait, T: Send + Drop, F: Fn(&mut T) + Sync>(
             let Some((first, others)) = whole.split_first_mut() else {
                 return;
             };
-            let spare = spare(alloc, others.len());
+            let spare_block = spare_block(alloc, others.len());
             for one in others.iter_mut() {
-                if spare.is_none() {
+                if spare_block.is_none() {
                     break;
                 }
                 let builder = Builder::new().stack_size(STACK);
@@ -82,7 +82,7 @@ pub(crate) fn at_each<R: Threads + Wait, T: Send + Drop, F: Fn(&mut T) + Sync>(
                     break;
                 }
             }
-            drop(spare);
+            drop(spare_block);
             at_one(f, first);
         },
     );

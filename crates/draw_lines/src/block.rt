@@ -39,7 +39,7 @@ fn write_lines(numbers: &[u64], text: &mut [u8]) -> usize
 }
 
 /// Draws as many numbers as there is room for, and writes their lines.
-pub(crate) fn write_block<K: Sink>(
+pub(crate) fn write_draws<K: Sink>(
     stream: &Stream,
     numbers: &mut [u64],
     text: &mut [u8],

@@ -32,7 +32,7 @@ impl Stream {
     }
 
     /// Goes on by so many numbers. There is one more.
-    pub(crate) fn advance(&mut self, count: u64)
+    pub(crate) fn skip(&mut self, count: u64)
         requires { last_rank self.old.at + count < 2 ^ 32 }
         ensures { self.new ≡ later_stream self.old count }
     {

@@ -3,14 +3,14 @@ ghost use Rattle.ped_io.specs.Causes.{HasCause, Rose};
 ghost use Rattle.ped_io.specs.Streams.{Appends, AppendsFront};
 ghost use Rattle.draw_lines.specs.Lines.{CanDraw, lines_of};
 
-use crate::block::{LINE, write_block};
+use crate::block::{LINE, write_draws};
 use crate::stream::Stream;
 use ped_io::{Failed, Sink};
 use std::alloc::{AllocError, Global};
 use thiserror::Error;
 
 /// How many numbers are drawn and written at once.
-const BLOCK: usize = 4096;
+const BLOCK_NUMBERS: usize = 4096;
 
 /// Why a stream isn't written whole.
 #[derive(Clone, Copy, Debug, PartialEq, Eq, Error)]
@@ -41,11 +41,11 @@ fn write_blocks<K: Sink>(
     let block = numbers.len() as u64;
     let mut left = count;
     'writing: while block < left {
-        write_block(stream, numbers, text, out)?;
-        stream.advance(block);
+        write_draws(stream, numbers, text, out)?;
+        stream.skip(block);
         left -= block;
     }
-    write_block(stream, &mut numbers[..left as usize], text, out)
+    write_draws(stream, &mut numbers[..left as usize], text, out)
 }
 
 /// Writes the lines of so many numbers of a stream, block by block. The memory is taken before the first write.
@@ -64,7 +64,7 @@ pub fn write_stream<K: Sink>(
     ensures fault { IsErrOf result StreamError.Fault → Rose (K.faults out.old) (K.faults out.new) }
     ensures memory { IsErrOf result StreamError.Memory → out.new ≡ out.old }
 {
-    let block = BLOCK.min(count as usize).max(1);
+    let block = BLOCK_NUMBERS.min(count as usize).max(1);
     let Ok(mut numbers) = vec![in alloc; 0u64; block] else {
         return Err(StreamError::Memory);
     };

@@ -7,7 +7,7 @@ use Rattle.ped_words.specs.declared.command.Command.TheVariants.{Stream}
 use Rattle.engine.specs.Commands.{AcceptsScript, takes_script}
 use Rattle.serial_meaning.specs.declared.event.Fault.{Fault}
 use Rattle.engine.specs.Lines.{blocked_line}
-use Rattle.engine.specs.Promise.{Watched, Answers, HasOutput, HasReport, ReadWhole, TellsNone, WroteLine}
+use Rattle.engine.specs.Promise.{Watched, StatusMeans, HasOutput, HasReport, ReadWhole, TellsNone, WroteLine}
 use Rattle.engine.specs.Refusal.{Delivers, IsCause, IsMisfit, Puts}
 use Rattle.engine.specs.Report.{Report, said}
 use Rattle.engine.specs.declared.refusal.Refusal.{Refusal}
@@ -25,7 +25,7 @@ misfit_cause command source bytes takes read {X} (Err Read) is = absurd is
 misfit_cause command source bytes takes read {X} (Err Memory) is = tt
 
 module _ (command : Command) (source out err : Watched) (report : Report) (has : HasReport command source report) where
-  pub delivered_answers : (status : Status) → Delivers report.output report.ending out err status → Answers command source out err status
+  pub delivered_answers : (status : Status) → Delivers report.output report.ending out err status → StatusMeans command source out err status
   delivered_answers S.Done d = (report, has, d.0, d.1)
   delivered_answers S.Faulted d = (report, has, d.0, d.1)
   delivered_answers S.Words d = absurd d
@@ -62,7 +62,7 @@ module _ (command : Command) (gamma at : List ℕ) (count rounds : ℕ) (below :
       let l : IsLawful (Stream gamma at count rounds below) = subst IsLawful is lawful in
       record { within = omega (arith, l.0.few, l.0.coefficients); rounds = l.0.rounds_limit; ranks = l.1.ranks; below = not_zero below l.2 }
 
-  pub stream_answers : (source out err : Watched) (status : Status) → Delivers (stream_text gamma at count rounds below) E.Done out err status → Answers command source out err status
+  pub stream_answers : (source out err : Watched) (status : Status) → Delivers (stream_text gamma at count rounds below) E.Done out err status → StatusMeans command source out err status
   stream_answers source out err status d =
-      let P : Command → Type 0 = λ c. Answers c source out err status in
+      let P : Command → Type 0 = λ c. StatusMeans c source out err status in
       subst P (sym is) (delivered_answers (Stream gamma at count rounds below) source out err (said (stream_text gamma at count rounds below)) ([], (λ takes. absurd (cc)), refl) status d)

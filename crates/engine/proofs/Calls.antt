@@ -6,7 +6,7 @@ use Rattle.serial_meaning.specs.Plan.{PlanView}
 use Rattle.serial_meaning.proofs.RisingPedigrees.Draws.{draws_are_dotmix}
 use Rattle.serial_meaning.proofs.LeastFault.Least.{fault_is_least}
 use Rattle.serial_meaning.proofs.RisingPedigrees.RisingExec.{elision_rises}
-use Rattle.engine.specs.Clauses.{FollowsPedigrees, IsTopCall, ObjectChange, seen}
+use Rattle.engine.specs.Clauses.{FollowsPedigrees, IsTopCall, ObjectChange, watched_change}
 use Rattle.engine.specs.Promise.{KeepsPromise, ReadsNone, has_line, has_output}
 use Rattle.engine.specs.Report.{plan_of}
 use Rattle.engine.specs.declared.status.Status.{Status}
@@ -15,19 +15,19 @@ use Rattle.engine.proofs.PromiseLemmas.{words_exactly, read_cause, write_cause, 
 pub lawful : (plan : PlanView) → FollowsPedigrees plan
 lawful plan = record { rise = elision_rises plan; draws = draws_are_dotmix plan; least = fault_is_least plan }
 
-pub is_call : {S K E : Type 0} (given : Result Command WordError) (source : ObjectChange S) (out : ObjectChange K) (err : ObjectChange E) (status : Status) → KeepsPromise given (seen source) (seen out) (seen err) status →
+pub is_call : {S K E : Type 0} (given : Result Command WordError) (source : ObjectChange S) (out : ObjectChange K) (err : ObjectChange E) (status : Status) → KeepsPromise given (watched_change source) (watched_change out) (watched_change err) status →
     (ReadsNone given → source.new ≡ source.old) → (IsFalse (has_output status) → out.new ≡ out.old) → (IsFalse (has_line status) → err.new ≡ err.old) → IsTopCall given source out err status
 is_call given source out err status promise untouched no_output no_line = record {
   promise = promise;
   untouched = untouched;
   no_output = no_output;
   no_line = no_line;
-  words = words_exactly (seen source) (seen out) (seen err) given status promise;
-  script = script_refused (seen source) (seen out) (seen err) given status promise _ refl;
-  report = report_written (seen source) (seen out) (seen err) given status promise _ refl;
-  no_strand = strand_told (seen source) (seen out) (seen err) given status promise _ refl;
-  read = read_cause (seen source) (seen out) (seen err) given status promise;
-  write = write_cause (seen source) (seen out) (seen err) given status promise;
-  complete = completes (seen source) (seen out) (seen err) given status promise _ refl;
+  words = words_exactly (watched_change source) (watched_change out) (watched_change err) given status promise;
+  script = script_refused (watched_change source) (watched_change out) (watched_change err) given status promise _ refl;
+  report = report_written (watched_change source) (watched_change out) (watched_change err) given status promise _ refl;
+  no_strand = strand_told (watched_change source) (watched_change out) (watched_change err) given status promise _ refl;
+  read = read_cause (watched_change source) (watched_change out) (watched_change err) given status promise;
+  write = write_cause (watched_change source) (watched_change out) (watched_change err) given status promise;
+  complete = completes (watched_change source) (watched_change out) (watched_change err) given status promise _ refl;
   events = λ settings tree. lawful (plan_of settings tree);
 }

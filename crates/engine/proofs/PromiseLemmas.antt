@@ -13,7 +13,7 @@ use Rattle.engine.specs.declared.status.Status.TheVariants.{Done, Faulted, Words
 use Rattle.engine.specs.Batches.{batch_ending, is_faulted, plan_under}
 use Rattle.engine.specs.Commands.{AcceptsScript, Reports, takes_script}
 use Rattle.engine.specs.Report.{Report, report_end_of, plan_of, run_report, status_of}
-use Rattle.engine.specs.Promise.{Watched, Failed, ReadWhole, HasNoScript, HasReport, Answers, HasOutput, Refuses, TellsNone, KeepsPromise, most_bytes}
+use Rattle.engine.specs.Promise.{Watched, Failed, ReadWhole, HasNoScript, HasReport, StatusMeans, HasOutput, Refuses, TellsNone, KeepsPromise, most_bytes}
 use Rattle.engine.specs.Clauses.{RefusesWords, IsBad, RefusesScript, WroteReport, WritesReport, IsReplay, FindsNoStrand, TellsNoStrand, IsComplete, Completes}
 use Rattle.engine.specs.declared.report.ReportEnd.{ReportEnd}
 use Rattle.engine.specs.declared.report.ReportEnd.TheVariants as E
@@ -61,8 +61,8 @@ alone (command.Batch seeds limits show rounds workers) takes bytes other report 
 module _ (source out err : Watched) where
   -- where the words give a command
   module _ (command : Command) where
-    answer_at : (status other : Status) → Answers command source out err status → status ≡ other → Answers command source out err other
-    answer_at status other a h = let P : Status → Type 0 = λ s. Answers command source out err s in subst P h a
+    answer_at : (status other : Status) → StatusMeans command source out err status → status ≡ other → StatusMeans command source out err other
+    answer_at status other a h = let P : Status → Type 0 = λ s. StatusMeans command source out err s in subst P h a
 
     module _ (bytes : List ℕ) (told : source.before ≡ Some bytes) (takes : IsTrue (takes_script command)) where
       whole_bytes : (front : List ℕ) → ReadWhole source front → front ≡ bytes
@@ -82,7 +82,7 @@ module _ (source out err : Watched) where
       no_good report has (inl long) = let few = few_bytes report has in absurd (omega (arith, few, long))
       no_good report has (inr none) = let taken = taken_script command takes bytes report (reported_bytes report has) in none taken.0 taken.1 taken.2
 
-      script_always : (status : Status) → Answers command source out err status → IsBad command bytes → (status ≡ Script) ⊎ ((status ≡ Read) ⊎ (status ≡ Memory))
+      script_always : (status : Status) → StatusMeans command source out err status → IsBad command bytes → (status ≡ Script) ⊎ ((status ≡ Read) ⊎ (status ≡ Memory))
       script_always Done a bad = absurd (no_good a.0 a.1 bad)
       script_always Faulted a bad = absurd (no_good a.0 a.1 bad)
       script_always Words a bad = absurd a
@@ -149,14 +149,14 @@ module _ (source out err : Watched) where
 
   pub script_refused : (given : Result Command WordError) (status : Status) → KeepsPromise given source out err status → (told : Option (List ℕ)) → source.before ≡ told → RefusesScript given told status
   script_refused (Ok command) status a (Some bytes) told =
-      let at : status ≡ Script → Answers command source out err Script = answer_at source out err command status Script a in (
+      let at : status ≡ Script → StatusMeans command source out err Script = answer_at source out err command status Script a in (
         λ h. ((at h).0, bad_script source out err command bytes told (at h).0 (at h).1),
         λ takes. script_always source out err command bytes told takes status a,
       )
   script_refused (Ok command) status a None told = λ h. (answer_at source out err command status Script a h).0
   script_refused (Err error) status r told e = refused_other err error status Script r (λ e. absurd (cc)) (λ e. absurd (cc))
 
-  written_of : (command : Command) (status : Status) → Answers command source out err status → (bytes : List ℕ) → source.before ≡ Some bytes → (status ≡ Done) ⊎ (status ≡ Faulted) → WroteReport command bytes source out status
+  written_of : (command : Command) (status : Status) → StatusMeans command source out err status → (bytes : List ℕ) → source.before ≡ Some bytes → (status ≡ Done) ⊎ (status ≡ Faulted) → WroteReport command bytes source out status
   written_of command status a bytes e (inl h) =
       let b = answer_at source out err command status Done a h in
       written_at source out err command bytes e status b.0 b.1 b.3 (h ∙ ap status_of (sym b.2))
@@ -217,7 +217,7 @@ module _ (source out err : Watched) where
     reports_told : (report : Report) → HasReport command source report → Reports command bytes report
     reports_told report has = same_report source out err command bytes told report has (takes_script command) refl
 
-    finds_none : Answers command source out err NoStrand → FindsNoStrand command bytes
+    finds_none : StatusMeans command source out err NoStrand → FindsNoStrand command bytes
     finds_none a = record {
       replay = replay_tells command a.1.0 a.0 a.1.2 a.2;
       report = a.0;
@@ -232,7 +232,7 @@ module _ (source out err : Watched) where
       no_end : (report : Report) (ending : ReportEnd) (status : Status) → HasReport command source report → report.ending ≡ ending → status_of ending ≡ status → status ≡ NoStrand
       no_end report ending status has e s = sym s ∙ ap status_of (sym e) ∙ ends_none report has
 
-      none_always : (status : Status) → Answers command source out err status → (status ≡ NoStrand) ⊎ ((status ≡ Read) ⊎ (status ≡ Memory))
+      none_always : (status : Status) → StatusMeans command source out err status → (status ≡ NoStrand) ⊎ ((status ≡ Read) ⊎ (status ≡ Memory))
       none_always Done a = let e = no_end a.0 E.Done Done a.1 a.2 refl in absurd (cc)
       none_always Faulted a = let e = no_end a.0 E.Faulted Faulted a.1 a.2 refl in absurd (cc)
       none_always Words a = absurd a
@@ -250,7 +250,7 @@ module _ (source out err : Watched) where
   strand_told (Err error) status r told e = refused_other err error status NoStrand r (λ e. absurd (cc)) (λ e. absurd (cc))
 
   module _ (command : Command) (bytes : List ℕ) (told : source.before ≡ Some bytes) (good : IsTrue (takes_script command) → IsBad command bytes → ⊥) (reads : Failed source → ⊥) (writes : Failed out → ⊥) where
-    complete_of : (status : Status) → Answers command source out err status → IsComplete command status
+    complete_of : (status : Status) → StatusMeans command source out err status → IsComplete command status
     complete_of Done a = inl refl
     complete_of Faulted a = inr (inl refl)
     complete_of Words a = absurd a

@@ -5,7 +5,7 @@ use Rattle.script_check.specs.Violations.{violation}
 use Rattle.script_grammar.specs.declared.tree.Script.{Script}
 use Rattle.script_grammar.specs.Text.{Text}
 use Rattle.engine.specs.Promise.{IsUntaken}
-use Rattle.engine.specs.Refusal.{IsMisfit, Tells}
+use Rattle.engine.specs.Refusal.{IsMisfit, IsRefusalLine}
 use Rattle.engine.specs.declared.refusal.Refusal.{Refusal}
 use Rattle.engine.specs.declared.refusal.Refusal.TheVariants.{TooLong, Untaken, Read, Memory}
 
@@ -18,7 +18,7 @@ pub invalid_text : (bytes : List ℕ) (script : Script) → Text bytes script �
     (other : Script) → Text bytes other → IsValid other → ⊥
 invalid_text bytes script text one number at fault other read valid = not_valid script number at fault (subst IsValid (one other read) valid)
 
-pub told_misfit : (takes : Script → Type 0) (bytes line : List ℕ) (refusal : Refusal) → IsUntaken takes bytes line → Tells line refusal → IsMisfit takes bytes refusal
+pub told_misfit : (takes : Script → Type 0) (bytes line : List ℕ) (refusal : Refusal) → IsUntaken takes bytes line → IsRefusalLine line refusal → IsMisfit takes bytes refusal
 told_misfit takes bytes line TooLong untaken told = absurd told
 told_misfit takes bytes line (Untaken said) untaken told = subst (IsUntaken takes bytes) (sym told) untaken
 told_misfit takes bytes line Read untaken told = absurd told

@@ -15,7 +15,7 @@ use Rattle.sched_meaning.specs.Simulation.{IsSimWorker}
 use Rattle.strand_meaning.specs.Strands.{strand_at}
 use Rattle.engine.specs.declared.refusal.Refusal.{Refusal}
 use Rattle.engine.specs.declared.report.Report as report
-use Rattle.engine.specs.Report.{IsPlanOf, IsReplayOf, IsRunOf, IsSimOf, IsSpanReport, Report, report_end_of, found_report, outcome_ending, plan_of, run_report, shown, span_lines, worker_line}
+use Rattle.engine.specs.Report.{IsPlanOf, IsReplayOf, IsRunOf, IsSimOf, IsSpanReport, Report, report_end_of, found_report, outcome_ending, plan_of, run_report, report_view, span_lines, worker_line}
 use Rattle.serial_meaning.specs.declared.origin.Origin.{Origin}
 
 ends_so : (plan : PlanView) (e : Result (List Value) Fault) → outcome_ending (outcome_of (main_origin plan) e) ≡ report_end_of e
@@ -77,6 +77,6 @@ simulated_of settings workers number worker bytes plan seen told planned same an
     )
 
 -- What is written of the strand of a script's plan is a replay of the script.
-pub replayed_of : (settings : Settings) (j bytes : List ℕ) (plan seen : PlanView) → IsPlanOf settings bytes plan → seen ≡ plan → (result : Result report.Report Refusal) → IfOk result (λ r. shown r ≡ found_report j (strand_at seen j)) → IfOk result (λ r. IsReplayOf settings j bytes (shown r))
+pub replayed_of : (settings : Settings) (j bytes : List ℕ) (plan seen : PlanView) → IsPlanOf settings bytes plan → seen ≡ plan → (result : Result report.Report Refusal) → IfOk result (λ r. report_view r ≡ found_report j (strand_at seen j)) → IfOk result (λ r. IsReplayOf settings j bytes (report_view r))
 replayed_of settings j bytes plan seen planned same (Ok r) e = (planned.0, planned.1, planned.2, e ∙ ap (λ p. found_report j (strand_at p j)) (same ∙ planned.3))
 replayed_of settings j bytes plan seen planned same (Err refusal) e = tt

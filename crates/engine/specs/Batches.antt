@@ -30,8 +30,8 @@ abbrev pub batch_command : Batch → ℕ → Command
 batch_command b workers = command.Batch b.seeds b.limits b.show b.rounds workers
 
 -- The seeds aren't too many, and under each of them a script is a plan.
-abbrev pub IsReady : Batch → Type 0
-IsReady b = IsBatch b.seeds b.limits b.rounds
+abbrev pub IsLawfulBatch : Batch → Type 0
+IsLawfulBatch b = IsBatch b.seeds b.limits b.rounds
 
 abbrev pub is_faulted : ReportEnd → Bool
 is_faulted Done = false

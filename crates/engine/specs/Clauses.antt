@@ -105,23 +105,23 @@ pub record ObjectChange (T : Type 0) : Type 0 where
 abbrev pub change : {T : Type 0} → (T → Option (List ℕ)) → (T → ℕ) → T → T → ObjectChange T
 change told faults old new = record { told = told; faults = faults; old = old; new = new }
 
-abbrev pub seen : {T : Type 0} → ObjectChange T → Watched
-seen c = watched c.told c.faults c.old c.new
+abbrev pub watched_change : {T : Type 0} → ObjectChange T → Watched
+watched_change c = watched c.told c.faults c.old c.new
 
 -- A call whose words say this, by what it did to its source and its sinks, and its status.
 pub record IsTopCall {S K E : Type 0} (given : Result Command WordError) (source : ObjectChange S) (out : ObjectChange K) (err : ObjectChange E) (status : Status) : Type 0 where
-  pub promise : KeepsPromise given (seen source) (seen out) (seen err) status
+  pub promise : KeepsPromise given (watched_change source) (watched_change out) (watched_change err) status
   -- Words that give no command that reads a script leave the source, and an answer without output or without a line leaves that sink.
   pub untouched : ReadsNone given → source.new ≡ source.old
   pub no_output : IsFalse (has_output status) → out.new ≡ out.old
   pub no_line : IsFalse (has_line status) → err.new ≡ err.old
   -- The promise, said by its parts.
   pub words : RefusesWords given status
-  pub script : RefusesScript given (seen source).before status
-  pub report : WritesReport given (seen source) (seen source).before (seen out) status
-  pub no_strand : TellsNoStrand given (seen source).before status
-  pub read : status ≡ Read → Failed (seen source)
-  pub write : status ≡ Write → Failed (seen out)
-  pub complete : Completes given (seen source) (seen source).before (seen out) status
+  pub script : RefusesScript given (watched_change source).before status
+  pub report : WritesReport given (watched_change source) (watched_change source).before (watched_change out) status
+  pub no_strand : TellsNoStrand given (watched_change source).before status
+  pub read : status ≡ Read → Failed (watched_change source)
+  pub write : status ≡ Write → Failed (watched_change out)
+  pub complete : Completes given (watched_change source) (watched_change source).before (watched_change out) status
   -- What holds of each run that is written.
   pub events : (settings : Settings) (tree : Tree) → FollowsPedigrees (plan_of settings tree)

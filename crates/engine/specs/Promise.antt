@@ -94,15 +94,15 @@ HasOutput (E.NoStrand j) = ⊥
 HasOutput (E.Blocked fault) = ⊥
 
 -- What each answer means for a command. Its words aren't refused.
-abbrev pub Answers : Command → Watched → Watched → Watched → Status → Type 0
-Answers command source out err Done = IsReported command source E.Done (Wrote out)
-Answers command source out err Faulted = IsReported command source E.Faulted (Wrote out)
-Answers command source out err Words = ⊥
-Answers command source out err BadScript = IsTrue (takes_script command) × HasNoScript command source err
-Answers command source out err Read = IsTrue (takes_script command) × Failed source × WroteLine err (codes "read fault\n")
-Answers command source out err Write = ((report : Report) × HasReport command source report × HasOutput report.ending × WroteFront out report.output) × WroteLine err (codes "write fault\n")
-Answers command source out err Memory = WroteLine err (codes "out of memory\n")
-Answers command source out err NoStrand = (report : Report) × HasReport command source report × TellsNone err report.ending
+abbrev pub StatusMeans : Command → Watched → Watched → Watched → Status → Type 0
+StatusMeans command source out err Done = IsReported command source E.Done (Wrote out)
+StatusMeans command source out err Faulted = IsReported command source E.Faulted (Wrote out)
+StatusMeans command source out err Words = ⊥
+StatusMeans command source out err BadScript = IsTrue (takes_script command) × HasNoScript command source err
+StatusMeans command source out err Read = IsTrue (takes_script command) × Failed source × WroteLine err (codes "read fault\n")
+StatusMeans command source out err Write = ((report : Report) × HasReport command source report × HasOutput report.ending × WroteFront out report.output) × WroteLine err (codes "write fault\n")
+StatusMeans command source out err Memory = WroteLine err (codes "out of memory\n")
+StatusMeans command source out err NoStrand = (report : Report) × HasReport command source report × TellsNone err report.ending
 
 -- What each answer means where the words give no command.
 abbrev pub Refuses : WordError → Watched → Status → Type 0
@@ -111,7 +111,7 @@ Refuses error err Memory = WroteLine err (codes "out of memory\n")
 Refuses error err status = ⊥
 
 abbrev pub KeepsPromise : Result Command WordError → Watched → Watched → Watched → Status → Type 0
-KeepsPromise (Ok command) source out err status = Answers command source out err status
+KeepsPromise (Ok command) source out err status = StatusMeans command source out err status
 KeepsPromise (Err error) source out err status = Refuses error err status
 
 -- The words give no command that reads the source.

@@ -21,8 +21,8 @@ Means is_long is_untaken is_unread Read = is_unread
 Means is_long is_untaken is_unread Memory = ⊤
 
 -- The refusal tells this line.
-abbrev pub Tells : List ℕ → Refusal → Type 0
-Tells line = Means ⊥ (λ told. told ≡ line) ⊥
+abbrev pub IsRefusalLine : List ℕ → Refusal → Type 0
+IsRefusalLine line = Means ⊥ (λ told. told ≡ line) ⊥
 
 -- Why bytes are no script that is taken.
 abbrev pub IsMisfit : (Script → Type 0) → List ℕ → Refusal → Type 0

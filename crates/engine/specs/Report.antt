@@ -129,5 +129,5 @@ status_of (NoStrand j) = status.NoStrand
 status_of (Blocked fault) = status.NoStrand
 
 -- a report of the code, as the definitions have it
-abbrev pub shown : report.Report → Report
-shown r = record { output = r.output.items; ending = r.ending }
+abbrev pub report_view : report.Report → Report
+report_view r = record { output = r.output.items; ending = r.ending }

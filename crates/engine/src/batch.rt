@@ -6,10 +6,10 @@ ghost use Rattle.std.specs.List.{list_any};
 ghost use Rattle.ped_words.specs.Commands.{IsWorkers};
 ghost use Rattle.script_check.specs.Valid.{IsValid};
 ghost use Rattle.seed_batch.specs.Batch.{main_answer};
-ghost use Rattle.engine.specs.Batches.{ArePlans, IsBatchOf, IsReady, batch_ending, is_fault, settings_under, written};
+ghost use Rattle.engine.specs.Batches.{ArePlans, IsBatchOf, IsLawfulBatch, batch_ending, is_fault, settings_under, written};
 ghost use Rattle.engine.specs.Promise.{most_bytes};
 ghost use Rattle.engine.specs.Refusal.{IsMisfit};
-ghost use Rattle.engine.specs.Report.{IsPlanIn, shown};
+ghost use Rattle.engine.specs.Report.{IsPlanIn, report_view};
 
 use crate::play::planned;
 use crate::refusal::Refusal;
@@ -38,7 +38,7 @@ pub struct Batch {
 
 // The plan of the run under one seed.
 fn plan_under(alloc: Global, batch: &Batch, seed: u64, bytes: &[u8]) -> Result<Arc<Plan>, Refusal>
-    requires ready { IsReady batch.now }
+    requires ready { IsLawfulBatch batch.now }
     requires within { length bytes.now ≤ most_bytes }
     ensures plan { IfOk result (λ plan. IsPlanIn (settings_under batch.now seed) bytes.now (arc_value plan)) }
     ensures refused { IfErr result (IsMisfit IsValid bytes.now) }
@@ -55,7 +55,7 @@ fn plan_under(alloc: Global, batch: &Batch, seed: u64, bytes: &[u8]) -> Result<A
 // The plans of all runs, in the order of the seeds.
 #[tactic(auto, using(crate::proofs::BatchLemmas::plan_more))]
 fn plans(alloc: Global, batch: &Batch, bytes: &[u8]) -> Result<Items<Arc<Plan>>, Refusal>
-    requires ready { IsReady batch.now }
+    requires ready { IsLawfulBatch batch.now }
     requires within { length bytes.now ≤ most_bytes }
     ensures plans { IfOk result (λ plans. ArePlans batch.now bytes.now batch.now.seeds (map arc_value plans)) }
     ensures count { IfOk result (λ plans. length plans ≡ length batch.now.seeds) }
@@ -101,7 +101,7 @@ fn answers_report(
 ) -> Result<Report, Memory>
     requires count { length plans.now ≡ length seeds.now }
     requires answers { answers.now ≡ map main_answer (map arc_value plans.now) }
-    ensures { IfOk result (λ report. shown report ≡ written seeds.now (map arc_value plans.now)) }
+    ensures { IfOk result (λ report. report_view report ≡ written seeds.now (map arc_value plans.now)) }
 {
     // Read for the proof: the plans are in no other line, and the contract speaks of them.
     let _plans = plans;
@@ -120,10 +120,10 @@ pub(crate) fn played_batch<R: Threads + Wait + Sync, G: Gate + Sync>(
     bytes: &[u8],
     gate: &G,
 ) -> Result<Report, Refusal>
-    requires ready { IsReady batch.now }
+    requires ready { IsLawfulBatch batch.now }
     requires workers { IsWorkers workers }
     requires within { length bytes.now ≤ most_bytes }
-    ensures report { IfOk result (λ report. IsBatchOf batch.now bytes.now (shown report)) }
+    ensures report { IfOk result (λ report. IsBatchOf batch.now bytes.now (report_view report)) }
     ensures refused { IfErr result (IsMisfit IsValid bytes.now) }
 {
     // Read for the proof: each plan has a script of its own, and a text has but one.

@@ -4,11 +4,11 @@ ghost use Rattle.std.specs.Prelude.{◌≡◌, codes, IfOk, IfErr, IsTrue, IsFal
 ghost use Rattle.draw_lines.specs.Lines.{CanDraw, lines_of};
 ghost use Rattle.ped_words.specs.Reading.{reading};
 ghost use Rattle.ped_words.specs.Commands.{AreLawful, IsLawful, IsWorkers, is_batch};
-ghost use Rattle.engine.specs.Batches.{IsReady, batch_command};
+ghost use Rattle.engine.specs.Batches.{IsLawfulBatch, batch_command};
 ghost use Rattle.engine.specs.Commands.{RunsOnWorkers, is_whole, takes_script};
-ghost use Rattle.engine.specs.Promise.{Answers, HasReport, KeepsPromise, ReadWhole, ReadsNone, Refuses, WroteLine, Watched, has_line, has_output, watched};
+ghost use Rattle.engine.specs.Promise.{StatusMeans, HasReport, KeepsPromise, ReadWhole, ReadsNone, Refuses, WroteLine, Watched, has_line, has_output, watched};
 ghost use Rattle.engine.specs.Refusal.{Delivers, IsCause, IsFetchRefusal, Puts, Refused};
-ghost use Rattle.engine.specs.Report.{shown};
+ghost use Rattle.engine.specs.Report.{report_view};
 
 use crate::batch::{Batch, played_batch};
 use crate::command::{is_whole, takes_script};
@@ -45,7 +45,7 @@ fn prepare<S: Source>(alloc: Global, command: Command, source: &mut S) -> Result
     requires lawful { IsLawful command }
     requires whole { IsTrue (is_whole command) }
     requires alone { IsFalse (is_batch command) }
-    ensures ready { IfOk result (λ report. HasReport command (watched S.left S.faults source.old source.new) (shown report)) }
+    ensures ready { IfOk result (λ report. HasReport command (watched S.left S.faults source.old source.new) (report_view report)) }
     ensures refused { IfErr result (IsCause command (watched S.left S.faults source.old source.new)) }
     ensures untouched { IsFalse (takes_script command) → source.new ≡ source.old }
 {
@@ -68,7 +68,7 @@ fn prepare_run<R: Threads + Wait + Sync, S: Source, G: Gate + Sync>(
 ) -> Result<Report, Refusal>
     requires lawful { AreLawful settings }
     requires workers { IsWorkers workers }
-    ensures ready { IfOk result (λ report. HasReport (Command.Run settings workers) (watched S.left S.faults source.old source.new) (shown report)) }
+    ensures ready { IfOk result (λ report. HasReport (Command.Run settings workers) (watched S.left S.faults source.old source.new) (report_view report)) }
     ensures refused { IfErr result (IsCause (Command.Run settings workers) (watched S.left S.faults source.old source.new)) }
 {
     let bytes = fetch(alloc, source)?;
@@ -84,9 +84,9 @@ fn prepare_batch<R: Threads + Wait + Sync, S: Source, G: Gate + Sync>(
     source: &mut S,
     gate: &G,
 ) -> Result<Report, Refusal>
-    requires ready { IsReady batch.now }
+    requires ready { IsLawfulBatch batch.now }
     requires workers { IsWorkers workers }
-    ensures ready { IfOk result (λ report. HasReport (batch_command batch.now workers) (watched S.left S.faults source.old source.new) (shown report)) }
+    ensures ready { IfOk result (λ report. HasReport (batch_command batch.now workers) (watched S.left S.faults source.old source.new) (report_view report)) }
     ensures refused { IfErr result (IsCause (batch_command batch.now workers) (watched S.left S.faults source.old source.new)) }
 {
     let bytes = fetch(alloc, source)?;
@@ -127,7 +127,7 @@ fn end_output<E: Sink>(err: &mut E) -> Status
 }
 
 /// Tells that there was no memory.
-pub fn want<E: Sink>(err: &mut E) -> Status
+pub fn write_memory_line<E: Sink>(err: &mut E) -> Status
     ensures status { result ≡ Status.Memory }
     ensures told { WroteLine (watched E.written E.faults err.old err.new) (codes "out of memory\n") }
 {
@@ -136,7 +136,7 @@ pub fn want<E: Sink>(err: &mut E) -> Status
 }
 
 // Tells by this line that there is no strand.
-fn tell_none<E: Sink>(line: &[u8], err: &mut E) -> Status
+fn write_no_strand<E: Sink>(line: &[u8], err: &mut E) -> Status
     ensures status { result ≡ Status.NoStrand }
     ensures told { WroteLine (watched E.written E.faults err.old err.new) line.now }
 {
@@ -154,12 +154,12 @@ fn deliver<K: Sink, E: Sink>(alloc: Global, report: &Report, out: &mut K, err: &
         ReportEnd::Done => write_output(&report.output, Status::Done, out, err),
         ReportEnd::Faulted => write_output(&report.output, Status::Faulted, out, err),
         ReportEnd::NoStrand(at) => match no_strand_line(alloc, at) {
-            Ok(line) => tell_none(&line, err),
-            Err(_) => want(err),
+            Ok(line) => write_no_strand(&line, err),
+            Err(_) => write_memory_line(err),
         },
         ReportEnd::Blocked(fault) => match blocked_line(alloc, &fault.at) {
-            Ok(line) => tell_none(&line, err),
-            Err(_) => want(err),
+            Ok(line) => write_no_strand(&line, err),
+            Err(_) => write_memory_line(err),
         },
     }
 }
@@ -181,7 +181,7 @@ fn refuse<E: Sink>(refusal: &Refusal, err: &mut E) -> Status
             write_error_line(err, b"read fault\n");
             Status::Read
         }
-        Refusal::Memory => want(err),
+        Refusal::Memory => write_memory_line(err),
     }
 }
 
@@ -190,14 +190,14 @@ fn refuse_words<E: Sink>(alloc: Global, error: WordError, err: &mut E) -> Status
     ensures { Refuses error (watched E.written E.faults err.old err.new) result }
 {
     let WordError::Bad { number, at } = error else {
-        return want(err);
+        return write_memory_line(err);
     };
     match words_line(alloc, number, at) {
         Ok(line) => {
             write_error_line(err, line.as_bytes());
             Status::Words
         }
-        Err(_) => want(err),
+        Err(_) => write_memory_line(err),
     }
 }
 
@@ -212,7 +212,7 @@ fn serve_whole<S: Source, K: Sink, E: Sink>(
     requires lawful { IsLawful command }
     requires whole { IsTrue (is_whole command) }
     requires alone { IsFalse (is_batch command) }
-    ensures answers { Answers command (watched S.left S.faults source.old source.new) (watched K.written K.faults out.old out.new)
+    ensures answers { StatusMeans command (watched S.left S.faults source.old source.new) (watched K.written K.faults out.old out.new)
         (watched E.written E.faults err.old err.new) result }
     ensures untouched { IsFalse (takes_script command) → source.new ≡ source.old }
     ensures no_output { IsFalse (has_output result) → out.new ≡ out.old }
@@ -240,7 +240,7 @@ fn serve_stream<K: Sink, E: Sink>(
     match write_stream(alloc, stream, count, out) {
         Ok(()) => Status::Done,
         Err(StreamError::Fault) => end_output(err),
-        Err(StreamError::Memory) => want(err),
+        Err(StreamError::Memory) => write_memory_line(err),
     }
 }
 
@@ -253,7 +253,7 @@ fn serve_in_parts<K: Sink, E: Sink>(
 ) -> Status
     requires lawful { IsLawful command }
     requires in_parts { IsFalse (is_whole command) }
-    ensures answers { (source : Watched) → Answers command source (watched K.written K.faults out.old out.new) (watched E.written E.faults err.old err.new) result }
+    ensures answers { (source : Watched) → StatusMeans command source (watched K.written K.faults out.old out.new) (watched E.written E.faults err.old err.new) result }
     ensures no_output { IsFalse (has_output result) → out.new ≡ out.old }
     ensures no_line { IsFalse (has_line result) → err.new ≡ err.old }
 {
@@ -287,7 +287,7 @@ fn serve<S: Source, K: Sink, E: Sink>(
 ) -> Status
     requires lawful { IsLawful command }
     requires alone { IsFalse (is_batch command) }
-    ensures answers { Answers command (watched S.left S.faults source.old source.new) (watched K.written K.faults out.old out.new)
+    ensures answers { StatusMeans command (watched S.left S.faults source.old source.new) (watched K.written K.faults out.old out.new)
         (watched E.written E.faults err.old err.new) result }
     ensures untouched { IsFalse (takes_script command) → source.new ≡ source.old }
     ensures no_output { IsFalse (has_output result) → out.new ≡ out.old }
@@ -313,7 +313,7 @@ fn serve_run<R: Threads + Wait + Sync, S: Source, K: Sink, E: Sink, G: Gate + Sy
 ) -> Status
     requires lawful { AreLawful settings }
     requires workers { IsWorkers workers }
-    ensures answers { Answers (Command.Run settings workers) (watched S.left S.faults source.old source.new) (watched K.written K.faults out.old out.new)
+    ensures answers { StatusMeans (Command.Run settings workers) (watched S.left S.faults source.old source.new) (watched K.written K.faults out.old out.new)
         (watched E.written E.faults err.old err.new) result }
     ensures no_output { IsFalse (has_output result) → out.new ≡ out.old }
     ensures no_line { IsFalse (has_line result) → err.new ≡ err.old }
@@ -335,9 +335,9 @@ fn serve_batch<R: Threads + Wait + Sync, S: Source, K: Sink, E: Sink, G: Gate + 
     err: &mut E,
     gate: &G,
 ) -> Status
-    requires ready { IsReady batch.now }
+    requires ready { IsLawfulBatch batch.now }
     requires workers { IsWorkers workers }
-    ensures answers { Answers (batch_command batch.now workers) (watched S.left S.faults source.old source.new) (watched K.written K.faults out.old out.new)
+    ensures answers { StatusMeans (batch_command batch.now workers) (watched S.left S.faults source.old source.new) (watched K.written K.faults out.old out.new)
         (watched E.written E.faults err.old err.new) result }
     ensures no_output { IsFalse (has_output result) → out.new ≡ out.old }
     ensures no_line { IsFalse (has_line result) → err.new ≡ err.old }
@@ -359,7 +359,7 @@ fn serve_by_crew<R: Threads + Wait + Sync, S: Source, K: Sink, E: Sink, G: Gate 
     gate: &G,
 ) -> Status
     requires { IsLawful command }
-    ensures answers { Answers command (watched S.left S.faults source.old source.new) (watched K.written K.faults out.old out.new)
+    ensures answers { StatusMeans command (watched S.left S.faults source.old source.new) (watched K.written K.faults out.old out.new)
         (watched E.written E.faults err.old err.new) result }
     ensures untouched { IsFalse (takes_script command) → source.new ≡ source.old }
     ensures no_output { IsFalse (has_output result) → out.new ≡ out.old }

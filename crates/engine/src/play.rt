@@ -10,7 +10,7 @@ ghost use Rattle.strand_meaning.specs.Laws.{IsFaultOf};
 ghost use Rattle.strand_meaning.specs.Strands.{strand_at};
 ghost use Rattle.engine.specs.Promise.{most_bytes};
 ghost use Rattle.engine.specs.Refusal.{IsMisfit};
-ghost use Rattle.engine.specs.Report.{IsPlanIn, IsPlanOf, IsReplayOf, IsRunOf, IsSimOf, IsSpanOf, IsSpanReport, found_report, outcome_ending, plan_of, run_report, shown, span_lines, strand_report, worker_line};
+ghost use Rattle.engine.specs.Report.{IsPlanIn, IsPlanOf, IsReplayOf, IsRunOf, IsSimOf, IsSpanOf, IsSpanReport, found_report, outcome_ending, plan_of, run_report, report_view, span_lines, strand_report, worker_line};
 
 use crate::refusal::Refusal;
 use crate::report::{Report, ReportEnd};
@@ -67,7 +67,7 @@ fn ending_for(outcome: &Outcome) -> ReportEnd
 fn answer_report(alloc: Global, answer: &Answer) -> Result<Report, Memory>
     requires main { answer.now.origin ≡ main_origin answer.now.plan }
     requires whole { IsWhole answer.now.outcome }
-    ensures { IfOk result (λ report. shown report ≡ run_report answer.now.plan) }
+    ensures { IfOk result (λ report. report_view report ≡ run_report answer.now.plan) }
 {
     laws::whole_answers_are_evals();
     let output = render_run(alloc, answer)?;
@@ -80,7 +80,7 @@ fn answer_report(alloc: Global, answer: &Answer) -> Result<Report, Memory>
 fn reported(alloc: Global, answer: Answer) -> Result<Report, Memory>
     requires main { answer.origin ≡ main_origin answer.plan }
     requires whole { IsWhole answer.outcome }
-    ensures { IfOk result (λ report. shown report ≡ run_report answer.plan) }
+    ensures { IfOk result (λ report. report_view report ≡ run_report answer.plan) }
 {
     let report = answer_report(alloc, &answer);
     forget(answer);
@@ -101,7 +101,7 @@ fn run_alone(alloc: Global, plan: &Arc<Plan>) -> Result<Answer, crew::Memory>
 pub(crate) fn played(alloc: Global, settings: Settings, bytes: &[u8]) -> Result<Report, Refusal>
     requires lawful { AreLawful settings }
     requires within { length bytes.now ≤ most_bytes }
-    ensures report { IfOk result (λ report. IsRunOf settings bytes.now (shown report)) }
+    ensures report { IfOk result (λ report. IsRunOf settings bytes.now (report_view report)) }
     ensures refused { IfErr result (IsMisfit IsValid bytes.now) }
 {
     let plan = planned(alloc, settings, bytes)?;
@@ -121,7 +121,7 @@ pub(crate) fn played_by_crew<R: Threads + Wait + Sync, G: Gate + Sync>(
     requires lawful { AreLawful settings }
     requires workers { IsWorkers workers }
     requires within { length bytes.now ≤ most_bytes }
-    ensures report { IfOk result (λ report. IsRunOf settings bytes.now (shown report)) }
+    ensures report { IfOk result (λ report. IsRunOf settings bytes.now (report_view report)) }
     ensures refused { IfErr result (IsMisfit IsValid bytes.now) }
 {
     let plan = planned(alloc, settings, bytes)?;
@@ -166,7 +166,7 @@ pub(crate) fn simulated(
     requires lawful { AreLawful settings }
     requires workers { IsWorkers workers }
     requires within { length bytes.now ≤ most_bytes }
-    ensures report { IfOk result (λ report. IsSimOf settings workers number bytes.now (shown report)) }
+    ensures report { IfOk result (λ report. IsSimOf settings workers number bytes.now (report_view report)) }
     ensures refused { IfErr result (IsMisfit IsValid bytes.now) }
 {
     let plan = planned(alloc, settings, bytes)?;
@@ -208,7 +208,7 @@ fn outcome_of(answer: Answer) -> Outcome
 fn measure_report(alloc: Global, answer: Answer) -> Result<Report, Memory>
     requires main { answer.origin ≡ main_origin answer.plan }
     requires whole { IsWhole answer.outcome }
-    ensures { IfOk result (λ report. IsSpanReport answer.plan (shown report)) }
+    ensures { IfOk result (λ report. IsSpanReport answer.plan (report_view report)) }
 {
     laws::whole_answers_are_evals();
     let measured = span(alloc, &answer);
@@ -225,7 +225,7 @@ fn measure_report(alloc: Global, answer: Answer) -> Result<Report, Memory>
 pub(crate) fn measured(alloc: Global, settings: Settings, bytes: &[u8]) -> Result<Report, Refusal>
     requires lawful { AreLawful settings }
     requires within { length bytes.now ≤ most_bytes }
-    ensures report { IfOk result (λ report. IsSpanOf settings bytes.now (shown report)) }
+    ensures report { IfOk result (λ report. IsSpanOf settings bytes.now (report_view report)) }
     ensures refused { IfErr result (IsMisfit IsValid bytes.now) }
 {
     let plan = planned(alloc, settings, bytes)?;
@@ -235,7 +235,7 @@ pub(crate) fn measured(alloc: Global, settings: Settings, bytes: &[u8]) -> Resul
 
 // What is written of a strand.
 fn strand_report(alloc: Global, strand: &Strand) -> Result<Report, Memory>
-    ensures { IfOk result (λ report. shown report ≡ strand_report strand.now) }
+    ensures { IfOk result (λ report. report_view report ≡ strand_report strand.now) }
 {
     let output = render_strand(alloc, strand)?;
     let ending = match &strand.fault {
@@ -247,7 +247,7 @@ fn strand_report(alloc: Global, strand: &Strand) -> Result<Report, Memory>
 
 // No output, and why.
 fn absent(alloc: Global, ending: ReportEnd) -> Report
-    ensures { shown result ≡ record { output = []; ending = ending } }
+    ensures { report_view result ≡ record { output = []; ending = ending } }
 {
     Report {
         output: Vec::new(alloc),
@@ -257,7 +257,7 @@ fn absent(alloc: Global, ending: ReportEnd) -> Report
 
 // What a replay of the strand of this pedigree writes.
 fn replay_report(alloc: Global, plan: &Arc<Plan>, at: Pedigree) -> Result<Report, Refusal>
-    ensures report { IfOk result (λ report. shown report ≡ found_report at (strand_at (arc_value plan.now) at)) }
+    ensures report { IfOk result (λ report. report_view report ≡ found_report at (strand_at (arc_value plan.now) at)) }
     ensures refused { IfErr result (λ refusal. refusal ≡ Refusal.Memory) }
 {
     match replay(alloc, plan, &at) {
@@ -277,7 +277,7 @@ pub(crate) fn replayed(
 ) -> Result<Report, Refusal>
     requires lawful { AreLawful settings }
     requires within { length bytes.now ≤ most_bytes }
-    ensures report { IfOk result (λ report. IsReplayOf settings at bytes.now (shown report)) }
+    ensures report { IfOk result (λ report. IsReplayOf settings at bytes.now (report_view report)) }
     ensures refused { IfErr result (IsMisfit IsValid bytes.now) }
 {
     let plan = planned(alloc, settings, bytes)?;

@@ -2,7 +2,7 @@
 
 ghost use Rattle.std.specs.Prelude.{◌≡◌};
 ghost use Rattle.engine.specs.Lines.{check_line, syntax_line};
-ghost use Rattle.engine.specs.Refusal.{Tells};
+ghost use Rattle.engine.specs.Refusal.{IsRefusalLine};
 
 use crate::line::{check_line, syntax_line};
 use std::alloc::{AllocError, AllocFailed, Global};
@@ -22,7 +22,7 @@ pub enum Refusal {
 
 /// The refusal of a text with this fault.
 pub fn no_text(alloc: Global, number: u8, at: u32) -> Refusal
-    ensures { Tells (syntax_line number at) result }
+    ensures { IsRefusalLine (syntax_line number at) result }
 {
     match syntax_line(alloc, number, at) {
         Ok(line) => Refusal::Untaken(line),
@@ -32,7 +32,7 @@ pub fn no_text(alloc: Global, number: u8, at: u32) -> Refusal
 
 /// The refusal of a script that violates this condition.
 pub fn invalid(alloc: Global, number: u8, at: u32) -> Refusal
-    ensures { Tells (check_line number at) result }
+    ensures { IsRefusalLine (check_line number at) result }
 {
     match check_line(alloc, number, at) {
         Ok(line) => Refusal::Untaken(line),

@@ -6,7 +6,7 @@ ghost use Rattle.ped_words.specs.Commands.{IsLawful, is_batch};
 ghost use Rattle.engine.specs.Commands.{AcceptsScript, Reports, is_whole, takes_script};
 ghost use Rattle.engine.specs.Promise.{most_bytes};
 ghost use Rattle.engine.specs.Refusal.{IsMisfit};
-ghost use Rattle.engine.specs.Report.{hash_text, said, shown};
+ghost use Rattle.engine.specs.Report.{hash_text, said, report_view};
 
 use crate::play::{measured, played, replayed, simulated};
 use crate::refusal::Refusal;
@@ -44,7 +44,7 @@ pub struct Report {
 impl Report {
     // An output that ends well.
     fn said(output: Vec<u8>) -> Report
-        ensures { shown result ≡ said output.items }
+        ensures { report_view result ≡ said output.items }
     {
         Report {
             output,
@@ -57,7 +57,7 @@ impl Report {
 fn hash_report(alloc: Global, gamma: &Gamma, at: &Pedigree, rounds: u32) -> Result<Report, Memory>
     requires within { length at.now ≤ length gamma.now }
     requires rounds { rounds ≤ most_rounds }
-    ensures { IfOk result (λ report. shown report ≡ said (hash_text gamma.now at.now rounds)) }
+    ensures { IfOk result (λ report. report_view report ≡ said (hash_text gamma.now at.now rounds)) }
 {
     let sum = dot(gamma, at);
     let number = dotmix(gamma, at, rounds);
@@ -72,7 +72,7 @@ pub fn script_report(alloc: Global, command: Command, bytes: &[u8]) -> Result<Re
     requires alone { IsFalse (is_batch command) }
     requires lawful { IsLawful command }
     requires within { length bytes.now ≤ most_bytes }
-    ensures report { IfOk result (λ report. Reports command bytes.now (shown report)) }
+    ensures report { IfOk result (λ report. Reports command bytes.now (report_view report)) }
     ensures refused { IfErr result (IsMisfit (AcceptsScript command) bytes.now) }
 {
     match command {
@@ -102,7 +102,7 @@ pub fn alone_report(alloc: Global, command: Command) -> Result<Report, Memory>
     requires alone { IsFalse (takes_script command) }
     requires whole { IsTrue (is_whole command) }
     requires lawful { IsLawful command }
-    ensures { IfOk result (λ report. (bytes : List ℕ) → Reports command bytes (shown report)) }
+    ensures { IfOk result (λ report. (bytes : List ℕ) → Reports command bytes (report_view report)) }
 {
     match command {
         Command::Hash { gamma, at, rounds } => hash_report(alloc, &gamma, &at, rounds),

@@ -9,7 +9,7 @@ use Rattle.atomic_table.proofs.Lists.{at_set}
 use Rattle.meet_block.specs.declared.view.SeatState.{SeatState}
 use Rattle.meet_block.specs.declared.view.SeatState.TheVariants.{Open, Waiting, Ready}
 use Rattle.meet_block.specs.Counter.{holds_party}
-use Rattle.meet_block.specs.Joined.{joined}
+use Rattle.meet_block.specs.Joined.{joined_with}
 use Rattle.meet_block.specs.CounterViews.{CounterView, is_ready, tags_of, taken_of, all_ready, loads_of, known, Numbered, StandsInOrder, InOrder, Searched, FindsAll, FindsOwing}
 
 and_false : (b : Bool) → (b && false) ≡ false
@@ -35,8 +35,8 @@ open_of _ e = absurd (cc)
 pub not_open : (s : SeatState) → holds_party s ≡ false → s ≢ Open
 not_open s e is = let f : holds_party s ≡ true = ap holds_party is in absurd (cc)
 
-pub same_known : {T : Type 0} {ts us : List T} {bs cs : List Bool} {p q : Bool} {ls ms : List ℕ} → ts ≡ us → bs ≡ cs → p ≡ q → ls ≡ ms → joined ts bs p ls ≡ joined us cs q ms
-same_known a b c d = λ k. joined (a k) (b k) (c k) (d k)
+pub same_known : {T : Type 0} {ts us : List T} {bs cs : List Bool} {p q : Bool} {ls ms : List ℕ} → ts ≡ us → bs ≡ cs → p ≡ q → ls ≡ ms → joined_with ts bs p ls ≡ joined_with us cs q ms
+same_known a b c d = λ k. joined_with (a k) (b k) (c k) (d k)
 
 module _ {A : Type 0} where
   pub at_of_get : (xs : List A) (i : ℕ) (a : A) → slice_get xs i ≡ Some a → get_elem? xs i ≡ some a
@@ -311,8 +311,8 @@ module _ {T : Type 0} where
       not_open u.state (ap (λ (y : CounterView T). holds_party y.state) (some-injective u p (sym here ∙ ap (get_elem? ps) same ∙ at)) ∙ e))
 
   -- what a look makes of the join
-  pub finds_all : (us vs : List (CounterView T)) (f : FindsAll us vs) → known vs ≡ joined (tags_of us) (taken_of us) true (loads_of us ++ replicate f.passed 0)
+  pub finds_all : (us vs : List (CounterView T)) (f : FindsAll us vs) → known vs ≡ joined_with (tags_of us) (taken_of us) true (loads_of us ++ replicate f.passed 0)
   finds_all us vs f = same_known f.searched.tags f.searched.taken (all_found vs (length vs) f.order (omega arith)) f.searched.loads
 
-  pub finds_owing : (us vs : List (CounterView T)) (b n : ℕ) (f : FindsOwing us vs b n) → known vs ≡ joined (tags_of us) (taken_of us) false (loads_of us ++ (replicate f.passed 0 ++ n ∷ []))
+  pub finds_owing : (us vs : List (CounterView T)) (b n : ℕ) (f : FindsOwing us vs b n) → known vs ≡ joined_with (tags_of us) (taken_of us) false (loads_of us ++ (replicate f.passed 0 ++ n ∷ []))
   finds_owing us vs b n f = same_known f.searched.tags f.searched.taken (short_of vs b f.order f.within) f.searched.loads

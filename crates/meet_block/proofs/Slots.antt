@@ -9,7 +9,7 @@ use Rattle.atomic_table.proofs.Lists.{set_here, at_last}
 use Rattle.meet_block.specs.declared.view.SeatState.{SeatState}
 use Rattle.meet_block.specs.declared.view.SeatState.TheVariants.{Open, Waiting}
 use Rattle.meet_block.specs.Counter.{holds_party}
-use Rattle.meet_block.specs.Joined.{joined}
+use Rattle.meet_block.specs.Joined.{joined_with}
 use Rattle.meet_block.specs.CounterViews.{CounterView, is_ready, state_given, handed, tags_of, taken_of, all_ready, loads_of, known, offset, Numbered, StandsInOrder, InOrder, HandsOut, Holds, ends_open}
 use Rattle.meet_block.proofs.Orders.{not_open, same_known, at_or, below, at_right, at_left, set_left, set_right, tags_last, taken_last, numbered_last, tags_more, taken_more, loads_more, numbered_more, tags_set, loads_set, ready_set, numbered_set, owing_of, order_set, none_open, some_open, is_after}
 
@@ -136,7 +136,7 @@ module _ {T : Type 0} where
   tag_at ps i b p h t at = ap (get_elem? (tags_of ps)) (sym (place_is ps i b p h)) ∙ tag_there ps b (i - p.first) p t h.here at
 
   pub takes_known : (found many : ℕ) (ps : List (CounterView T)) (i b : ℕ) (p : CounterView T) (h : Holds ps i b p) (q : CounterView T) → InOrder found many ps → all_ready ps ≡ true → q ≡ record p { taken = set p.taken (i - p.first) true }
-      → known (set ps b q) ≡ joined (tags_of ps) (set (taken_of ps) i true) true (loads_of ps)
+      → known (set ps b q) ≡ joined_with (tags_of ps) (set (taken_of ps) i true) true (loads_of ps)
   takes_known found many ps i b p h q o all is = same_known (tags_set ps b p q h.here (ap (λ (y : CounterView T). y.tags) is))
       (mark_there ps b (i - p.first) p q (even_of found many ps o) h.here (omega (arith, h.low, h.high)) (ap (λ (y : CounterView T). y.taken) is) ∙ ap (λ (j : ℕ). set (taken_of ps) j true) (place_is ps i b p h))
       (ready_set ps b p q h.here (ap (λ (y : CounterView T). y.state) is) ∙ all) (loads_set ps b p q h.here (ap (λ (y : CounterView T). y.loads) is))

@@ -14,8 +14,8 @@ SlotContent A = Option (Option A)
 abbrev pub parent : {T : Type 0} → T → SeatState → List T → List Bool → List ℕ → View T
 parent t at ts bs ls = record { state = at; own = t; tags = ts; taken = bs; loads = ls }
 
-abbrev pub child : {T : Type 0} → T → SeatState → List T → View T
-child t at ts = record { state = at; own = t; tags = ts; taken = []; loads = [] }
+abbrev pub child_seat : {T : Type 0} → T → SeatState → List T → View T
+child_seat t at ts = record { state = at; own = t; tags = ts; taken = []; loads = [] }
 
 -- whether the parent holds its own party, and so may give more slots
 abbrev pub holds_party : SeatState → Bool
@@ -38,11 +38,11 @@ untaken (true ∷ bs) = untaken bs
 untaken (false ∷ bs) = untaken bs + 1
 
 -- What the word says. While the parent holds its own party it is 17 less the children that have arrived, and then the number of given slots that owe
-abbrev pub Counts : SeatState → ℕ → ℕ → ℕ → Type 0
-Counts Open word arrived given = word + arrived ≡ 17
-Counts Waiting word arrived given = word + arrived ≡ given
-Counts Ready word arrived given = (word ≡ 0) × (arrived ≡ given)
-Counts _ word arrived given = ⊥
+abbrev pub WordCounts : SeatState → ℕ → ℕ → ℕ → Type 0
+WordCounts Open word arrived given = word + arrived ≡ 17
+WordCounts Waiting word arrived given = word + arrived ≡ given
+WordCounts Ready word arrived given = (word ≡ 0) × (arrived ≡ given)
+WordCounts _ word arrived given = ⊥
 
 module _ {A T : Type 0} (tag : A → T) where
   -- the slot is at home, with a value of this tag
@@ -59,22 +59,22 @@ module _ {A T : Type 0} (tag : A → T) where
   SlotHolds t _ _ home = ⊥
 
   -- the slots that were not given
-  abbrev pub Vacant : List (Maybe (SlotContent A)) → Type 0
-  Vacant [] = Unit {0}
-  Vacant (h ∷ hs) = (h ≡ some None) × Vacant hs
+  abbrev pub AllVacant : List (Maybe (SlotContent A)) → Type 0
+  AllVacant [] = Unit {0}
+  AllVacant (h ∷ hs) = (h ≡ some None) × AllVacant hs
 
   -- the slots from the one after `before` on, each with one seat
   abbrev pub Slots : List T → List T → List Bool → List (View T) → List (Maybe (SlotContent A)) → Type 0
-  Slots before [] [] [] homes = Vacant homes
+  Slots before [] [] [] homes = AllVacant homes
   Slots before (t ∷ ts) (b ∷ bs) (c ∷ cs) (h ∷ hs) = (c.own ≡ t) × (c.tags ≡ before ++ t ∷ []) × SlotHolds t b c.state h × Slots (before ++ t ∷ []) ts bs cs hs
   Slots before _ _ _ _ = ⊥
 
-  abbrev pub Fits : List ℕ → List (Maybe (SlotContent A)) → List (View T) → Type 0
-  Fits (w ∷ []) homes (p ∷ cs) = (length homes ≡ 16) × Counts p.state w (arrivals cs) (length cs) × Slots [] p.tags p.taken cs homes
-  Fits _ homes views = ⊥
+  abbrev pub SlotsFit : List ℕ → List (Maybe (SlotContent A)) → List (View T) → Type 0
+  SlotsFit (w ∷ []) homes (p ∷ cs) = (length homes ≡ 16) × WordCounts p.state w (arrivals cs) (length cs) × Slots [] p.tags p.taken cs homes
+  SlotsFit _ homes views = ⊥
 
   abbrev pub Obeys : State (SlotContent A) (View T) → Type 0
-  Obeys s = Fits s.words s.homes s.views
+  Obeys s = SlotsFit s.words s.homes s.views
 
 -- What each step makes of the seat that steps: its view, and the slots that it has out
 module _ {T : Type 0} where
@@ -85,15 +85,15 @@ module _ {T : Type 0} where
 
   -- and the new seat's view has that list
   abbrev pub given : Option T → View T → View T
-  given None v = child v.own Owes v.tags
-  given (Some t) v = child t Owes (v.tags ++ t ∷ [])
+  given None v = child_seat v.own Owes v.tags
+  given (Some t) v = child_seat t Owes (v.tags ++ t ∷ [])
 
 module _ {A T : Type 0} where
   abbrev pub claimed : Me (SlotContent A) (View T) → Me (SlotContent A) (View T)
-  claimed m = (child m.0.own Claimed m.0.tags, (length m.0.tags - 1, None) ∷ [])
+  claimed m = (child_seat m.0.own Claimed m.0.tags, (length m.0.tags - 1, None) ∷ [])
 
   abbrev pub arrived : Me (SlotContent A) (View T) → Me (SlotContent A) (View T)
-  arrived m = (child m.0.own Arrived m.0.tags, [])
+  arrived m = (child_seat m.0.own Arrived m.0.tags, [])
 
   -- the parent gave up its party
   abbrev pub closed : Me (SlotContent A) (View T) → Me (SlotContent A) (View T)

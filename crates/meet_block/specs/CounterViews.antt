@@ -7,7 +7,7 @@ use Rattle.meet_block.specs.declared.view.SeatState.{SeatState}
 use Rattle.meet_block.specs.declared.view.SeatState.TheVariants.{Open, Waiting, Ready}
 use Rattle.meet_block.specs.declared.view.View.{View}
 use Rattle.meet_block.specs.Counter.{SlotContent, untaken, holds_party}
-use Rattle.meet_block.specs.Joined.{Joined, joined}
+use Rattle.meet_block.specs.Joined.{Joined, joined_with}
 
 -- the number of a counter's first child, and what the parent's seat has seen
 pub record CounterView (T : Type 0) : Type 0 where
@@ -24,7 +24,7 @@ counter_view n v = record { first = n; state = v.state; tags = v.tags; taken = v
 -- its own party, and the parent's seat
 pub record Keeps {A T : Type 0} (gone : Bool) (given left : ℕ) (own_party : Bool) (me : Me (SlotContent A) (View T)) : Type 0 where
   pub let_go : gone ≡ true → (me.0.state ≡ Ready) × (left ≡ 0)
-  pub placed : given ≡ length me.0.tags
+  pub slots_given : given ≡ length me.0.tags
   pub most : given ≤ 16
   pub remaining : left ≡ untaken me.0.taken
   pub few : left ≤ given
@@ -61,7 +61,7 @@ module _ {T : Type 0} where
   loads_of (p ∷ ps) = p.loads ++ loads_of ps
 
   abbrev pub known : List (CounterView T) → Joined T
-  known ps = joined (tags_of ps) (taken_of ps) (all_ready ps) (loads_of ps)
+  known ps = joined_with (tags_of ps) (taken_of ps) (all_ready ps) (loads_of ps)
 
   -- how many children stand before the counter b
   abbrev pub offset : List (CounterView T) → ℕ → ℕ
@@ -94,7 +94,7 @@ module _ {T : Type 0} where
 
   -- a child more
   pub record HandsOut (before after : List (CounterView T)) (t : T) : Type 0 where
-    pub known_is : known after ≡ joined (tags_of before ++ t ∷ []) (taken_of before ++ false ∷ []) false (loads_of before)
+    pub known_is : known after ≡ joined_with (tags_of before ++ t ∷ []) (taken_of before ++ false ∷ []) false (loads_of before)
     pub order : (found : ℕ) → InOrder found (length before) before → InOrder found (length after) after
 
   -- the same children, and these numbers were read

@@ -9,7 +9,7 @@ ghost use Rattle.meet_block.specs.CounterViews.{counter_view, handed};
 use crate::give::Give;
 use crate::memory::Memory;
 use crate::room::Room;
-use crate::rule::{Allots, Closes, Looks, PlaceOf, TagOf, Takes};
+use crate::rule::{Allots, Closes, Looks, SlotOf, TagOf, Takes};
 use crate::tagged::Tagged;
 use crate::tied::{Counter, Tied};
 use crate::view::View;
@@ -52,12 +52,12 @@ impl<A: Tagged> Model for CounterEnd<A> {
 }
 
 // Gives a slot to a child.
-fn split<A: Tagged, W: TagOf<A::Key>>(
+fn allot<A: Tagged, W: TagOf<A::Key>>(
     counter: &Counter<A>,
     seat: &mut Seat<Option<Room<A>>, View<A::Key>>,
     tag: &A::Key,
 ) -> Seat<Option<Room<A>>, View<A::Key>>
-    requires told { W.told ≡ Some tag.now }
+    requires split_tag { W.split_tag ≡ Some tag.now }
     requires here { seat.old.table_id ≡ counter.now.shared.table_id }
     requires sized { counter.now.shared.table_id.words ≡ 1 }
     requires open { seat.old.me.0.state ≡ Open }
@@ -90,7 +90,7 @@ fn give_up<A: Tagged>(
 
 // Moves the value out of a slot.
 #[inline(never)]
-fn move_out<A: Tagged + Drop, W: PlaceOf>(
+fn move_out<A: Tagged + Drop, W: SlotOf>(
     counter: &Counter<A>,
     seat: &mut Seat<Option<Room<A>>, View<A::Key>>,
     slot: usize,
@@ -151,7 +151,7 @@ impl<A: Tagged + Drop> CounterEnd<A> {
         };
         let theirs = Arc::try_clone(counter)?;
         let room = Room::empty(alloc)?;
-        let child = split::<A, Brand>(counter, &mut self.seat, tag);
+        let child = allot::<A, Brand>(counter, &mut self.seat, tag);
         let give = Give::tied(Tied::of(theirs, child, self.given as usize, room));
         self.given += 1;
         self.left += 1;

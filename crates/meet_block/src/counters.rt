@@ -1,8 +1,8 @@
 // The counters of a join.
 ghost use Rattle.std.specs.Prelude.{◌≡◌, ℕ, ◌+◌, ◌<◌, ◌≤◌, [], ◌∷◌, ◌++◌, IfOk, OnOk, OnErr, IfSome, IfNone, Some, length, slice_get, slice_set, true, false};
-ghost use Rattle.meet_block.specs.Joined.{joined, Answers};
+ghost use Rattle.meet_block.specs.Joined.{joined_with, LookAnswers};
 ghost use Rattle.meet_block.specs.CounterViews.{CounterView, InOrder, Numbered, HandsOut, Searched, FindsAll, FindsOwing, Holds, tags_of, ends_open};
-ghost use Rattle.meet_block.specs.CounterLists.{listed};
+ghost use Rattle.meet_block.specs.CounterLists.{counters_of};
 
 use crate::counter_end::CounterEnd;
 use crate::counter_ends::CounterEnds;
@@ -26,14 +26,14 @@ impl<A: Tagged> Model for Counters<A> {
     ghost use Rattle.std.specs.Prelude.{◌≡◌, length};
     ghost use Rattle.meet_block.specs.Joined.{Joined};
     ghost use Rattle.meet_block.specs.CounterViews.{InOrder, known, tags_of};
-    ghost use Rattle.meet_block.specs.CounterLists.{listed};
+    ghost use Rattle.meet_block.specs.CounterLists.{counters_of};
 
     ghost Value = { Joined A.Key };
 
-    ghost view = { λ j. known (listed j.counters) };
+    ghost view = { λ j. known (counters_of j.counters) };
 
-    ghost invariant = { λ j. InOrder j.found (length (listed j.counters)) (listed j.counters)
-        × (j.count ≡ length (tags_of (listed j.counters))) };
+    ghost invariant = { λ j. InOrder j.found (length (counters_of j.counters)) (counters_of j.counters)
+        × (j.count ≡ length (tags_of (counters_of j.counters))) };
 }
 
 // Looks at the counters from the one numbered `from` on, up to the first whose children owe: its number, and how many owe.
@@ -73,11 +73,11 @@ fn hand_anew<A: Tagged + Drop>(
     count: u64,
     tag: &A::Key,
 ) -> Result<Give<A>, Memory>
-    requires count { count ≡ length (tags_of (listed counters.old)) }
-    requires closed { ends_open (listed counters.old) ≡ false }
+    requires count { count ≡ length (tags_of (counters_of counters.old)) }
+    requires closed { ends_open (counters_of counters.old) ≡ false }
     ensures give { IfOk result (λ give. give ≡ tag.now) }
-    ensures handed { OnOk result (HandsOut (listed counters.old) (listed counters.new) tag.now) }
-    ensures err { OnErr result (listed counters.new ≡ listed counters.old) }
+    ensures handed { OnOk result (HandsOut (counters_of counters.old) (counters_of counters.new) tag.now) }
+    ensures err { OnErr result (counters_of counters.new ≡ counters_of counters.old) }
 {
     let mut counter = CounterEnd::new(alloc, count, tag)?;
     let give = counter.hand(alloc, tag)?;
@@ -92,10 +92,10 @@ fn hand_next<A: Tagged + Drop>(
     count: u64,
     tag: &A::Key,
 ) -> Result<Give<A>, Memory>
-    requires { count ≡ length (tags_of (listed counters.old)) }
+    requires { count ≡ length (tags_of (counters_of counters.old)) }
     ensures give { IfOk result (λ give. give ≡ tag.now) }
-    ensures handed { OnOk result (HandsOut (listed counters.old) (listed counters.new) tag.now) }
-    ensures err { OnErr result (listed counters.new ≡ listed counters.old) }
+    ensures handed { OnOk result (HandsOut (counters_of counters.old) (counters_of counters.new) tag.now) }
+    ensures err { OnErr result (counters_of counters.new ≡ counters_of counters.old) }
 {
     let Some(last) = counters.as_mut_slice().last_mut() else {
         return hand_anew(counters, alloc, count, tag);
@@ -133,7 +133,7 @@ fn look_from<A: Tagged + Drop>(counters: &mut [CounterEnd<A>], found: usize) -> 
 impl<A: Tagged + Drop> Counters<A> {
     /// No counter. It takes no memory yet.
     pub fn new(alloc: Global) -> Counters<A>
-        ensures { result ≡ joined [] [] true [] }
+        ensures { result ≡ joined_with [] [] true [] }
     {
         Counters {
             counters: CounterEnds::Listed(Vec::new(alloc)),
@@ -151,7 +151,7 @@ impl<A: Tagged + Drop> Counters<A> {
     pub fn hand(&mut self, alloc: Global, tag: &A::Key) -> Result<Give<A>, Memory>
         ensures give { IfOk result (λ give. give ≡ tag.now) }
         ensures handed { OnOk result (self.new
-            ≡ joined (self.old.tags ++ tag.now ∷ []) (self.old.taken ++ false ∷ []) false self.old.loads) }
+            ≡ joined_with (self.old.tags ++ tag.now ∷ []) (self.old.taken ++ false ∷ []) false self.old.loads) }
         ensures err { OnErr result (self.new ≡ self.old) }
     {
         let Some(count) = self.count.checked_add(1) else {
@@ -163,7 +163,7 @@ impl<A: Tagged + Drop> Counters<A> {
     }
 
     pub fn look(&mut self) -> Look
-        ensures answers { Answers self.old self.new result }
+        ensures answers { LookAnswers self.old self.new result }
         ensures tags { self.new.tags ≡ self.old.tags }
         ensures taken { self.new.taken ≡ self.old.taken }
     {
@@ -184,7 +184,7 @@ impl<A: Tagged + Drop> Counters<A> {
         requires left { slice_get self.old.taken i ≡ Some false }
         ensures tag { slice_get self.old.tags i ≡ Some (A.tag result) }
         ensures taken { self.new
-            ≡ joined self.old.tags (slice_set self.old.taken i true) true self.old.loads }
+            ≡ joined_with self.old.tags (slice_set self.old.taken i true) true self.old.loads }
     {
         let at = counter_holding(self.counters.as_slice(), i);
         let counter = &mut self.counters.as_mut_slice()[at];

@@ -21,18 +21,18 @@ impl<A: Tagged> TableRule<Option<Room<A>>, View<A::Key>, A::Key> for CounterRule
 
 // What a step is told. A call at `Brand` picks it, since a split and a load have no operands.
 pub trait TagOf<T> {
-    ghost told: { Option T };
+    ghost split_tag: { Option T };
 }
 
 impl<T> TagOf<T> for Brand {
-    ghost told = { None };
+    ghost split_tag = { None };
 }
 
-pub trait PlaceOf {
+pub trait SlotOf {
     ghost slot: { ℕ };
 }
 
-impl PlaceOf for Brand {
+impl SlotOf for Brand {
     ghost slot = { 0 };
 }
 
@@ -42,9 +42,9 @@ pub struct Allots<W> {
 }
 
 impl<T, W: TagOf<T>> Split<View<T>> for Allots<W> {
-    ghost left = { opened W.told };
+    ghost left = { opened W.split_tag };
 
-    ghost right = { given W.told };
+    ghost right = { given W.split_tag };
 }
 
 // The load of a child's claim.
@@ -80,6 +80,6 @@ pub struct Takes<A, W> {
     marker: PhantomData<(A, W)>,
 }
 
-impl<A: Tagged, W: PlaceOf> Play<Option<Room<A>>, View<A::Key>> for Takes<A, W> {
+impl<A: Tagged, W: SlotOf> Play<Option<Room<A>>, View<A::Key>> for Takes<A, W> {
     ghost then = { λ st m r n. Took A.tag W.slot m n };
 }

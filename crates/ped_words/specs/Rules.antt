@@ -1,5 +1,5 @@
 -- The numbers of the rules for words, what they are called, and the rules for the text of a pedigree among them.
-use Rattle.std.specs.Prelude.{◌≡◌, ℕ, nat_eq, List, Option, Some, None, Result, Ok, Err, if◌then◌else◌, codes}
+use Rattle.std.specs.Prelude.{◌≡◌, ℕ, nat_eq, List, [], ◌∷◌, Option, Some, None, Result, Ok, Err, if◌then◌else◌, codes}
 use Rattle.std.specs.Option.{option_map}
 use Rattle.ped_path.specs.declared.parse.PedTextError.{PedTextError}
 use Rattle.ped_path.specs.declared.parse.PedTextError.TheVariants as text
@@ -19,33 +19,29 @@ number_of OutOfRange = 7
 number_of MissingOption = 8
 number_of StrayWord = 9
 
--- the rule of a number
+-- the rule among these that has this number, and the last one where none has
+abbrev pub rule_among : List Rule → ℕ → Rule
+rule_among [] number = StrayWord
+rule_among (rule ∷ rules) number = if nat_eq number (number_of rule) then rule else rule_among rules number
+
 abbrev pub rule_of : ℕ → Rule
-rule_of number =
-    if nat_eq number 1 then NoCommand
-    else if nat_eq number 2 then UnknownCommand
-    else if nat_eq number 3 then UnknownOption
-    else if nat_eq number 4 then OptionTwice
-    else if nat_eq number 5 then MissingValue
-    else if nat_eq number 6 then BadValue
-    else if nat_eq number 7 then OutOfRange
-    else if nat_eq number 8 then MissingOption
-    else StrayWord
+rule_of =
+    rule_among (NoCommand ∷ UnknownCommand ∷ UnknownOption ∷ OptionTwice ∷ MissingValue ∷ BadValue ∷ OutOfRange ∷ MissingOption ∷ [])
 
 -- what it is called
-abbrev pub text_of : Rule → List ℕ
-text_of NoCommand = codes "no command"
-text_of UnknownCommand = codes "unknown command"
-text_of UnknownOption = codes "unknown option"
-text_of OptionTwice = codes "option twice"
-text_of MissingValue = codes "missing value"
-text_of BadValue = codes "bad value"
-text_of OutOfRange = codes "out of range"
-text_of MissingOption = codes "missing option"
-text_of StrayWord = codes "stray word"
+abbrev pub rule_name : Rule → List ℕ
+rule_name NoCommand = codes "no command"
+rule_name UnknownCommand = codes "unknown command"
+rule_name UnknownOption = codes "unknown option"
+rule_name OptionTwice = codes "option twice"
+rule_name MissingValue = codes "missing value"
+rule_name BadValue = codes "bad value"
+rule_name OutOfRange = codes "out of range"
+rule_name MissingOption = codes "missing option"
+rule_name StrayWord = codes "stray word"
 
 abbrev pub rule_text : ℕ → List ℕ
-rule_text number = text_of (rule_of number)
+rule_text number = rule_name (rule_of number)
 
 -- the rule that a text breaks which is no pedigree's
 abbrev pub text_rule : PedTextError → Option Rule

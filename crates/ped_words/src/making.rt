@@ -53,7 +53,7 @@ impl<'a> Given<'a> {
             Verb::Check => Ok(Command::Check),
             Verb::Fmt => Ok(Command::Fmt),
             Verb::Gen => self.generation(),
-            Verb::Stream => self.stream(alloc),
+            Verb::Stream => self.stream_command(alloc),
             Verb::Span => Ok(Command::Span {
                 settings: self.settings(alloc)?,
             }),
@@ -130,7 +130,7 @@ impl<'a> Given<'a> {
     }
 
     /// The command `stream`, which needs a pedigree and a count that its ranks are enough for.
-    fn stream(&self, alloc: Global) -> Result<Command, WordError>
+    fn stream_command(&self, alloc: Global) -> Result<Command, WordError>
         requires { length self.now.words < 2 ^ 32 }
         ensures value { IsUnlessMemory (made_command Verb.Stream (values_in self.now) (length self.now.words)) result }
         ensures lawful { IfOk result IsLawful }

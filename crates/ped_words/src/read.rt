@@ -91,7 +91,7 @@ fn judge_name(verb: Verb, given: &Given, word: &str, is_last: bool) -> Result<Op
         Some(name) => name,
         None => return Err(Rule::UnknownOption),
     };
-    if !verb.takes(name) {
+    if !verb.takes_option(name) {
         return Err(Rule::UnknownOption);
     }
     if given.has(name) {

@@ -1,5 +1,5 @@
 ghost use Rattle.std.specs.Prelude.{◌≡◌};
-ghost use Rattle.ped_words.specs.Rules.{number_of, rule_of, rule_text, text_of, text_rule};
+ghost use Rattle.ped_words.specs.Rules.{number_of, rule_of, rule_text, rule_name, text_rule};
 
 use ped_path::PedTextError;
 use std::alloc::{AllocError, AllocFailed};
@@ -76,7 +76,7 @@ impl Rule {
     }
 
     fn text(self) -> &'static str
-        ensures { result.now ≡ text_of self }
+        ensures { result.now ≡ rule_name self }
     {
         match self {
             Rule::NoCommand => "no command",

@@ -84,7 +84,7 @@ impl Verb {
     }
 
     /// Whether this command has the option.
-    pub(crate) fn takes(self, name: OptionName) -> bool
+    pub(crate) fn takes_option(self, name: OptionName) -> bool
         ensures { result ≡ takes_option self name }
     {
         match name {

@@ -4,5 +4,5 @@ use Rattle.engine.specs.Promise.{WroteLine, Watched}
 use Rattle.engine.specs.declared.status.Status.{Status}
 
 -- The answer came with a line on the error output.
-abbrev pub Tells : Status → List ℕ → Watched → Status → Type 0
-Tells wanted line err status = (status ≡ wanted) × WroteLine err line
+abbrev pub WritesRefusal : Status → List ℕ → Watched → Status → Type 0
+WritesRefusal wanted line err status = (status ≡ wanted) × WroteLine err line

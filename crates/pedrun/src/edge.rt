@@ -3,15 +3,15 @@
 ghost use Rattle.std.specs.Prelude.{◌≡◌, IsFalse, codes};
 ghost use Rattle.engine.specs.Promise.{has_line, watched};
 ghost use Rattle.engine.specs.Refusal.{Puts};
-ghost use Rattle.pedrun.specs.Edge.{Tells};
+ghost use Rattle.pedrun.specs.Edge.{WritesRefusal};
 
 use engine::Status;
-use engine::call::{want, write_error_line, write_output};
+use engine::call::{write_error_line, write_memory_line, write_output};
 use ped_io::Sink;
 use std::io::ErrorKind;
 
 /// Writes a text of the help. The answer is `Done`, or `Write` where a write of it failed, with a line on `err`.
-pub fn show<K: Sink, E: Sink>(text: &str, out: &mut K, err: &mut E) -> Status
+pub fn write_help<K: Sink, E: Sink>(text: &str, out: &mut K, err: &mut E) -> Status
     ensures shown { Puts text.now Status.Done (watched K.written K.faults out.old out.new) (watched E.written E.faults err.old err.new) result }
     ensures no_line { IsFalse (has_line result) → err.new ≡ err.old }
 {
@@ -21,14 +21,14 @@ pub fn show<K: Sink, E: Sink>(text: &str, out: &mut K, err: &mut E) -> Status
 /// Tells why the arguments couldn't be had, by the kind of the error: they are a faulty command line where one isn't UTF-8, and there was
 /// no memory for them else.
 pub fn refuse<E: Sink>(kind: ErrorKind, err: &mut E) -> Status
-    ensures words { kind ≡ ErrorKind.InvalidData → Tells Status.Words (codes "words: not UTF-8\n") (watched E.written E.faults err.old err.new) result }
-    ensures memory { (kind ≡ ErrorKind.InvalidData → ⊥) → Tells Status.Memory (codes "out of memory\n") (watched E.written E.faults err.old err.new) result }
+    ensures words { kind ≡ ErrorKind.InvalidData → WritesRefusal Status.Words (codes "words: not UTF-8\n") (watched E.written E.faults err.old err.new) result }
+    ensures memory { (kind ≡ ErrorKind.InvalidData → ⊥) → WritesRefusal Status.Memory (codes "out of memory\n") (watched E.written E.faults err.old err.new) result }
 {
     match kind {
         ErrorKind::InvalidData => {
             write_error_line(err, b"words: not UTF-8\n");
             Status::Words
         }
-        _ => want(err),
+        _ => write_memory_line(err),
     }
 }

@@ -9,7 +9,7 @@ mod recorded;
 mod terminal;
 mod text;
 
-use edge::{refuse, show};
+use edge::{refuse, write_help};
 use engine::{OpenGate, pedrun};
 use help::Topic;
 use ped_io::{StdSink, StdSource};
@@ -46,7 +46,7 @@ fn main(rt: HostRuntime) -> ExitCode {
         Err(error) => return ExitCode::from(refuse(error.kind(), &mut err).code()),
     };
     if let Some(topic) = Topic::of_words(&words) {
-        return ExitCode::from(show(topic.text(), &mut out, &mut err).code());
+        return ExitCode::from(write_help(topic.text(), &mut out, &mut err).code());
     }
     let mut script = StdSource::new(rt.stdin());
     if rt.stderr().is_terminal() {

@@ -93,7 +93,7 @@ impl<'a, R: Clock + Eprint> Progress<'a, R> {
     }
 
     // Counts one more, and looks at the clock where it ends a group, or the group before took long.
-    fn count(&self, tally: &Tally) {
+    fn add_one(&self, tally: &Tally) {
         let before = tally.count.fetch_add(1, Ordering::SeqCst);
         let ends_group = before % GROUP == GROUP - 1;
         if !ends_group && !tally.is_slow.load(Ordering::SeqCst) {
@@ -120,10 +120,10 @@ impl<'a, R: Clock + Eprint> Progress<'a, R> {
 
 impl<'a, R: Clock + Eprint> Gate for Progress<'a, R> {
     fn enter(&self, _origin: &Origin) {
-        self.count(&self.begun);
+        self.add_one(&self.begun);
     }
 
     fn leave(&self, _origin: &Origin) {
-        self.count(&self.ended);
+        self.add_one(&self.ended);
     }
 }

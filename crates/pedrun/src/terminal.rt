@@ -14,7 +14,7 @@ use std::thread::Threads;
 use std::time::Clock;
 
 // What the line of a script's fault tells: the fault, and the byte where it stands.
-fn fault_of(line: &[u8]) -> Option<(&str, usize)> {
+fn fault_in_line(line: &[u8]) -> Option<(&str, usize)> {
     let line = str::from_utf8(line).ok()?;
     let (message, at) = line
         .strip_prefix("script: ")?
@@ -24,7 +24,7 @@ fn fault_of(line: &[u8]) -> Option<(&str, usize)> {
 }
 
 // At which word the line on words says that the fault is, if at one.
-fn word_of(line: &[u8]) -> Option<usize> {
+fn word_in_line(line: &[u8]) -> Option<usize> {
     let line = str::from_utf8(line).ok()?;
     let (_, at) = line.strip_suffix("\n")?.rsplit_once(" at word ")?;
     at.parse().ok()
@@ -32,7 +32,7 @@ fn word_of(line: &[u8]) -> Option<usize> {
 
 // The lines on the place of the fault that the line tells. None where there is no memory for them, or was none for the line or the text.
 fn place_lines(alloc: Global, line: &[u8], text: &[u8]) -> Option<Vec<u8>> {
-    let (message, at) = fault_of(line)?;
+    let (message, at) = fault_in_line(line)?;
     if at > text.len() {
         return None;
     }
@@ -66,7 +66,7 @@ pub fn pedrun_on_terminal<
         }
     }
     if status == Status::Words && !words.is_empty() {
-        if let Ok(lines) = hints(alloc, words, word_of(err.bytes())) {
+        if let Ok(lines) = hints(alloc, words, word_in_line(err.bytes())) {
             let _ = write_all(&mut err, &lines);
         }
     }

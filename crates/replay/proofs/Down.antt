@@ -2,33 +2,33 @@
 use Rattle.std.proofs.Common.{◌≡◌, ℕ, zero, suc, ◌+◌, ◌-◌, ◌<◌, ◌≤◌, List, [], ◌∷◌, ◌++◌, Option, Some, None, Ok, length, length-append, refl, sym, ap, ◌∙◌, subst, arith}
 use Rattle.serial_meaning.specs.Laws.{Main}
 use Rattle.serial_meaning.specs.Eval.{path_of, main_origin}
-use Rattle.serial_meaning.specs.Open.{opened}
+use Rattle.serial_meaning.specs.Open.{node_of}
 use Rattle.serial_meaning.specs.Plan.{PlanView}
 use Rattle.serial_meaning.specs.declared.event.Fault.{Fault}
 use Rattle.serial_meaning.specs.declared.origin.Origin.{Origin}
 use Rattle.strand_meaning.specs.Strands.{Strand, Found, FoundStrand, Missing, Blocked, child_on_way, strand_of, blocking_fault, last_step, entered_child, next_step, by_child, walk_in, strand_at}
-use Rattle.serial_runner.specs.Nodes.{shown_by, node_toward}
+use Rattle.serial_runner.specs.Nodes.{node_by, node_toward}
 use Rattle.serial_runner.specs.declared.node.Node.{Node}
-use Rattle.replay.specs.Descents.{seen_from, IsOnWayTo, Leads}
+use Rattle.replay.specs.Descents.{seen_from, IsOnWayTo, LeadsDown}
 use Rattle.replay.specs.declared.descent.Way.TheVariants.{Down}
 use Rattle.replay.proofs.Iterations.{IsFurther, goes-further}
 
 module _ (plan : PlanView) (j : List ℕ) where
   -- what one node says, with what stands below it
   abbrev by_node : Origin → (Origin → Found) → Found
-  by_node o go = by_child (child_on_way j (opened plan o).items) j (last_step (blocking_fault (opened plan o) j) (strand_of o (opened plan o) j)) go
+  by_node o go = by_child (child_on_way j (node_of plan o).items) j (last_step (blocking_fault (node_of plan o) j) (strand_of o (node_of plan o) j)) go
 
   same-below : (o : Origin) → IsOnWayTo plan j o → (f g : Origin → Found) → ((next : Origin) → IsFurther plan j o next → f next ≡ g next) → by_node o f ≡ by_node o g
-  same-below o on f g h = by_way (child_on_way j (opened plan o).items) refl
+  same-below o on f g h = by_way (child_on_way j (node_of plan o).items) refl
     where
       here : Found
-      here = last_step (blocking_fault (opened plan o) j) (strand_of o (opened plan o) j)
+      here = last_step (blocking_fault (node_of plan o) j) (strand_of o (node_of plan o) j)
 
-      by_next : (c : Origin) → child_on_way j (opened plan o).items ≡ Some c → (n : Option Origin) → entered_child j c ≡ n → next_step n f ≡ next_step n g
+      by_next : (c : Origin) → child_on_way j (node_of plan o).items ≡ Some c → (n : Option Origin) → entered_child j c ≡ n → next_step n f ≡ next_step n g
       by_next c e None t = refl
       by_next c e (Some next) t = h next (goes-further plan j o on.known c next e t)
 
-      by_way : (c : Option Origin) → child_on_way j (opened plan o).items ≡ c → by_child c j here f ≡ by_child c j here g
+      by_way : (c : Option Origin) → child_on_way j (node_of plan o).items ≡ c → by_child c j here f ≡ by_child c j here g
       by_way None e = refl
       by_way (Some c) e = by_next c e (entered_child j c) refl
 
@@ -49,24 +49,24 @@ module _ (plan : PlanView) (j : List ℕ) where
           same-below o on (walk_in plan s j) (λ next. seen_from plan next j) (λ next f. enough s (length j - length (path_of next)) next f.on (let l = f.longer in omega (arith, l, e)) (omega arith))
 
 module _ (plan : PlanView) (o : Origin) (j : List ℕ) (on : IsOnWayTo plan j o) (m : Node) (is : m ≡ node_toward plan o j) where
-  shown-child : (c : Option Origin) (s : Option Strand) (f : Option Fault) → (shown_by c s f).child ≡ c
+  shown-child : (c : Option Origin) (s : Option Strand) (f : Option Fault) → (node_by c s f).child ≡ c
   shown-child None s f = refl
   shown-child (Some c) s f = refl
 
-  child-is : m.child ≡ child_on_way j (opened plan o).items
-  child-is = ap (λ (n : Node). n.child) is ∙ shown-child (child_on_way j (opened plan o).items) (strand_of o (opened plan o) j) (blocking_fault (opened plan o) j)
+  child-is : m.child ≡ child_on_way j (node_of plan o).items
+  child-is = ap (λ (n : Node). n.child) is ∙ shown-child (child_on_way j (node_of plan o).items) (strand_of o (node_of plan o) j) (blocking_fault (node_of plan o) j)
 
   abbrev below : Origin → Found
   below next = seen_from plan next j
 
   -- by what the code finds in the node
-  shown-found : (c : Option Origin) (s : Option Strand) (f : Option Fault) → by_child c j (last_step f s) below ≡ by_child (shown_by c s f).child j (last_step (shown_by c s f).child_fault (shown_by c s f).strand) below
+  shown-found : (c : Option Origin) (s : Option Strand) (f : Option Fault) → by_child c j (last_step f s) below ≡ by_child (node_by c s f).child j (last_step (node_by c s f).child_fault (node_by c s f).strand) below
   shown-found None s f = refl
   shown-found (Some c) s f = refl
 
   found : seen_from plan o j ≡ by_child m.child j (last_step m.child_fault m.strand) below
   found =
-      a-node plan j o on ∙ shown-found (child_on_way j (opened plan o).items) (strand_of o (opened plan o) j) (blocking_fault (opened plan o) j)
+      a-node plan j o on ∙ shown-found (child_on_way j (node_of plan o).items) (strand_of o (node_of plan o) j) (blocking_fault (node_of plan o) j)
       ∙ ap (λ (n : Node). by_child n.child j (last_step n.child_fault n.strand) below) (sym is)
 
   found-none : m.child ≡ None → seen_from plan o j ≡ last_step m.child_fault m.strand
@@ -81,7 +81,7 @@ module _ (plan : PlanView) (o : Origin) (j : List ℕ) (on : IsOnWayTo plan j o)
   pub is_missing : m.child ≡ None → m.child_fault ≡ None → m.strand ≡ None → seen_from plan o j ≡ Missing
   is_missing e h g = found-none e ∙ ap (λ (f : Option Fault). last_step f m.strand) h ∙ ap (last_step None) g
 
-  pub leads_down : (c next : Origin) → m.child ≡ Some c → entered_child j c ≡ Some next → Leads plan o j (Ok (Down next))
+  pub leads_down : (c next : Origin) → m.child ≡ Some c → entered_child j c ≡ Some next → LeadsDown plan o j (Ok (Down next))
   leads_down c next e h =
       let f = goes-further plan j o on.known c next (sym child-is ∙ e) h in
       (f.on, f.longer, sym (found ∙ ap (λ (d : Option Origin). by_child d j (last_step m.child_fault m.strand) below) e ∙ ap (λ (n : Option Origin). next_step n below) h))

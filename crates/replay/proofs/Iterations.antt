@@ -5,7 +5,7 @@ use Rattle.std.proofs.Math.Seq.{take-append_seam}
 use Rattle.serial_meaning.specs.Laws.{IsOriginOf, ChildOf}
 use Rattle.serial_meaning.specs.Plan.{PlanView}
 use Rattle.serial_meaning.specs.Eval.{path_of, iteration}
-use Rattle.serial_meaning.specs.Open.{Child, opened}
+use Rattle.serial_meaning.specs.Open.{Child, node_of}
 use Rattle.serial_meaning.proofs.OriginFaults.Origins.{child-below}
 use Rattle.serial_meaning.specs.declared.origin.Origin.{Origin}
 use Rattle.serial_meaning.specs.declared.origin.Origin.TheVariants.{Instance, Loop}
@@ -35,12 +35,12 @@ pub record IsFurther (plan : PlanView) (j : List ℕ) (o next : Origin) : Type 0
   pub longer : length (path_of o) < length (path_of next)
 
 module _ (plan : PlanView) (j : List ℕ) (o : Origin) (known : IsOriginOf plan o) where
-  longer-child : (c : Origin) → Contains (opened plan o).items (Child c) → length (path_of o) < length (path_of c)
+  longer-child : (c : Origin) → Contains (node_of plan o).items (Child c) → length (path_of o) < length (path_of c)
   longer-child c among =
       let b = child-below plan o c among in
       let l : length (path_of c) ≡ length (path_of o) + length (b.0 ∷ b.1) = ap length b.2 ∙ length-append (path_of o) (b.0 ∷ b.1) in omega (arith, l)
 
-  into : (c next : Origin) → OnWay j (opened plan o).items c → entered_child j c ≡ Some next → IsFurther plan j o next
+  into : (c next : Origin) → OnWay j (node_of plan o).items c → entered_child j c ≡ Some next → IsFurther plan j o next
   into (Instance function args path) next way e =
       let c : Origin = Instance function args path in
       let same : c ≡ next = cc in
@@ -51,7 +51,7 @@ module _ (plan : PlanView) (j : List ℕ) (o : Origin) (known : IsOriginOf plan 
       let b = below-of path j way.below in
       let turn = enters-turn j function rest first path (range.hi - range.lo) b.0 b.1 next b.2 e in
       let i : Origin = iteration function rest first path turn.turn in
-      let among : Contains (opened plan c).items (Child i) = contains-turn function rest first path range.lo (range.hi - range.lo) turn.turn (let whole = way.whole in omega (arith, whole)) (let whole = way.whole in let low = turn.within in omega (arith, whole, low)) in
+      let among : Contains (node_of plan c).items (Child i) = contains-turn function rest first path range.lo (range.hi - range.lo) turn.turn (let whole = way.whole in omega (arith, whole)) (let whole = way.whole in let low = turn.within in omega (arith, whole, low)) in
       let l : length (path ++ turn.turn ∷ []) ≡ length path + 1 = length-append path (turn.turn ∷ []) in
       let m = longer-child c way.among in
       let further : IsFurther plan j o i = record {
@@ -60,5 +60,5 @@ module _ (plan : PlanView) (j : List ℕ) (o : Origin) (known : IsOriginOf plan 
       } in
       subst (IsFurther plan j o) (sym turn.is) further
 
-  pub goes-further : (c next : Origin) → child_on_way j (opened plan o).items ≡ Some c → entered_child j c ≡ Some next → IsFurther plan j o next
-  goes-further c next e h = into c next (on-way j (opened plan o).items c (items-rise plan (children_of plan o) o) e) h
+  pub goes-further : (c next : Origin) → child_on_way j (node_of plan o).items ≡ Some c → entered_child j c ≡ Some next → IsFurther plan j o next
+  goes-further c next e h = into c next (on-way j (node_of plan o).items c (items-rise plan (children_of plan o) o) e) h

@@ -24,9 +24,9 @@ pub record IsOnWayTo (plan : PlanView) (j : List ℕ) (o : Origin) : Type 0 wher
   pub below : IsBelow (path_of o) j
 
 -- The way leads further down, to where the same stands; or what stands there is known.
-abbrev pub Leads : PlanView → Origin → List ℕ → Result Way ReplayError → Type 0
-Leads plan o j (Ok (way.Found strand)) = seen_from plan o j ≡ FoundStrand strand
-Leads plan o j (Ok (way.Down next)) = IsOnWayTo plan j next × (length (path_of o) < length (path_of next)) × (seen_from plan next j ≡ seen_from plan o j)
-Leads plan o j (Err error.NoStrand) = seen_from plan o j ≡ Missing
-Leads plan o j (Err (error.Blocked f)) = seen_from plan o j ≡ Blocked f
-Leads plan o j (Err error.Memory) = Unit {0}
+abbrev pub LeadsDown : PlanView → Origin → List ℕ → Result Way ReplayError → Type 0
+LeadsDown plan o j (Ok (way.Found strand)) = seen_from plan o j ≡ FoundStrand strand
+LeadsDown plan o j (Ok (way.Down next)) = IsOnWayTo plan j next × (length (path_of o) < length (path_of next)) × (seen_from plan next j ≡ seen_from plan o j)
+LeadsDown plan o j (Err error.NoStrand) = seen_from plan o j ≡ Missing
+LeadsDown plan o j (Err (error.Blocked f)) = seen_from plan o j ≡ Blocked f
+LeadsDown plan o j (Err error.Memory) = Unit {0}

@@ -5,7 +5,7 @@ ghost use Rattle.std.specs.Arc.{arc_value};
 ghost use Rattle.serial_meaning.specs.Eval.{elision};
 ghost use Rattle.strand_meaning.specs.StrandLaws.{IsWholeUpTo, strand_in};
 ghost use Rattle.strand_meaning.specs.Strands.{entered_child, strand_at};
-ghost use Rattle.replay.specs.Descents.{IsOnWayTo, Leads};
+ghost use Rattle.replay.specs.Descents.{IsOnWayTo, LeadsDown};
 ghost use Rattle.replay.specs.Replays.{IsReplayOf};
 
 use crate::error::ReplayError;
@@ -66,7 +66,7 @@ fn descend(
     at: &Pedigree,
 ) -> Result<Way, ReplayError>
     requires { IsOnWayTo (arc_value plan.now) at.now origin }
-    ensures { Leads (arc_value plan.now) origin at.now result }
+    ensures { LeadsDown (arc_value plan.now) origin at.now result }
 {
     let Node {
         strand,

@@ -5,7 +5,7 @@ use Rattle.serial_meaning.specs.Answer.{AnswerView}
 use Rattle.serial_meaning.specs.Eval.{main_origin}
 use Rattle.serial_meaning.specs.Plan.{PlanView}
 use Rattle.serial_meaning.specs.declared.origin.Origin.{Origin}
-use Rattle.strand_machine.specs.Parts.{awaited}
+use Rattle.strand_machine.specs.AwaitedChildren.{awaited}
 use Rattle.strand_meaning.specs.Laws.{IsFaultOf}
 use Rattle.sched_meaning.specs.Core as machine
 use Rattle.sched_meaning.specs.Steps.{Step, Leads}
@@ -54,16 +54,16 @@ pub record IsGiven (plan : PlanView) (given : List Origin) (o : Origin) (a : Ans
   pub there : Contains given o
 
 -- an answer of this origin is kept exactly where it was given
-abbrev pub IsHeard : PlanView → List Origin → Origin → Option AnswerView → Type 0
-IsHeard plan given o None = Contains given o → ⊥
-IsHeard plan given o (Some a) = IsGiven plan given o a
+abbrev pub IsAnsweredBy : PlanView → List Origin → Origin → Option AnswerView → Type 0
+IsAnsweredBy plan given o None = Contains given o → ⊥
+IsAnsweredBy plan given o (Some a) = IsGiven plan given o a
 
 -- a child knows its place
 pub record IsChild (plan : PlanView) (given : List Origin) (nodes : List SpawnNode) (n place : ℕ) (child : NodeChild) : Type 0 where
   pub node : SpawnNode
   pub there : slice_get nodes child.number ≡ Some node
   pub link : node.link ≡ Some (record { parent = n; place = place })
-  pub heard : IsHeard plan given node.origin child.answer
+  pub heard : IsAnsweredBy plan given node.origin child.answer
 
 -- at the place that it knows it is awaited
 pub record IsAwaited (nodes : List SpawnNode) (n : ℕ) (l : Link) : Type 0 where
@@ -103,14 +103,14 @@ pub record IsConsistent (s : CoreState) : Type 0 where
   pub led : IsLed (plan_of s) (core_of false s)
   pub workers : AreWorkers s.nodes.items s.workers.items
   pub nodes : AreNodes (plan_of s) s.given s.nodes.items
-  pub root : IsHeard (plan_of s) s.given (main_origin (plan_of s)) s.root
+  pub root : IsAnsweredBy (plan_of s) s.given (main_origin (plan_of s)) s.root
 
 -- One step.
-pub record Goes (e : CoreEvent) (s next : CoreState) : Type 0 where
+pub record StepsTo (e : CoreEvent) (s next : CoreState) : Type 0 where
   pub step : Step e (core_of false s) (core_of false next)
   pub consistent : IsConsistent next
 
 -- What holds of a core as long as no step wanted memory.
-abbrev pub Holds : Bool → CoreState → Type 0
-Holds false s = IsConsistent s
-Holds true s = Unit {0}
+abbrev pub HoldsOfCore : Bool → CoreState → Type 0
+HoldsOfCore false s = IsConsistent s
+HoldsOfCore true s = Unit {0}

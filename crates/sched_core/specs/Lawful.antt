@@ -6,9 +6,9 @@ use Rattle.sched_meaning.specs.declared.event.CoreEvent.{CoreEvent}
 use Rattle.sched_meaning.specs.declared.event.CoreEvent.TheVariants.{Run, Pop, Steal, Look, Idle}
 
 -- whether a task waits at this place
-abbrev pub has_waiting : ℕ → Option Worker → Bool
-has_waiting place None = false
-has_waiting place (Some w) = nat_lt place (length w.stalled)
+abbrev pub has_stalled : ℕ → Option Worker → Bool
+has_stalled place None = false
+has_stalled place (Some w) = nat_lt place (length w.stalled)
 
 -- whether there is such a worker, without tasks
 abbrev pub may_idle : Option Worker → Bool
@@ -20,5 +20,5 @@ abbrev pub may_happen : Core → CoreEvent → Bool
 may_happen c (Run w) = may_run (slice_get c.workers w)
 may_happen c (Pop w) = is_free (slice_get c.workers w) && may_give (slice_get c.workers w)
 may_happen c (Steal thief victim) = not (nat_eq thief victim) && (is_free (slice_get c.workers thief) && may_give (slice_get c.workers victim))
-may_happen c (Look w place) = is_free (slice_get c.workers w) && has_waiting place (slice_get c.workers w)
+may_happen c (Look w place) = is_free (slice_get c.workers w) && has_stalled place (slice_get c.workers w)
 may_happen c (Idle w) = may_idle (slice_get c.workers w)

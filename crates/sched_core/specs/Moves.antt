@@ -3,7 +3,7 @@ use Rattle.std.specs.Prelude.{◌≡◌, ◌<◌, ◌≤◌, ℕ, true, List, []
 use Rattle.serial_meaning.specs.Answer.{AnswerView}
 use Rattle.strand_machine.specs.Tasks.{TaskView}
 use Rattle.strand_machine.specs.Family.{tags}
-use Rattle.strand_machine.specs.Parts.{awaited}
+use Rattle.strand_machine.specs.AwaitedChildren.{awaited}
 use Rattle.strand_machine.specs.Stops.{WentOn, answer_tags}
 use Rattle.strand_machine.specs.declared.stop.Stop.{Stop}
 use Rattle.strand_machine.specs.declared.stop.Stop.TheVariants as stop
@@ -107,22 +107,22 @@ pub record Settles (j : Job) (answers : List AnswerView) (next : Job) : Type 0 w
 -- What a stop of a task of this number needs
 
 -- a node that hears of a child at this place
-pub record CanHearAt (nodes : List SpawnNode) (l : Link) : Type 0 where
+pub record CanAnswerAt (nodes : List SpawnNode) (l : Link) : Type 0 where
   pub parent : SpawnNode
   pub there : slice_get nodes l.parent ≡ Some parent
   pub place : l.place < length parent.children
   pub unanswered : 0 < parent.unanswered
 
-abbrev pub CanHear : List SpawnNode → Option Link → Type 0
-CanHear nodes None = Unit {0}
-CanHear nodes (Some l) = CanHearAt nodes l
+abbrev pub CanAnswer : List SpawnNode → Option Link → Type 0
+CanAnswer nodes None = Unit {0}
+CanAnswer nodes (Some l) = CanAnswerAt nodes l
 
 pub record CanStop (w number : ℕ) (s : CoreState) : Type 0 where
   pub worker : w < length s.workers.items
   pub node : SpawnNode
   pub there : slice_get s.nodes.items number ≡ Some node
   pub within : node.unanswered ≤ length node.children
-  pub hears : CanHear s.nodes.items node.link
+  pub hears : CanAnswer s.nodes.items node.link
 
 -- What a task needs to go on
 

@@ -10,17 +10,17 @@ use Rattle.sched_meaning.specs.Steps.{Step}
 use Rattle.sched_meaning.specs.declared.event.CoreEvent.{CoreEvent}
 use Rattle.sched_meaning.specs.declared.event.CoreEvent.TheVariants.{Run}
 use Rattle.sched_core.specs.Cores.{core_of, plan_of}
-use Rattle.sched_core.specs.Consistent.{Goes}
+use Rattle.sched_core.specs.Consistent.{StepsTo}
 use Rattle.sched_core.specs.declared.simulation.Simulated.{Simulated}
 use Rattle.sched_core.specs.declared.simulation.Played.{Played}
 use Rattle.sched_core.specs.declared.simulation.Played.TheVariants.{On, Finished}
 use Rattle.sched_core.specs.declared.state.CoreState.{CoreState}
 
 -- The word picks an event, which happens, and main isn't answered yet.
-pub record GoesOn (word : ℕ) (s next : CoreState) : Type 0 where
+pub record PlaysOn (word : ℕ) (s next : CoreState) : Type 0 where
   pub event : CoreEvent
   pub picks : picked (core_of false s) word ≡ Some event
-  pub goes : Goes event s next
+  pub goes : StepsTo event s next
   pub root : next.root ≡ None
 
 pub record IsMains (plan : PlanView) (a : AnswerView) : Type 0 where
@@ -37,5 +37,5 @@ pub record AnswersMain (word : ℕ) (s : CoreState) (simulated : Simulated) : Ty
   pub mains : IsMains (plan_of s) simulated.answer
 
 abbrev pub Plays : ℕ → CoreState → Played → Type 0
-Plays word s (On next) = GoesOn word s next
+Plays word s (On next) = PlaysOn word s next
 Plays word s (Finished simulated) = AnswersMain word s simulated

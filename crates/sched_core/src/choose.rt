@@ -101,11 +101,11 @@ impl CoreState {
     }
 
     /// How many tasks of the worker wait.
-    fn waiting(&self, w: u32) -> u32
+    fn stalled_count(&self, w: u32) -> u32
         ensures { result ≡ length (stalled_places (slice_get (map worker_of self.now.workers.items) w)) }
     {
         match self.workers.get(w as usize) {
-            Some(worker) => worker.waiting(),
+            Some(worker) => worker.stalled_count(),
             None => 0,
         }
     }
@@ -115,7 +115,7 @@ impl CoreState {
         requires consistent { IsConsistent self.now }
         ensures { OnOk result (events.new.items ≡ events.old.items ++ chosen.looks_by (core_of false self.now) worker) }
     {
-        for place in 0..self.waiting(worker) {
+        for place in 0..self.stalled_count(worker) {
             add_if(
                 events,
                 self.may_resume(worker, place),

@@ -1,7 +1,7 @@
 use crate::error::CoreError;
 use crate::new_state::new_state;
 use crate::state::CoreState;
-use crate::steps::go;
+use crate::steps::take_event;
 use sched_meaning::CoreEvent;
 use serial_meaning::{Answer, Plan};
 use std::alloc::Global;
@@ -26,7 +26,7 @@ impl Model for Core {
     ghost use Rattle.serial_meaning.specs.contracts.plan.Plan as plan_type;
     ghost use Rattle.sched_meaning.specs.Core.{Core as CoreView};
     ghost use Rattle.sched_core.specs.Cores.{core_of};
-    ghost use Rattle.sched_core.specs.Consistent.{Holds};
+    ghost use Rattle.sched_core.specs.Consistent.{HoldsOfCore};
 
     ghost Value = { CoreView };
 
@@ -34,7 +34,7 @@ impl Model for Core {
 
     ghost view = { λ c. core_of c.spent c.state };
 
-    ghost invariant = { λ c. Holds c.spent c.state };
+    ghost invariant = { λ c. HoldsOfCore c.spent c.state };
 }
 
 impl Core {
@@ -74,7 +74,7 @@ impl Core {
             return Err(CoreError::NotLawful);
         }
         self.spent = true;
-        go(&mut self.state, alloc, event)?;
+        take_event(&mut self.state, alloc, event)?;
         self.spent = false;
         Ok(())
     }
@@ -84,7 +84,7 @@ impl Core {
     /// Its clause `sound` says what holds of every core, whatever events led to it: no origin was begun twice, one that was begun and isn't
     /// answered is that of one task in one place, answers are evaluations, there are no more runs than segments, and until the root is
     /// answered some event goes on with the work. So who steps a core by `while core.answer().is_none() { core.step(next)?; }` knows each
-    /// of these of the core at every turn, as that steps can't run out before main's answer is there.
+    /// of these of the core after every step, such as that steps can't run out before main's answer is there.
     pub fn answer(&self) -> Option<&Answer>
         ensures none { self.now.spent ≡ false → (IsNone result ↔ (IsRootAnswered self.now → ⊥)) }
         ensures root { self.now.spent ≡ false → IfSome (option_copied result) (λ a. (a.plan ≡ self.now.plan) × (a.origin ≡ main_origin self.now.plan)) }

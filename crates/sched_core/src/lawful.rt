@@ -3,7 +3,7 @@ ghost use Rattle.std.specs.Prelude.{◌≡◌, ◌&&◌, false, is_none, map, sl
 ghost use Rattle.sched_meaning.specs.Simulation.{is_progress, is_free, may_give, may_run};
 ghost use Rattle.sched_meaning.specs.declared.event.CoreEvent.TheVariants as event;
 ghost use Rattle.sched_core.specs.Cores.{core_of, worker_of};
-ghost use Rattle.sched_core.specs.Lawful.{has_waiting, may_happen, may_idle};
+ghost use Rattle.sched_core.specs.Lawful.{has_stalled, may_happen, may_idle};
 
 use crate::state::CoreState;
 use sched_meaning::CoreEvent;
@@ -54,11 +54,11 @@ impl CoreState {
     }
 
     /// Whether a task of the worker waits at this place.
-    fn has_waiting(&self, w: u32, place: u32) -> bool
-        ensures { result ≡ has_waiting place (slice_get (map worker_of self.now.workers.items) w) }
+    fn has_stalled(&self, w: u32, place: u32) -> bool
+        ensures { result ≡ has_stalled place (slice_get (map worker_of self.now.workers.items) w) }
     {
         match self.workers.get(w as usize) {
-            Some(worker) => place < worker.waiting(),
+            Some(worker) => place < worker.stalled_count(),
             None => false,
         }
     }
@@ -68,7 +68,9 @@ impl CoreState {
         ensures { result ≡ may_idle (slice_get (map worker_of self.now.workers.items) w) }
     {
         match self.workers.get(w as usize) {
-            Some(worker) => !worker.is_running() && !worker.may_give() && worker.waiting() == 0,
+            Some(worker) => !worker.is_running()
+                && !worker.may_give()
+                && worker.stalled_count() == 0,
             None => false,
         }
     }
@@ -85,7 +87,7 @@ impl CoreState {
             CoreEvent::Pop(w) => self.may_pop(w),
             CoreEvent::Steal { thief, victim } => self.may_steal(thief, victim),
             CoreEvent::Look { worker, place } => {
-                self.is_free(worker) && self.has_waiting(worker, place)
+                self.is_free(worker) && self.has_stalled(worker, place)
             }
             CoreEvent::Idle(w) => self.may_idle(w),
         }

@@ -10,9 +10,8 @@ use crate::job::Job;
 use crate::node::SpawnNode;
 use crate::state::CoreState;
 use crate::worker::Worker;
-use meet_block::Give;
 use script_grammar::Items;
-use serial_meaning::{AnswerKey, Plan};
+use serial_meaning::Plan;
 use std::alloc::Global;
 use std::sync::Arc;
 use strand_machine::{Memory, Task};
@@ -22,13 +21,7 @@ use strand_machine::{Memory, Task};
 fn main_task(alloc: Global, plan: &Arc<Plan>) -> Result<Task, Memory>
     ensures { IfOk result (λ task. task ≡ fresh (arc_value plan.now) (main_origin (arc_value plan.now))) }
 {
-    let key = AnswerKey {
-        plan: Arc::try_clone(plan)?,
-        origin: plan.main_origin(alloc)?,
-    };
-    let give = Give::alone(&key);
-    let AnswerKey { plan, origin } = key;
-    Ok(Task::start(alloc, plan, origin, give)?)
+    Ok(Task::alone(alloc, plan, plan.main_origin(alloc)?)?)
 }
 
 /// So many workers, of which the first has this task.

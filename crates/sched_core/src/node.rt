@@ -83,7 +83,7 @@ impl SpawnNode {
     }
 
     /// The child at this place has answered.
-    pub fn hear(&mut self, place: usize, answer: Answer)
+    pub fn put_child_answer(&mut self, place: usize, answer: Answer)
         requires place { place < length self.old.children }
         requires unanswered { 0 < self.old.unanswered }
         ensures { Hears place answer self.old self.new }

@@ -10,7 +10,7 @@ ghost use Rattle.sched_core.specs.Consistent.{IsConsistent};
 use crate::choose::pick;
 use crate::new_state::new_state;
 use crate::state::CoreState;
-use crate::steps::go;
+use crate::steps::take_event;
 use rand_core::SeedableRng;
 use rand_core::utils::NextWord;
 use rand_xoshiro::SplitMix64;
@@ -35,7 +35,7 @@ enum Played {
 }
 
 /// The step that a word picks.
-fn go_on(state: CoreState, alloc: Global, word: u64) -> Result<Played, Memory>
+fn play_step(state: CoreState, alloc: Global, word: u64) -> Result<Played, Memory>
     requires consistent { IsConsistent state }
     requires few { length state.workers.items ≤ 64 }
     requires root { state.root ≡ None }
@@ -45,7 +45,7 @@ fn go_on(state: CoreState, alloc: Global, word: u64) -> Result<Played, Memory>
     let Some(event) = pick(&state, alloc, word)? else {
         unreachable!()
     };
-    go(&mut state, alloc, event)?;
+    take_event(&mut state, alloc, event)?;
     let Some(answer) = state.root.take() else {
         return Ok(Played::On(state));
     };
@@ -74,7 +74,7 @@ pub fn simulate(
     let mut words = SplitMix64::seed_from_u64(number);
     loop {
         let word = words.next_word();
-        match go_on(state, alloc, word)? {
+        match play_step(state, alloc, word)? {
             Played::On(next) => state = next,
             Played::Finished(simulated) => return Ok(simulated),
         }

@@ -4,7 +4,7 @@ ghost use Rattle.sched_meaning.specs.declared.event.CoreEvent.TheVariants as eve
 ghost use Rattle.sched_core.specs.Cores.{core_of};
 ghost use Rattle.sched_core.specs.Lawful.{may_happen};
 ghost use Rattle.sched_core.specs.Moves.{CanResume, Resumes};
-ghost use Rattle.sched_core.specs.Consistent.{Goes, IsConsistent};
+ghost use Rattle.sched_core.specs.Consistent.{StepsTo, IsConsistent};
 
 use crate::job::Job;
 use crate::node::SpawnNode;
@@ -19,7 +19,7 @@ fn run(state: &mut CoreState, alloc: Global, w: u32) -> Result<(), Memory>
     requires consistent { IsConsistent state.old }
     requires root { state.old.root ≡ None }
     requires lawful { may_happen (core_of false state.old) (event.Run w) ≡ true }
-    ensures { OnOk result (Goes (event.Run w) state.old state.new) }
+    ensures { OnOk result (StepsTo (event.Run w) state.old state.new) }
 {
     if state.runs == u64::MAX {
         return Err(Memory);
@@ -37,7 +37,7 @@ fn pop(state: &mut CoreState, w: u32)
     requires consistent { IsConsistent state.old }
     requires root { state.old.root ≡ None }
     requires lawful { may_happen (core_of false state.old) (event.Pop w) ≡ true }
-    ensures { Goes (event.Pop w) state.old state.new }
+    ensures { StepsTo (event.Pop w) state.old state.new }
 {
     let job = state.workers[w as usize].take_back();
     state.workers[w as usize].set_current(job);
@@ -48,7 +48,7 @@ fn steal(state: &mut CoreState, thief: u32, victim: u32)
     requires consistent { IsConsistent state.old }
     requires root { state.old.root ≡ None }
     requires lawful { may_happen (core_of false state.old) (event.Steal thief victim) ≡ true }
-    ensures { Goes (event.Steal thief victim) state.old state.new }
+    ensures { StepsTo (event.Steal thief victim) state.old state.new }
 {
     let job = state.workers[victim as usize].take_front();
     state.workers[thief as usize].set_current(job);
@@ -70,7 +70,7 @@ fn look(state: &mut CoreState, alloc: Global, w: u32, place: u32) -> Result<(), 
     requires consistent { IsConsistent state.old }
     requires root { state.old.root ≡ None }
     requires lawful { may_happen (core_of false state.old) (event.Look w place) ≡ true }
-    ensures { OnOk result (Goes (event.Look w place) state.old state.new) }
+    ensures { OnOk result (StepsTo (event.Look w place) state.old state.new) }
 {
     let job = state.workers[w as usize].leave(place);
     if state.nodes[job.number].is_ready() {
@@ -82,11 +82,15 @@ fn look(state: &mut CoreState, alloc: Global, w: u32, place: u32) -> Result<(), 
 }
 
 /// The step of an event that may happen.
-pub(crate) fn go(state: &mut CoreState, alloc: Global, event: CoreEvent) -> Result<(), Memory>
+pub(crate) fn take_event(
+    state: &mut CoreState,
+    alloc: Global,
+    event: CoreEvent,
+) -> Result<(), Memory>
     requires consistent { IsConsistent state.old }
     requires root { state.old.root ≡ None }
     requires lawful { may_happen (core_of false state.old) event ≡ true }
-    ensures { OnOk result (Goes event state.old state.new) }
+    ensures { OnOk result (StepsTo event state.old state.new) }
 {
     match event {
         CoreEvent::Run(w) => run(state, alloc, w),

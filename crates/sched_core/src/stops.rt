@@ -1,6 +1,6 @@
 // What a stop of a task does.
 ghost use Rattle.std.specs.Prelude.{◌≡◌, ◌<◌, Some, None, OnOk, length, slice_get};
-ghost use Rattle.sched_core.specs.Moves.{BeginsTask, CanHear, CanStop, DeliversAnswer, PutsAnswer, StopsAt};
+ghost use Rattle.sched_core.specs.Moves.{BeginsTask, CanAnswer, CanStop, DeliversAnswer, PutsAnswer, StopsAt};
 ghost use Rattle.sched_core.specs.declared.node.SpawnNode.{SpawnNode};
 
 use crate::job::Job;
@@ -11,12 +11,12 @@ use std::alloc::Global;
 use strand_machine::{Memory, Stop, Task, share_origin};
 
 /// The answer goes to the node that the link names, or is main's.
-fn deliver(state: &mut CoreState, link: Option<Link>, answer: Answer)
-    requires { CanHear state.old.nodes.items link }
+fn deliver_answer(state: &mut CoreState, link: Option<Link>, answer: Answer)
+    requires { CanAnswer state.old.nodes.items link }
     ensures { DeliversAnswer link answer state.old state.new }
 {
     match link {
-        Some(link) => state.nodes[link.parent].hear(link.place, answer),
+        Some(link) => state.nodes[link.parent].put_child_answer(link.place, answer),
         None => state.root = Some(answer),
     }
 }
@@ -29,13 +29,13 @@ fn put_answer(
     answer: Answer,
 ) -> Result<(), Memory>
     requires number { number < length state.old.nodes.items }
-    requires hears { (n : SpawnNode) → slice_get state.old.nodes.items number ≡ Some n → CanHear state.old.nodes.items n.link }
+    requires hears { (n : SpawnNode) → slice_get state.old.nodes.items number ≡ Some n → CanAnswer state.old.nodes.items n.link }
     ensures { OnOk result (PutsAnswer number answer state.old state.new) }
 {
     let origin = share_origin(alloc, &answer.origin)?;
     state.given.0.push(origin)?;
     let link = state.nodes[number].link;
-    deliver(state, link, answer);
+    deliver_answer(state, link, answer);
     Ok(())
 }
 

@@ -62,7 +62,7 @@ impl Worker {
     }
 
     /// How many of its tasks wait.
-    pub fn waiting(&self) -> u32
+    pub fn stalled_count(&self) -> u32
         ensures { result ≡ length self.now.stalled }
     {
         self.stalled.len() as u32

@@ -80,13 +80,13 @@ picked c word = picked_of (choices c) word
 -- Runs of a simulation
 
 -- step i, from 1: what word i of the seed picks happens, or nothing where there is no choice
-abbrev pub Goes : ℕ → ℕ → Core → Core → Type 0
-Goes number i c next = MatchOption (picked c (word number i)) (next ≡ c) (λ e. Step e c next)
+abbrev pub PlaysWord : ℕ → ℕ → Core → Core → Type 0
+PlaysWord number i c next = MatchOption (picked c (word number i)) (next ≡ c) (λ e. Step e c next)
 
 -- so many steps lead from a new core to this one
 abbrev pub Simulates : PlanView → ℕ → ℕ → ℕ → Core → Type 0
 Simulates plan workers number zero c = c ≡ new_core plan workers
-Simulates plan workers number (suc n) c = (before : Core) × Simulates plan workers number n before × Goes number (n + 1) before c
+Simulates plan workers number (suc n) c = (before : Core) × Simulates plan workers number n before × PlaysWord number (n + 1) before c
 
 -- the worker whose run answered the root
 pub record IsSimWorker (plan : PlanView) (workers number w : ℕ) : Type 0 where

@@ -48,8 +48,8 @@ read_at (node.Compare a how b) = int_at a.at (two_wanted Int a b)
 read_at (node.Sum first rest) = int_at first.at (all_wanted Int (first ∷ rest))
 read_at (node.Product first rest) = int_at first.at (all_wanted Int (first ∷ rest))
 
-abbrev pub read : Expr → Reading
-read = fold-Expr Reading Reading Reading read_at (λ p. p.operand) (λ p. p.operand)
+abbrev pub reading_of : Expr → Reading
+reading_of = fold-Expr Reading Reading Reading read_at (λ p. p.operand) (λ p. p.operand)
 
 abbrev pub read_sum_part : SumPart → Reading
 read_sum_part = fold-SumPart Reading Reading Reading read_at (λ p. p.operand) (λ p. p.operand)

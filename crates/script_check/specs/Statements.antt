@@ -19,15 +19,15 @@ use Rattle.script_check.specs.Tables.{with_first}
 use Rattle.script_check.specs.Functions.{function_named}
 use Rattle.script_check.specs.Names.{NameSet, union, after_each, after_act}
 use Rattle.script_check.specs.Rules.{Declared, unknown_function, wrong_number_of_arguments, wrong_kind, let_in_a_block, array_length, kind_of_variable, scalar_use, array_use, declaration}
-use Rattle.script_check.specs.Expressions.{Violations, Reading, wanted, two_wanted, read}
+use Rattle.script_check.specs.Expressions.{Violations, Reading, wanted, two_wanted, reading_of}
 
 -- Calls
 
 -- arguments, each of its parameter's kind
 abbrev pub arguments : List Param → List Expr → Violations
 arguments params [] known p = []
-arguments [] (e ∷ es) known p = (read e).violations known p ++ arguments [] es known p
-arguments (q ∷ params) (e ∷ es) known p = wanted q.kind (read e) known p ++ arguments params es known p
+arguments [] (e ∷ es) known p = (reading_of e).violations known p ++ arguments [] es known p
+arguments (q ∷ params) (e ∷ es) known p = wanted q.kind (reading_of e) known p ++ arguments params es known p
 
 abbrev pub call_of : Option Function → CallText → Violations
 call_of None c known p = unknown_function c.name ++ arguments [] c.args known p
@@ -45,14 +45,15 @@ loop_arguments (q ∷ params) c known p =
     wrong_number_of_arguments (nat_eq (length params) (length c.args)) c.name
     ++ wrong_kind Int (Some q.kind) c.name.at ++ arguments params c.args known p
 
-abbrev pub taken_kind : Bool → Kind → Option Kind
-taken_kind true kind = Some kind
-taken_kind false kind = None
+-- the kind of the values that a loop's target receives, and none where it has no target
+abbrev pub received_kind : Bool → Kind → Option Kind
+received_kind true kind = Some kind
+received_kind false kind = None
 
 abbrev pub loop_call_of : Option Function → Bool → CallText → Violations
 loop_call_of None has_target c known p = unknown_function c.name ++ arguments [] c.args known p
 loop_call_of (Some f) has_target c known p =
-    wrong_kind Int (taken_kind has_target f.answer) c.name.at ++ loop_arguments f.params c known p
+    wrong_kind Int (received_kind has_target f.answer) c.name.at ++ loop_arguments f.params c known p
 
 abbrev pub target_use : Option Name → Violations
 target_use None known p = []
@@ -65,7 +66,7 @@ module _ (functions : List Function) where
   call c = call_of (function_named functions c.name.bytes) c
 
   abbrev pub read_right : Right → Reading
-  read_right (right.Value e) = read e
+  read_right (right.Value e) = reading_of e
   read_right (right.Draw at) = record { at = at; kind = λ known. Some Int; violations = λ known p. [] }
   read_right (right.New at) = record { at = at; kind = λ known. Some Id; violations = λ known p. [] }
   read_right (right.Call at c) = record { at = at; kind = λ known. answer_kind_of (function_named functions c.name.bytes); violations = call c }
@@ -76,10 +77,10 @@ abbrev pub wanted_as : Option Kind → Reading → Violations
 wanted_as None r = r.violations
 wanted_as (Some kind) r = wanted kind r
 
--- what stands for the kind where there is none
-abbrev pub kind_or_int : Option Kind → Kind
-kind_or_int None = Int
-kind_or_int (Some kind) = kind
+-- the kind of a variable that a right side declares: Int where it has no kind, since it calls no function that there is
+abbrev pub declared_kind : Option Kind → Kind
+declared_kind None = Int
+declared_kind (Some kind) = kind
 
 -- where statements stand
 pub record Context : Type 0 where
@@ -105,7 +106,7 @@ violations_each (j ∷ js) context known p = j.violations context known p ++ vio
 
 -- what a statement makes known; the first of a name stays
 abbrev pub known_act : {A : Type 0} → Act-F A Judged → List Function → Declared → Declared
-known_act (act.Let x r) functions known = with_first known x.bytes (Scalar (kind_or_int ((read_right functions r).kind known)))
+known_act (act.Let x r) functions known = with_first known x.bytes (Scalar (declared_kind ((read_right functions r).kind known)))
 known_act (act.Array x n) functions known = with_first known x.bytes Array
 known_act (act.Set x r) functions known = known
 known_act (act.Store x i e) functions known = known
@@ -129,18 +130,18 @@ violations_act (act.Let x r) at context known p =
 violations_act (act.Array x n) at context known p = let_in_a_block context.in_block at ++ declaration known x ++ array_length n
 violations_act (act.Set x r) at context known p =
     scalar_use (known.what x.bytes) p x ++ wanted_as (kind_of_variable (known.what x.bytes)) (read_right context.functions r) known p
-violations_act (act.Store x i e) at context known p = array_use (known.what x.bytes) p x ++ two_wanted Int (read i) (read e) known p
+violations_act (act.Store x i e) at context known p = array_use (known.what x.bytes) p x ++ two_wanted Int (reading_of i) (reading_of e) known p
 violations_act (act.Spawn c) at context known p = call context.functions c known p
 violations_act (act.Call c) at context known p = call context.functions c known p
 violations_act act.Sync at context known p = []
-violations_act (act.Print e) at context known p = (read e).violations known p
+violations_act (act.Print e) at context known p = (reading_of e).violations known p
 violations_act (act.If e a b) at context known p =
-    wanted Int (read e) known p ++ block_violations a context known p ++ block_violations b context (known_each a context.functions known) p
+    wanted Int (reading_of e) known p ++ block_violations a context known p ++ block_violations b context (known_each a context.functions known) p
 violations_act (act.While e a) at context known p =
     let q = union p (after_each (λ (j : Judged). j.after) a p) in
-    wanted Int (read e) known q ++ block_violations a context known q
+    wanted Int (reading_of e) known q ++ block_violations a context known q
 violations_act (act.Pfor x lo hi target c) at context known p =
-    two_wanted Int (read lo) (read hi) known p ++ target_use target known p
+    two_wanted Int (reading_of lo) (reading_of hi) known p ++ target_use target known p
     ++ loop_call_of (function_named context.functions c.name.bytes) (is_some target) c known p
 violations_act (act.Scope a) at context known p = block_violations a context known p
 

@@ -12,7 +12,7 @@ use Rattle.script_check.specs.Tables.{no_entries, with_first}
 use Rattle.script_check.specs.Functions.{first_named, function_named, main_name}
 use Rattle.script_check.specs.Names.{no_names}
 use Rattle.script_check.specs.Rules.{Declared, declaration}
-use Rattle.script_check.specs.Expressions.{wanted, read}
+use Rattle.script_check.specs.Expressions.{wanted, reading_of}
 use Rattle.script_check.specs.Statements.{context, judge_all, known_each, violations_each}
 
 abbrev pub known_params : List Param → Declared → Declared
@@ -29,7 +29,7 @@ function_violations functions f =
     let known = known_params f.params no_entries in
     param_violations f.params no_entries
     ++ violations_each (judge_all f.body) (context functions false) known no_names
-    ++ wanted f.answer (read f.result) (known_each (judge_all f.body) functions known) no_names
+    ++ wanted f.answer (reading_of f.result) (known_each (judge_all f.body) functions known) no_names
 
 abbrev pub all_function_violations : List Function → List Function → List Violation
 all_function_violations functions [] = []

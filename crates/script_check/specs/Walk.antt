@@ -70,11 +70,11 @@ known_in symbols = table_of symbols.known.map
 abbrev pub pending_in : SymbolTable → NameSet
 pending_in symbols = names_of (table_of symbols.pending.map)
 
-abbrev pub state_of : SymbolTable → WalkState
-state_of symbols =
+abbrev pub walk_state : SymbolTable → WalkState
+walk_state symbols =
     record { known = known_in symbols; names = pending_in symbols; keeps = symbols.block.keeps; before = undone symbols.block.changes.items (pending_in symbols) }
 
--- whether what is pending in front may still be pending after
+-- whether what is pending before may still be pending after
 abbrev pub keeps_each : List Bool → Bool
 keeps_each [] = true
 keeps_each (b ∷ bs) = b && keeps_each bs

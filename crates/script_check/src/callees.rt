@@ -8,7 +8,7 @@ ghost use Rattle.script_check.specs.Walk.{IsIndex};
 use crate::memory::Memory;
 use crate::named::add_name;
 use crate::names::NameTable;
-use crate::places::put;
+use crate::places::set_place;
 use script_grammar::{Act, Function, Items, Name, Right, Stmt};
 use std::alloc::Global;
 
@@ -41,7 +41,7 @@ fn put_each(
 {
     for name in called {
         let number = first.get(name.bytes.as_slice()).unwrap_or(0);
-        put(table, name.at as usize, number as u16)?;
+        set_place(table, name.at as usize, number as u16)?;
     }
     Ok(())
 }

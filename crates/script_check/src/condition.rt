@@ -1,7 +1,7 @@
 // The conditions of a valid script, their numbers, and what they are called.
 
 ghost use Rattle.std.specs.Prelude.{◌≡◌};
-ghost use Rattle.script_check.specs.Conditions.{condition_of, condition_text, number_of, text_of};
+ghost use Rattle.script_check.specs.Conditions.{condition_of, condition_text, number_of, condition_name};
 
 /// The conditions of a valid script, by what violates them. `CheckError` says where each stands.
 #[derive(Clone, Copy)]
@@ -62,7 +62,7 @@ impl Condition {
     }
 
     fn text(self) -> &'static str
-        ensures { result.now ≡ text_of self }
+        ensures { result.now ≡ condition_name self }
     {
         match self {
             Condition::NoMain => "no main",

@@ -3,7 +3,7 @@
 ghost use Rattle.std.specs.Prelude.{◌≡◌, ◌∷◌, ◌++◌, map, Some, None};
 ghost use Rattle.script_check.specs.Violations.{earliest};
 ghost use Rattle.script_check.specs.Rules.{scalar_use, array_use, kind_of_variable, is_other_kind, wrong_kind};
-ghost use Rattle.script_check.specs.Expressions.{read, read_sum_part, read_product_part, wanted, all_wanted};
+ghost use Rattle.script_check.specs.Expressions.{reading_of, read_sum_part, read_product_part, wanted, all_wanted};
 ghost use Rattle.script_check.specs.Walk.{known_in, pending_in};
 ghost use Rattle.script_grammar.specs.declared.tree.Kind.TheVariants as kind;
 
@@ -98,9 +98,9 @@ pub(crate) fn use_array(symbols: &SymbolTable, found: &mut Findings, x: &Name)
 #[cycle(expressions)]
 #[tactic(auto, using(crate::proofs::LeastViolation::Earliest::earliest_append))]
 pub(crate) fn see(symbols: &SymbolTable, found: &mut Findings, e: &Expr) -> Seen
-    ensures at { result.at ≡ (read e.now).at }
-    ensures kind { result.kind ≡ (read e.now).kind (known_in symbols.now) }
-    ensures found { found.new ≡ earliest found.old ((read e.now).violations (known_in symbols.now) (pending_in symbols.now)) }
+    ensures at { result.at ≡ (reading_of e.now).at }
+    ensures kind { result.kind ≡ (reading_of e.now).kind (known_in symbols.now) }
+    ensures found { found.new ≡ earliest found.old ((reading_of e.now).violations (known_in symbols.now) (pending_in symbols.now)) }
 {
     match e {
         Expr::Number(n) => Seen::int(n.at),
@@ -143,7 +143,7 @@ fn see_item(symbols: &SymbolTable, found: &mut Findings, x: &Name, i: &Expr) -> 
     ensures at { result.at ≡ x.now.at }
     ensures kind { result.kind ≡ Some kind.Int }
     ensures found { found.new ≡ earliest found.old (array_use ((known_in symbols.now).what x.now.bytes) (pending_in symbols.now) x.now
-        ++ wanted kind.Int (read i.now) (known_in symbols.now) (pending_in symbols.now)) }
+        ++ wanted kind.Int (reading_of i.now) (known_in symbols.now) (pending_in symbols.now)) }
 {
     use_array(symbols, found, x);
     want(symbols, found, Kind::Int, i);
@@ -154,8 +154,8 @@ fn see_item(symbols: &SymbolTable, found: &mut Findings, x: &Name, i: &Expr) -> 
 #[cycle(expressions)]
 #[tactic(auto, using(crate::proofs::LeastViolation::Earliest::earliest_append), unfolding(crate::specs::Expressions::wanted))]
 pub(crate) fn want(symbols: &SymbolTable, found: &mut Findings, kind: Kind, e: &Expr) -> u32
-    ensures at { result ≡ (read e.now).at }
-    ensures found { found.new ≡ earliest found.old (wanted kind (read e.now) (known_in symbols.now) (pending_in symbols.now)) }
+    ensures at { result ≡ (reading_of e.now).at }
+    ensures found { found.new ≡ earliest found.old (wanted kind (reading_of e.now) (known_in symbols.now) (pending_in symbols.now)) }
 {
     let seen = see(symbols, found, e);
     seen.want(found, kind);

@@ -4,7 +4,7 @@ ghost use Rattle.std.specs.Prelude.{◌≡◌, OnOk};
 ghost use Rattle.script_check.specs.Violations.{earliest};
 ghost use Rattle.script_check.specs.Functions.{function_named, main_name};
 ghost use Rattle.script_check.specs.Valid.{function_violations, known_params, main_violations, param_violations};
-ghost use Rattle.script_check.specs.Walk.{known_in, state_of};
+ghost use Rattle.script_check.specs.Walk.{known_in, walk_state};
 
 use crate::condition::Condition;
 use crate::expression::want;
@@ -38,7 +38,7 @@ fn declare_params(
     found: &mut Findings,
     params: &[Param],
 ) -> Result<(), Memory>
-    ensures state { OnOk result (state_of symbols.new ≡ record (state_of symbols.old) { known = known_params params.now (known_in symbols.old) }) }
+    ensures state { OnOk result (walk_state symbols.new ≡ record (walk_state symbols.old) { known = known_params params.now (known_in symbols.old) }) }
     ensures found { OnOk result (found.new ≡ earliest found.old (param_violations params.now (known_in symbols.old))) }
 {
     for param in params {

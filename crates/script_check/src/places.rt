@@ -52,13 +52,13 @@ fn put_each(table: &mut Vec<u16>, variables: &Variables, named: &[Name]) -> Resu
 {
     for name in named {
         let place = variables.place(&name.bytes).unwrap_or(0);
-        put(table, name.at as usize, place)?;
+        set_place(table, name.at as usize, place)?;
     }
     Ok(())
 }
 
 /// A place after the table's end, with zeros before it up to there.
-pub(crate) fn put(table: &mut Vec<u16>, at: usize, place: u16) -> Result<(), Memory>
+pub(crate) fn set_place(table: &mut Vec<u16>, at: usize, place: u16) -> Result<(), Memory>
     ensures { OnOk result (table.new.items ≡ with_place table.old.items at place) }
 {
     while table.len() < at {

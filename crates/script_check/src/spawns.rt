@@ -3,7 +3,7 @@
 ghost use Rattle.std.specs.Prelude.{◌≡◌, IfOk, OnOk};
 ghost use Rattle.script_check.specs.Names.{no_names, union};
 ghost use Rattle.script_check.specs.Statements.{after, judge};
-ghost use Rattle.script_check.specs.Walk.{state_of, keeps, keeps_all};
+ghost use Rattle.script_check.specs.Walk.{walk_state, keeps, keeps_all};
 
 use crate::memory::Memory;
 use crate::symbols::SymbolTable;
@@ -20,7 +20,7 @@ pub(crate) fn collect(
     statements: &[Stmt],
 ) -> Result<bool, Memory>
     ensures keeps { IfOk result (λ b. b ≡ keeps_all statements.now) }
-    ensures state { OnOk result (state_of symbols.new ≡ record (state_of symbols.old) { names = union (after statements.now no_names) (state_of symbols.old).names }) }
+    ensures state { OnOk result (walk_state symbols.new ≡ record (walk_state symbols.old) { names = union (after statements.now no_names) (walk_state symbols.old).names }) }
 {
     let mut i = statements.len();
     while i > 0 {
@@ -36,7 +36,7 @@ pub(crate) fn collect(
 #[cycle(spawns)]
 fn collect_one(alloc: Global, symbols: &mut SymbolTable, statement: &Stmt) -> Result<bool, Memory>
     ensures keeps { IfOk result (λ b. b ≡ keeps statement.now) }
-    ensures state { OnOk result (state_of symbols.new ≡ record (state_of symbols.old) { names = union ((judge statement.now).after no_names) (state_of symbols.old).names }) }
+    ensures state { OnOk result (walk_state symbols.new ≡ record (walk_state symbols.old) { names = union ((judge statement.now).after no_names) (walk_state symbols.old).names }) }
 {
     match &statement.act {
         Act::Let(x, Right::Spawn(_, _)) => {

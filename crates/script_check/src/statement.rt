@@ -10,9 +10,9 @@ ghost use Rattle.script_check.specs.Tables.{with_first};
 ghost use Rattle.script_check.specs.Functions.{function_named};
 ghost use Rattle.script_check.specs.Names.{union, after_right};
 ghost use Rattle.script_check.specs.Rules.{declaration, array_length, scalar_use, array_use, kind_of_variable};
-ghost use Rattle.script_check.specs.Expressions.{read, wanted, two_wanted};
-ghost use Rattle.script_check.specs.Statements.{context, judge, judge_all, read_right, wanted_as, kind_or_int, known_each, violations_each, after, target_use, loop_call_of};
-ghost use Rattle.script_check.specs.Walk.{HasBlocks, state_after, state_after_all, keeps, keeps_all, known_in, pending_in, state_of};
+ghost use Rattle.script_check.specs.Expressions.{reading_of, wanted, two_wanted};
+ghost use Rattle.script_check.specs.Statements.{context, judge, judge_all, read_right, wanted_as, declared_kind, known_each, violations_each, after, target_use, loop_call_of};
+ghost use Rattle.script_check.specs.Walk.{HasBlocks, state_after, state_after_all, keeps, keeps_all, known_in, pending_in, walk_state};
 
 use crate::call::{judge_call, judge_loop_call, judge_target};
 use crate::condition::Condition;
@@ -64,20 +64,20 @@ fn judge_let(
     x: &Name,
     right: &Right,
 ) -> Result<(), Memory>
-    ensures state { OnOk result (state_of symbols.new ≡ record (state_of symbols.old) {
-      known = with_first (known_in symbols.old) x.now.bytes (Scalar (kind_or_int ((read_right functions.now right.now).kind (known_in symbols.old))));
-      names = after_right x.now right.now (state_of symbols.old).names;
+    ensures state { OnOk result (walk_state symbols.new ≡ record (walk_state symbols.old) {
+      known = with_first (known_in symbols.old) x.now.bytes (Scalar (declared_kind ((read_right functions.now right.now).kind (known_in symbols.old))));
+      names = after_right x.now right.now (walk_state symbols.old).names;
     }) }
     ensures found { OnOk result (found.new ≡ earliest found.old ((read_right functions.now right.now).violations (known_in symbols.old) (pending_in symbols.old) ++ declaration (known_in symbols.old) x.now)) }
 {
     let seen = see_right(functions, symbols, found, right);
-    symbols.declare(alloc, found, x, Variable::Scalar(kind_or_int(seen.kind)))?;
+    symbols.declare(alloc, found, x, Variable::Scalar(declared_kind(seen.kind)))?;
     spawn_into(alloc, symbols, x, right)
 }
 
-/// What stands for the kind where there is none.
-fn kind_or_int(kind: Option<Kind>) -> Kind
-    ensures { result ≡ kind_or_int kind }
+/// The kind of a variable that a right side of this kind declares. One of no kind calls no function that there is.
+fn declared_kind(kind: Option<Kind>) -> Kind
+    ensures { result ≡ declared_kind kind }
 {
     kind.unwrap_or(Kind::Int)
 }
@@ -91,7 +91,7 @@ fn judge_array(
     x: &Name,
     n: &Number,
 ) -> Result<(), Memory>
-    ensures state { OnOk result (state_of symbols.new ≡ record (state_of symbols.old) { known = with_first (known_in symbols.old) x.now.bytes Array }) }
+    ensures state { OnOk result (walk_state symbols.new ≡ record (walk_state symbols.old) { known = with_first (known_in symbols.old) x.now.bytes Array }) }
     ensures found { OnOk result (found.new ≡ earliest found.old (declaration (known_in symbols.old) x.now ++ array_length n.now)) }
 {
     symbols.declare(alloc, found, x, Variable::Array)?;
@@ -108,7 +108,7 @@ fn judge_set(
     x: &Name,
     right: &Right,
 ) -> Result<(), Memory>
-    ensures state { OnOk result (state_of symbols.new ≡ record (state_of symbols.old) { names = after_right x.now right.now (state_of symbols.old).names }) }
+    ensures state { OnOk result (walk_state symbols.new ≡ record (walk_state symbols.old) { names = after_right x.now right.now (walk_state symbols.old).names }) }
     ensures found { OnOk result (found.new ≡ earliest found.old (scalar_use ((known_in symbols.old).what x.now.bytes) (pending_in symbols.old) x.now
         ++ wanted_as (kind_of_variable ((known_in symbols.old).what x.now.bytes)) (read_right functions.now right.now) (known_in symbols.old) (pending_in symbols.old))) }
 {
@@ -141,7 +141,7 @@ fn spawn_into(
     x: &Name,
     right: &Right,
 ) -> Result<(), Memory>
-    ensures { OnOk result (state_of symbols.new ≡ record (state_of symbols.old) { names = after_right x.now right.now (state_of symbols.old).names }) }
+    ensures { OnOk result (walk_state symbols.new ≡ record (walk_state symbols.old) { names = after_right x.now right.now (walk_state symbols.old).names }) }
 {
     match right {
         Right::Spawn(_, _) => symbols.add_pending(alloc, x),
@@ -153,7 +153,7 @@ fn spawn_into(
 #[tactic(auto, using(crate::proofs::LeastViolation::Earliest::earliest_append))]
 fn judge_store(symbols: &SymbolTable, found: &mut Findings, x: &Name, i: &Expr, e: &Expr)
     ensures { found.new ≡ earliest found.old (array_use ((known_in symbols.now).what x.now.bytes) (pending_in symbols.now) x.now
-        ++ two_wanted kind.Int (read i.now) (read e.now) (known_in symbols.now) (pending_in symbols.now)) }
+        ++ two_wanted kind.Int (reading_of i.now) (reading_of e.now) (known_in symbols.now) (pending_in symbols.now)) }
 {
     use_array(symbols, found, x);
     want_two(symbols, found, i, e);
@@ -170,7 +170,7 @@ fn judge_loop(
     target: &Option<Name>,
     call: &CallText,
 )
-    ensures { found.new ≡ earliest found.old (two_wanted kind.Int (read lo.now) (read hi.now) (known_in symbols.now) (pending_in symbols.now)
+    ensures { found.new ≡ earliest found.old (two_wanted kind.Int (reading_of lo.now) (reading_of hi.now) (known_in symbols.now) (pending_in symbols.now)
         ++ target_use target.now (known_in symbols.now) (pending_in symbols.now)
         ++ loop_call_of (function_named functions.now call.now.name.bytes) (is_some target.now) call.now (known_in symbols.now) (pending_in symbols.now)) }
 {
@@ -182,7 +182,7 @@ fn judge_loop(
 /// Two expressions that have to be numbers.
 #[tactic(auto, using(crate::proofs::LeastViolation::Earliest::earliest_append), unfolding(crate::specs::Expressions::two_wanted))]
 fn want_two(symbols: &SymbolTable, found: &mut Findings, a: &Expr, b: &Expr)
-    ensures { found.new ≡ earliest found.old (two_wanted kind.Int (read a.now) (read b.now) (known_in symbols.now) (pending_in symbols.now)) }
+    ensures { found.new ≡ earliest found.old (two_wanted kind.Int (reading_of a.now) (reading_of b.now) (known_in symbols.now) (pending_in symbols.now)) }
 {
     want(symbols, found, Kind::Int, a);
     want(symbols, found, Kind::Int, b);
@@ -197,9 +197,9 @@ fn end_if(
     b: &[Stmt],
 ) -> Result<(), Memory>
     requires { keeps ≡ (keeps_all a.now || keeps_all b.now) }
-    ensures { OnOk result (state_of symbols.new ≡ record (state_of symbols.old) {
-      names = union (after a.now (state_of symbols.old).names) (after b.now (state_of symbols.old).names);
-      keeps = keeps && (state_of symbols.old).keeps;
+    ensures { OnOk result (walk_state symbols.new ≡ record (walk_state symbols.old) {
+      names = union (after a.now (walk_state symbols.old).names) (after b.now (walk_state symbols.old).names);
+      keeps = keeps && (walk_state symbols.old).keeps;
     }) }
 {
     symbols.keep_if(alloc, keeps)?;
@@ -210,7 +210,7 @@ fn end_if(
 
 /// The beginning of a `while`: its condition and its body are judged with all that an earlier iteration may have left pending.
 fn begin_while(alloc: Global, symbols: &mut SymbolTable, body: &[Stmt]) -> Result<(), Memory>
-    ensures { OnOk result (state_of symbols.new ≡ record (state_of symbols.old) { names = union (state_of symbols.old).names (after body.now (state_of symbols.old).names) }) }
+    ensures { OnOk result (walk_state symbols.new ≡ record (walk_state symbols.old) { names = union (walk_state symbols.old).names (after body.now (walk_state symbols.old).names) }) }
 {
     collect(alloc, symbols, body)?;
     Ok(())
@@ -226,7 +226,7 @@ pub(crate) fn judge_each(
     in_block: bool,
     statements: &[Stmt],
 ) -> Result<(), Memory>
-    ensures state { OnOk result (state_of symbols.new ≡ state_after_all functions.now statements.now (state_of symbols.old)) }
+    ensures state { OnOk result (walk_state symbols.new ≡ state_after_all functions.now statements.now (walk_state symbols.old)) }
     ensures found { OnOk result (found.new ≡ earliest found.old (violations_each (judge_all statements.now) (context functions.now in_block) (known_in symbols.old) (pending_in symbols.old))) }
 {
     for statement in statements {
@@ -245,7 +245,7 @@ fn judge_block(
     statements: &[Stmt],
 ) -> Result<bool, Memory>
     ensures keeps { IfOk result (λ b. b ≡ keeps_all statements.now) }
-    ensures state { OnOk result (state_of symbols.new ≡ record (state_of symbols.old) { known = known_each (judge_all statements.now) functions.now (known_in symbols.old) }) }
+    ensures state { OnOk result (walk_state symbols.new ≡ record (walk_state symbols.old) { known = known_each (judge_all statements.now) functions.now (known_in symbols.old) }) }
     ensures found { OnOk result (found.new ≡ earliest found.old (violations_each (judge_all statements.now) (context functions.now true) (known_in symbols.old) (pending_in symbols.old))) }
 {
     let outer = symbols.enter(alloc);
@@ -264,7 +264,7 @@ fn judge(
     in_block: bool,
     statement: &Stmt,
 ) -> Result<(), Memory>
-    ensures state { OnOk result (state_of symbols.new ≡ state_after functions.now statement.now (state_of symbols.old)) }
+    ensures state { OnOk result (walk_state symbols.new ≡ state_after functions.now statement.now (walk_state symbols.old)) }
     ensures found { OnOk result (found.new ≡ earliest found.old ((judge statement.now).violations (context functions.now in_block) (known_in symbols.old) (pending_in symbols.old))) }
 {
     match &statement.act {
@@ -309,7 +309,7 @@ fn judge_nested(
     statement: &Stmt,
 ) -> Result<(), Memory>
     requires { HasBlocks (out-Act (out-Stmt statement.now).act) }
-    ensures state { OnOk result (state_of symbols.new ≡ state_after functions.now statement.now (state_of symbols.old)) }
+    ensures state { OnOk result (walk_state symbols.new ≡ state_after functions.now statement.now (walk_state symbols.old)) }
     ensures found { (in_block : Bool) → OnOk result (found.new ≡ earliest found.old ((judge statement.now).violations (context functions.now in_block) (known_in symbols.old) (pending_in symbols.old))) }
 {
     match &statement.act {

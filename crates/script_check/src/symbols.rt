@@ -5,7 +5,7 @@ ghost use Rattle.script_check.specs.Names.{no_names, names_if, with_name};
 ghost use Rattle.script_check.specs.Tables.{no_entries, with_first};
 ghost use Rattle.script_check.specs.Rules.{declaration};
 ghost use Rattle.script_check.specs.Violations.{earliest};
-ghost use Rattle.script_check.specs.Walk.{undo, undone, state_of, known_in, pending_in};
+ghost use Rattle.script_check.specs.Walk.{undo, undone, walk_state, known_in, pending_in};
 
 use crate::condition::Condition;
 use crate::findings::Findings;
@@ -81,7 +81,7 @@ impl SymbolTable {
         name: &Name,
         variable: Variable,
     ) -> Result<(), Memory>
-        ensures state { OnOk result (state_of self.new ≡ record (state_of self.old) { known = with_first (known_in self.old) name.now.bytes variable }) }
+        ensures state { OnOk result (walk_state self.new ≡ record (walk_state self.old) { known = with_first (known_in self.old) name.now.bytes variable }) }
         ensures found { OnOk result (found.new ≡ earliest found.old (declaration (known_in self.old) name.now)) }
     {
         let bytes = name.bytes.as_slice();
@@ -97,7 +97,7 @@ impl SymbolTable {
 
     /// A spawn with this target.
     pub(crate) fn add_pending(&mut self, alloc: Global, name: &Name) -> Result<(), Memory>
-        ensures { OnOk result (state_of self.new ≡ record (state_of self.old) { names = with_name name.now.bytes (state_of self.old).names }) }
+        ensures { OnOk result (walk_state self.new ≡ record (walk_state self.old) { names = with_name name.now.bytes (walk_state self.old).names }) }
     {
         let bytes = name.bytes.as_slice();
         if self.pending.get(bytes).is_none() {
@@ -110,7 +110,7 @@ impl SymbolTable {
 
     /// Nothing is pending any more.
     pub(crate) fn sync(&mut self, alloc: Global) -> Result<(), Memory>
-        ensures { OnOk result (state_of self.new ≡ record (state_of self.old) { names = no_names; keeps = false }) }
+        ensures { OnOk result (walk_state self.new ≡ record (walk_state self.old) { names = no_names; keeps = false }) }
     {
         let pending = mem::replace(&mut self.pending, NameTable::new(alloc));
         self.block.changes.push(Change::Cleared(pending))?;
@@ -120,7 +120,7 @@ impl SymbolTable {
 
     /// The end of an `if`: what was pending before it stays so if one of the blocks keeps it.
     pub(crate) fn keep_if(&mut self, alloc: Global, keeps: bool) -> Result<(), Memory>
-        ensures { OnOk result (state_of self.new ≡ record (state_of self.old) { names = names_if keeps (state_of self.old).names; keeps = keeps && (state_of self.old).keeps }) }
+        ensures { OnOk result (walk_state self.new ≡ record (walk_state self.old) { names = names_if keeps (walk_state self.old).names; keeps = keeps && (walk_state self.old).keeps }) }
     {
         if !keeps {
             self.sync(alloc)?;
@@ -131,7 +131,7 @@ impl SymbolTable {
     /// Begins a block. The answer is the block around it, which `leave` wants back.
     pub(crate) fn enter(&mut self, alloc: Global) -> Block
         ensures outer { result ≡ self.old.block }
-        ensures state { state_of self.new ≡ record (state_of self.old) { keeps = true; before = pending_in self.old } }
+        ensures state { walk_state self.new ≡ record (walk_state self.old) { keeps = true; before = pending_in self.old } }
     {
         let inner = Block {
             changes: Vec::new(alloc),
@@ -143,10 +143,10 @@ impl SymbolTable {
     /// Ends a block: what was pending where it began is so again. The answer tells whether it may still be so after the block.
     pub(crate) fn leave(&mut self, outer: Block) -> bool
         ensures keeps { result ≡ self.old.block.keeps }
-        ensures state { state_of self.new ≡ record (state_of self.old) {
-          names = (state_of self.old).before;
+        ensures state { walk_state self.new ≡ record (walk_state self.old) {
+          names = (walk_state self.old).before;
           keeps = outer.keeps;
-          before = undone outer.changes.items (state_of self.old).before;
+          before = undone outer.changes.items (walk_state self.old).before;
         } }
     {
         while let Some(change) = self.block.changes.pop() {

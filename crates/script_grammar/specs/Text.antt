@@ -7,14 +7,14 @@ use Rattle.script_tokens.specs.declared.lexing.LexEnd.TheVariants.{End}
 use Rattle.script_tokens.specs.Version.{version_of}
 use Rattle.script_tokens.specs.Lexing.{IsLexed, text_of}
 use Rattle.script_grammar.specs.declared.tree.Script.{Script}
-use Rattle.script_grammar.specs.Grammar.{Token, tok}
+use Rattle.script_grammar.specs.Grammar.{Terminal, tok}
 use Rattle.script_grammar.specs.Fault.{FaultAfter, IsProgram}
 
 -- a lexeme with its bytes
-abbrev pub token_of : List ℕ → Lexeme → Token
+abbrev pub token_of : List ℕ → Lexeme → Terminal
 token_of bytes l = tok l.start l.word (text_of bytes l)
 
-abbrev pub tokens_of : List ℕ → List Lexeme → List Token
+abbrev pub tokens_of : List ℕ → List Lexeme → List Terminal
 tokens_of bytes ls = map (token_of bytes) ls
 
 -- The bytes are the text of this script: they are of its version, what stands after the version's line is cut into tokens up to the end, and

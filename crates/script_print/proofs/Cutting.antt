@@ -10,21 +10,21 @@ use Rattle.script_tokens.specs.declared.lexing.LexEnd.TheVariants.{End}
 use Rattle.script_tokens.specs.Word.{word_of}
 use Rattle.script_tokens.specs.Lexing.{is_blank, IsLongest, LexemeAt, the_end, Lexes, stops, lexeme, text_of}
 use Rattle.script_tokens.proofs.Building.{one_more_byte, lexes_token, lexes_blank}
-use Rattle.script_grammar.specs.Grammar.{Token, tok, decimal}
+use Rattle.script_grammar.specs.Grammar.{Terminal, tok, decimal}
 use Rattle.script_grammar.specs.Text.{tokens_of}
 use Rattle.script_tokens.specs.declared.version.Version.{Version}
 
 -- within the limits on numbers and names
-pub record IsModest (t : Token) : Type 0 where
+pub record IsModest (t : Terminal) : Type 0 where
   pub number : t.word ≡ Number → decimal 0 t.text ≤ 9223372036854775807
   pub name : t.word ≡ Name → length t.text ≤ 32
 
-abbrev pub Modest : List Token → Type 0
+abbrev pub Modest : List Terminal → Type 0
 Modest [] = Unit {0}
 Modest (t ∷ ts) = IsModest t × Modest ts
 
 -- From the offset `at` on a text goes on with these bytes, and they are cut into these tokens up to its end.
-pub record Spells (version : Version) (at : ℕ) (bytes : List ℕ) (ts : List Token) : Type 0 where
+pub record Spells (version : Version) (at : ℕ) (bytes : List ℕ) (ts : List Terminal) : Type 0 where
   pub lexemes : List Lexeme
   pub cut : Lexes version at bytes lexemes End
   pub texts : (front : List ℕ) → length front ≡ at → tokens_of (front ++ bytes) lexemes ≡ ts
@@ -55,7 +55,7 @@ text_there front text rest at w e =
     ap (λ n. take n (drop at (front ++ (text ++ rest)))) size ∙ ap (take (length text)) (drop_front front (text ++ rest) at e) ∙ take_front text rest
 
 -- a token in front
-pub spells_token : {version : Version} (at : ℕ) (w : Word) (text rest : List ℕ) (ts : List Token) → IsLongest version (text ++ rest) (length text) w → IsModest (tok at w text) →
+pub spells_token : {version : Version} (at : ℕ) (w : Word) (text rest : List ℕ) (ts : List Terminal) → IsLongest version (text ++ rest) (length text) w → IsModest (tok at w text) →
     Spells version (at + length text) rest ts → Spells version at (text ++ rest) (tok at w text ∷ ts)
 spells_token {version = version} at w text rest ts longest m s = record {
   lexemes = lexeme w at (at + length text) ∷ s.lexemes;
@@ -68,7 +68,7 @@ spells_token {version = version} at w text rest ts longest m s = record {
 }
 
 -- a blank in front
-pub spells_blank : {version : Version} (at b : ℕ) (rest : List ℕ) (ts : List Token) → is_blank b ≡ true → Spells version (suc at) rest ts → Spells version at (b ∷ rest) ts
+pub spells_blank : {version : Version} (at b : ℕ) (rest : List ℕ) (ts : List Terminal) → is_blank b ≡ true → Spells version (suc at) rest ts → Spells version at (b ∷ rest) ts
 spells_blank {version = version} at b rest ts h s = record {
   lexemes = s.lexemes;
   cut = lexes_blank version h s.cut;

@@ -16,7 +16,7 @@ use Rattle.script_grammar.specs.declared.tree.ProductSign.{ProductSign}
 use Rattle.script_grammar.specs.declared.tree.ProductSign.TheVariants.{Times, Over, Modulo}
 use Rattle.script_grammar.specs.declared.tree.Comparison.{Comparison}
 use Rattle.script_grammar.specs.declared.tree.Comparison.TheVariants.{Eq, Ne, Lt, Le, Gt, Ge}
-use Rattle.script_grammar.specs.Grammar.{Token, tok, name_at, number_at, decimal, sum_of, product_of, IsSumSign, a_plus, a_minus, IsProductSign, a_times, an_over, a_modulo, IsComparison, an_eq, a_ne, a_lt, a_le, a_gt, a_ge, IsFactor, a_neg, a_number, a_name, an_item, a_group, a_same, an_older, IsTerm, factors, IsFactors, no_factors, one_factor, IsSum, terms, IsTerms, no_terms, one_term, IsExpr, alone, compared}
+use Rattle.script_grammar.specs.Grammar.{Terminal, tok, name_at, number_at, decimal, sum_of, product_of, IsSumSign, a_plus, a_minus, IsProductSign, a_times, an_over, a_modulo, IsComparison, an_eq, a_ne, a_lt, a_le, a_gt, a_ge, IsFactor, a_neg, a_number, a_name, an_item, a_group, a_same, an_older, IsTerm, factors, IsFactors, no_factors, one_factor, IsSum, terms, IsTerms, no_terms, one_term, IsExpr, alone, compared}
 use Rattle.script_grammar.specs.Nesting.{factor_nesting, term_nesting, factors_nesting, sum_nesting, terms_nesting, expr_nesting}
 use Rattle.script_print.specs.Canonical.{Printed, at_precedence, operand, comparison_text, sum_sign_text, product_sign_text, spaced, printed, product_part_text, sum_part_text, expr_text}
 use Rattle.script_print.specs.Unplaced.{unplaced_name, unplaced_number, unplaced_expr, unplaced_product_part, unplaced_sum_part}
@@ -46,74 +46,74 @@ low_back [] ys l = l
 low_back (x ∷ xs) ys l = low_back xs ys l.1
 
 -- a token that was cut from a text, within the limits
-pub record IsSound (version : Version) (t : Token) : Type 0 where
+pub record IsSound (version : Version) (t : Terminal) : Type 0 where
   pub word_is : word_of version t.text ≡ Some t.word
   pub modest : IsModest t
 
-abbrev pub Sound : Version → List Token → Type 0
+abbrev pub Sound : Version → List Terminal → Type 0
 Sound version [] = Unit {0}
 Sound version (t ∷ ts) = IsSound version t × Sound version ts
 
-pub sound_after : (version : Version) {ts rest : List Token} → Eats ts rest → Sound version ts → Sound version rest
+pub sound_after : (version : Version) {ts rest : List Terminal} → Eats ts rest → Sound version ts → Sound version rest
 sound_after version eaten s = s
 sound_after version (one h e) s = sound_after version e s.1
 
 -- The tokens derive a tree that is x apart from offsets, and with up to n open round them their nestings are within the limit.
-pub record ExprOf (x : Expr) (n : ℕ) (us ts : List Token) : Type 0 where
+pub record ExprOf (x : Expr) (n : ℕ) (us ts : List Terminal) : Type 0 where
   pub tree : Expr
   pub derived : IsExpr us tree ts
   pub same : unplaced_expr tree ≡ unplaced_expr x
   pub low : (k : ℕ) → k ≤ n → Low (expr_nesting derived k)
 
-pub record SumOf (x : Expr) (n : ℕ) (us ts : List Token) : Type 0 where
+pub record SumOf (x : Expr) (n : ℕ) (us ts : List Terminal) : Type 0 where
   pub tree : Expr
   pub derived : IsSum us tree ts
   pub same : unplaced_expr tree ≡ unplaced_expr x
   pub low : (k : ℕ) → k ≤ n → Low (sum_nesting derived k)
 
-pub record TermOf (x : Expr) (n : ℕ) (us ts : List Token) : Type 0 where
+pub record TermOf (x : Expr) (n : ℕ) (us ts : List Terminal) : Type 0 where
   pub tree : Expr
   pub derived : IsTerm us tree ts
   pub same : unplaced_expr tree ≡ unplaced_expr x
   pub low : (k : ℕ) → k ≤ n → Low (term_nesting derived k)
 
-pub record FactorOf (x : Expr) (n : ℕ) (us ts : List Token) : Type 0 where
+pub record FactorOf (x : Expr) (n : ℕ) (us ts : List Terminal) : Type 0 where
   pub tree : Expr
   pub derived : IsFactor us tree ts
   pub same : unplaced_expr tree ≡ unplaced_expr x
   pub low : (k : ℕ) → k ≤ n → Low (factor_nesting derived k)
 
-pub record TermsOf (xs : List SumPart) (n : ℕ) (us ts : List Token) : Type 0 where
+pub record TermsOf (xs : List SumPart) (n : ℕ) (us ts : List Terminal) : Type 0 where
   pub tree : List SumPart
   pub derived : IsTerms us tree ts
   pub same : map unplaced_sum_part tree ≡ map unplaced_sum_part xs
   pub low : (k : ℕ) → k ≤ n → Low (terms_nesting derived k)
 
-pub record FactorsOf (xs : List ProductPart) (n : ℕ) (us ts : List Token) : Type 0 where
+pub record FactorsOf (xs : List ProductPart) (n : ℕ) (us ts : List Terminal) : Type 0 where
   pub tree : List ProductPart
   pub derived : IsFactors us tree ts
   pub same : map unplaced_product_part tree ≡ map unplaced_product_part xs
   pub low : (k : ℕ) → k ≤ n → Low (factors_nesting derived k)
 
-as_term : (x : Expr) (n : ℕ) (us ts : List Token) → FactorOf x n us ts → TermOf x n us ts
+as_term : (x : Expr) (n : ℕ) (us ts : List Terminal) → FactorOf x n us ts → TermOf x n us ts
 as_term x n us ts d = record { tree = d.tree; derived = factors d.derived no_factors; same = d.same; low = λ k h. low_append (factor_nesting d.derived k) [] (d.low k h) tt }
 
-as_sum : (x : Expr) (n : ℕ) (us ts : List Token) → TermOf x n us ts → SumOf x n us ts
+as_sum : (x : Expr) (n : ℕ) (us ts : List Terminal) → TermOf x n us ts → SumOf x n us ts
 as_sum x n us ts d = record { tree = d.tree; derived = terms d.derived no_terms; same = d.same; low = λ k h. low_append (term_nesting d.derived k) [] (d.low k h) tt }
 
-as_expr : (x : Expr) (n : ℕ) (us ts : List Token) → SumOf x n us ts → ExprOf x n us ts
+as_expr : (x : Expr) (n : ℕ) (us ts : List Terminal) → SumOf x n us ts → ExprOf x n us ts
 as_expr x n us ts d = record { tree = d.tree; derived = alone d.derived; same = d.same; low = d.low }
 
-expr_lower : (x : Expr) (m n : ℕ) → m ≤ n → (us ts : List Token) → ExprOf x n us ts → ExprOf x m us ts
+expr_lower : (x : Expr) (m n : ℕ) → m ≤ n → (us ts : List Terminal) → ExprOf x n us ts → ExprOf x m us ts
 expr_lower x m n h us ts d = record { tree = d.tree; derived = d.derived; same = d.same; low = λ k l. d.low k (omega arith) }
 
-sum_lower : (x : Expr) (m n : ℕ) → m ≤ n → (us ts : List Token) → SumOf x n us ts → SumOf x m us ts
+sum_lower : (x : Expr) (m n : ℕ) → m ≤ n → (us ts : List Terminal) → SumOf x n us ts → SumOf x m us ts
 sum_lower x m n h us ts d = record { tree = d.tree; derived = d.derived; same = d.same; low = λ k l. d.low k (omega arith) }
 
-term_lower : (x : Expr) (m n : ℕ) → m ≤ n → (us ts : List Token) → TermOf x n us ts → TermOf x m us ts
+term_lower : (x : Expr) (m n : ℕ) → m ≤ n → (us ts : List Terminal) → TermOf x n us ts → TermOf x m us ts
 term_lower x m n h us ts d = record { tree = d.tree; derived = d.derived; same = d.same; low = λ k l. d.low k (omega arith) }
 
-factor_lower : (x : Expr) (m n : ℕ) → m ≤ n → (us ts : List Token) → FactorOf x n us ts → FactorOf x m us ts
+factor_lower : (x : Expr) (m n : ℕ) → m ≤ n → (us ts : List Terminal) → FactorOf x n us ts → FactorOf x m us ts
 factor_lower x m n h us ts d = record { tree = d.tree; derived = d.derived; same = d.same; low = λ k l. d.low k (omega arith) }
 
 -- A printed text is of the expression x: as an expression always, and, by its precedence, as a sum, a term, a factor. There is room for n round it.
@@ -190,7 +190,7 @@ opened = symbol word.Open (codes "(") refl refl (λ b. refl)
 pub closed : {version : Version} → Forms version (codes ")") any (IsToken word.Close (codes ")"))
 closed = symbol word.Close (codes ")") refl refl (λ b. refl)
 
-group_made : (x : Expr) (n : ℕ) → suc n ≤ 64 → (us ts : List Token) → Then (Then (IsToken word.Open (codes "(")) (ExprOf x (suc n))) (IsToken word.Close (codes ")")) us ts → FactorOf x n us ts
+group_made : (x : Expr) (n : ℕ) → suc n ≤ 64 → (us ts : List Terminal) → Then (Then (IsToken word.Open (codes "(")) (ExprOf x (suc n))) (IsToken word.Close (codes ")")) us ts → FactorOf x n us ts
 group_made x n h us ts (and_then (and_then a_token d) a_token) =
     record {
       tree = d.tree;
@@ -236,7 +236,7 @@ front_first t u h rest = ap (starts no_arrow) (append_assoc t u rest) ∙ h (u +
 
 -- Atoms and minuses.
 
-number_made : (a : ℕ) (t : List ℕ) (n : ℕ) → n ≤ 64 → decimal 0 t ≤ 9223372036854775807 → (us ts : List Token) → IsToken word.Number (fmt.decimal (decimal 0 t)) us ts → FactorOf (expr.Number (number_at a t)) n us ts
+number_made : (a : ℕ) (t : List ℕ) (n : ℕ) → n ≤ 64 → decimal 0 t ≤ 9223372036854775807 → (us ts : List Terminal) → IsToken word.Number (fmt.decimal (decimal 0 t)) us ts → FactorOf (expr.Number (number_at a t)) n us ts
 number_made a t n h small us ts (a_token {a = b}) =
     record {
       tree = expr.Number (number_at b (fmt.decimal (decimal 0 t)));
@@ -245,7 +245,7 @@ number_made a t n h small us ts (a_token {a = b}) =
       low = λ k l. (omega arith, tt);
     }
 
-variable_made : (a : ℕ) (t : List ℕ) (n : ℕ) → n ≤ 64 → (us ts : List Token) → IsToken word.Name t us ts → FactorOf (expr.Var (name_at a t)) n us ts
+variable_made : (a : ℕ) (t : List ℕ) (n : ℕ) → n ≤ 64 → (us ts : List Terminal) → IsToken word.Name t us ts → FactorOf (expr.Var (name_at a t)) n us ts
 variable_made a t n h us ts (a_token {a = b}) =
     record { tree = expr.Var (name_at b t); derived = a_name; same = same_variable (name_at b t) (name_at a t) refl; low = λ k l. (omega arith, tt) }
 
@@ -255,7 +255,7 @@ open_item = symbol word.OpenItem (codes "[") refl refl (λ b. refl)
 pub close_item : {version : Version} → Forms version (codes "]") any (IsToken word.CloseItem (codes "]"))
 close_item = symbol word.CloseItem (codes "]") refl refl (λ b. refl)
 
-item_made : (a : ℕ) (t : List ℕ) (x : Expr) (n : ℕ) → suc n ≤ 64 → (us ts : List Token) →
+item_made : (a : ℕ) (t : List ℕ) (x : Expr) (n : ℕ) → suc n ≤ 64 → (us ts : List Terminal) →
     Then (Then (Then (IsToken word.Name t) (IsToken word.OpenItem (codes "["))) (ExprOf x (suc n))) (IsToken word.CloseItem (codes "]")) us ts → FactorOf (expr.Item (name_at a t) x) n us ts
 item_made a t x n h us ts (and_then (and_then (and_then (a_token {a = b}) a_token) d) a_token) =
     record {
@@ -265,7 +265,7 @@ item_made a t x n h us ts (and_then (and_then (and_then (a_token {a = b}) a_toke
       low = λ k l. (omega arith, (omega arith, low_append (expr_nesting d.derived (suc k)) (k ∷ []) (d.low (suc k) (omega arith)) (omega arith, tt)));
     }
 
-neg_made : (a : ℕ) (x : Expr) (n : ℕ) → suc n ≤ 64 → (us ts : List Token) → Then (IsToken word.Minus (codes "-")) (FactorOf x (suc n)) us ts → FactorOf (expr.Neg a x) n us ts
+neg_made : (a : ℕ) (x : Expr) (n : ℕ) → suc n ≤ 64 → (us ts : List Terminal) → Then (IsToken word.Minus (codes "-")) (FactorOf x (suc n)) us ts → FactorOf (expr.Neg a x) n us ts
 neg_made a x n h us ts (and_then (a_token {a = b}) d) =
     record { tree = expr.Neg b d.tree; derived = a_neg d.derived; same = same_negation b a d.tree x d.same; low = λ k l. (omega arith, d.low (suc k) (omega arith)) }
 
@@ -281,7 +281,7 @@ older_open {version = version} = then_ (word_before 40 word.Older (codes "older"
 pair_low : (xs ys : List ℕ) (k n : ℕ) → suc n ≤ 64 → k ≤ n → Low xs → Low ys → Low (k ∷ suc k ∷ (xs ++ suc k ∷ (ys ++ k ∷ [])))
 pair_low xs ys k n h l a b = (omega arith, (omega arith, low_append xs (suc k ∷ (ys ++ k ∷ [])) a (omega arith, low_append ys (k ∷ []) b (omega arith, tt))))
 
-same_made : (a : ℕ) (x y : Expr) (n : ℕ) → suc n ≤ 64 → (us ts : List Token) →
+same_made : (a : ℕ) (x y : Expr) (n : ℕ) → suc n ≤ 64 → (us ts : List Terminal) →
     Then (Then (Then (Then (Then (IsToken word.Same (codes "same")) (IsToken word.Open (codes "("))) (ExprOf x (suc n))) (IsToken word.Comma (codes ","))) (ExprOf y (suc n))) (IsToken word.Close (codes ")")) us ts → FactorOf (expr.Same a x y) n us ts
 same_made a x y n h us ts (and_then (and_then (and_then (and_then (and_then (a_token {a = b}) a_token) d) a_token) e) a_token) =
     record {
@@ -291,7 +291,7 @@ same_made a x y n h us ts (and_then (and_then (and_then (and_then (and_then (a_t
       low = λ k l. pair_low (expr_nesting d.derived (suc k)) (expr_nesting e.derived (suc k)) k n h l (d.low (suc k) (omega arith)) (e.low (suc k) (omega arith));
     }
 
-older_made : (a : ℕ) (x y : Expr) (n : ℕ) → suc n ≤ 64 → (us ts : List Token) →
+older_made : (a : ℕ) (x y : Expr) (n : ℕ) → suc n ≤ 64 → (us ts : List Terminal) →
     Then (Then (Then (Then (Then (IsToken word.Older (codes "older")) (IsToken word.Open (codes "("))) (ExprOf x (suc n))) (IsToken word.Comma (codes ","))) (ExprOf y (suc n))) (IsToken word.Close (codes ")")) us ts → FactorOf (expr.Older a x y) n us ts
 older_made a x y n h us ts (and_then (and_then (and_then (and_then (and_then (a_token {a = b}) a_token) d) a_token) e) a_token) =
     record {
@@ -345,22 +345,22 @@ older_shown a x y n d e =
 
 -- Operators.
 
-pub data ProductSignOf (s : ProductSign) : List Token → List Token → Type 0 where
-  a_product_sign : {a : ℕ} {k : Word} {t : List ℕ} {ts : List Token} → IsProductSign k s → ProductSignOf s (tok a k t ∷ ts) ts
+pub data ProductSignOf (s : ProductSign) : List Terminal → List Terminal → Type 0 where
+  a_product_sign : {a : ℕ} {k : Word} {t : List ℕ} {ts : List Terminal} → IsProductSign k s → ProductSignOf s (tok a k t ∷ ts) ts
 
-pub data SumSignOf (s : Bool) : List Token → List Token → Type 0 where
-  a_sum_sign : {a : ℕ} {k : Word} {t : List ℕ} {ts : List Token} → IsSumSign k s → SumSignOf s (tok a k t ∷ ts) ts
+pub data SumSignOf (s : Bool) : List Terminal → List Terminal → Type 0 where
+  a_sum_sign : {a : ℕ} {k : Word} {t : List ℕ} {ts : List Terminal} → IsSumSign k s → SumSignOf s (tok a k t ∷ ts) ts
 
-pub data ComparisonOf (s : Comparison) : List Token → List Token → Type 0 where
-  a_comparison : {a : ℕ} {k : Word} {t : List ℕ} {ts : List Token} → IsComparison k s → ComparisonOf s (tok a k t ∷ ts) ts
+pub data ComparisonOf (s : Comparison) : List Terminal → List Terminal → Type 0 where
+  a_comparison : {a : ℕ} {k : Word} {t : List ℕ} {ts : List Terminal} → IsComparison k s → ComparisonOf s (tok a k t ∷ ts) ts
 
-product_signed : {k : Word} {s : ProductSign} {t : List ℕ} → IsProductSign k s → (us ts : List Token) → IsToken k t us ts → ProductSignOf s us ts
+product_signed : {k : Word} {s : ProductSign} {t : List ℕ} → IsProductSign k s → (us ts : List Terminal) → IsToken k t us ts → ProductSignOf s us ts
 product_signed h us ts a_token = a_product_sign h
 
-sum_signed : {k : Word} {s : Bool} {t : List ℕ} → IsSumSign k s → (us ts : List Token) → IsToken k t us ts → SumSignOf s us ts
+sum_signed : {k : Word} {s : Bool} {t : List ℕ} → IsSumSign k s → (us ts : List Terminal) → IsToken k t us ts → SumSignOf s us ts
 sum_signed h us ts a_token = a_sum_sign h
 
-comparison_signed : {k : Word} {s : Comparison} {t : List ℕ} → IsComparison k s → (us ts : List Token) → IsToken k t us ts → ComparisonOf s us ts
+comparison_signed : {k : Word} {s : Comparison} {t : List ℕ} → IsComparison k s → (us ts : List Terminal) → IsToken k t us ts → ComparisonOf s us ts
 comparison_signed h us ts a_token = a_comparison h
 
 product_sign_form : {version : Version} (s : ProductSign) → Forms version (spaced (product_sign_text s)) any (ProductSignOf s)
@@ -381,17 +381,17 @@ comparison_form Gt = weaken (spaced_word word.Gt (codes ">") refl refl refl) (co
 comparison_form Ge = weaken (spaced_word word.Ge (codes ">=") refl refl refl) (comparison_signed a_ge)
 
 -- A text after an operand, which ends no name and no number of it.
-pub record Tail (version : Version) (text : List ℕ) (D : List Token → List Token → Type 0) : Type 0 where
+pub record Tail (version : Version) (text : List ℕ) (D : List Terminal → List Terminal → Type 0) : Type 0 where
   pub form : Forms version text calm D
   pub front : (rest : List ℕ) → starts calm rest ≡ true → starts calm (text ++ rest) ≡ true
 
-no_factors_made : (n : ℕ) (us ts : List Token) → IsNothing us ts → FactorsOf [] n us ts
+no_factors_made : (n : ℕ) (us ts : List Terminal) → IsNothing us ts → FactorsOf [] n us ts
 no_factors_made n us ts nothing = record { tree = []; derived = no_factors; same = refl; low = λ k l. tt }
 
-no_terms_made : (n : ℕ) (us ts : List Token) → IsNothing us ts → TermsOf [] n us ts
+no_terms_made : (n : ℕ) (us ts : List Terminal) → IsNothing us ts → TermsOf [] n us ts
 no_terms_made n us ts nothing = record { tree = []; derived = no_terms; same = refl; low = λ k l. tt }
 
-factors_made : (s : ProductSign) (x : Expr) (xs : List ProductPart) (n : ℕ) → n ≤ 64 → (us ts : List Token) → Then (Then (ProductSignOf s) (FactorOf x n)) (FactorsOf xs n) us ts →
+factors_made : (s : ProductSign) (x : Expr) (xs : List ProductPart) (n : ℕ) → n ≤ 64 → (us ts : List Terminal) → Then (Then (ProductSignOf s) (FactorOf x n)) (FactorsOf xs n) us ts →
     FactorsOf (record { sign = s; operand = x } ∷ xs) n us ts
 factors_made s x xs n h us ts (and_then (and_then (a_product_sign k) d) e) =
     record {
@@ -401,7 +401,7 @@ factors_made s x xs n h us ts (and_then (and_then (a_product_sign k) d) e) =
       low = λ k l. (omega arith, low_append (factor_nesting d.derived k) (factors_nesting e.derived k) (d.low k l) (e.low k l));
     }
 
-terms_made : (s : Bool) (x : Expr) (xs : List SumPart) (n : ℕ) → n ≤ 64 → (us ts : List Token) → Then (Then (SumSignOf s) (TermOf x n)) (TermsOf xs n) us ts →
+terms_made : (s : Bool) (x : Expr) (xs : List SumPart) (n : ℕ) → n ≤ 64 → (us ts : List Terminal) → Then (Then (SumSignOf s) (TermOf x n)) (TermsOf xs n) us ts →
     TermsOf (record { minus = s; operand = x } ∷ xs) n us ts
 terms_made s x xs n h us ts (and_then (and_then (a_sum_sign k) d) e) =
     record {
@@ -431,7 +431,7 @@ terms_tail {version = version} s x xs n r tail =
       front = λ q h. refl;
     })
 
-product_made : (x : Expr) (p : ProductPart) (ps : List ProductPart) (n : ℕ) (us ts : List Token) → Then (FactorOf x n) (FactorsOf (p ∷ ps) n) us ts → TermOf (expr.Product x (p ∷ ps)) n us ts
+product_made : (x : Expr) (p : ProductPart) (ps : List ProductPart) (n : ℕ) (us ts : List Terminal) → Then (FactorOf x n) (FactorsOf (p ∷ ps) n) us ts → TermOf (expr.Product x (p ∷ ps)) n us ts
 product_made x p ps n us ts (and_then d e) =
     record {
       tree = product_of d.tree e.tree;
@@ -440,7 +440,7 @@ product_made x p ps n us ts (and_then d e) =
       low = λ k l. low_append (factor_nesting d.derived k) (factors_nesting e.derived k) (d.low k l) (e.low k l);
     }
 
-sum_made : (x : Expr) (p : SumPart) (ps : List SumPart) (n : ℕ) (us ts : List Token) → Then (TermOf x n) (TermsOf (p ∷ ps) n) us ts → SumOf (expr.Sum x (p ∷ ps)) n us ts
+sum_made : (x : Expr) (p : SumPart) (ps : List SumPart) (n : ℕ) (us ts : List Terminal) → Then (TermOf x n) (TermsOf (p ∷ ps) n) us ts → SumOf (expr.Sum x (p ∷ ps)) n us ts
 sum_made x p ps n us ts (and_then d e) =
     record {
       tree = sum_of d.tree e.tree;
@@ -463,7 +463,7 @@ sum_shown x p ps n r tail =
     (from_sum q (expr.Sum x (p ∷ ps)) n r.here.low (front_first (operand 3 (printed x)) (flat_map sum_part_text (p ∷ ps)) (operand_front 3 x n r.here)) refl refl
     (weaken (then_ (at_term x n r) tail.form tail.front) (sum_made x p ps n)))
 
-comparison_made : (x : Expr) (s : Comparison) (y : Expr) (n : ℕ) → n ≤ 64 → (us ts : List Token) → Then (Then (SumOf x n) (ComparisonOf s)) (SumOf y n) us ts → ExprOf (expr.Compare x s y) n us ts
+comparison_made : (x : Expr) (s : Comparison) (y : Expr) (n : ℕ) → n ≤ 64 → (us ts : List Terminal) → Then (Then (SumOf x n) (ComparisonOf s)) (SumOf y n) us ts → ExprOf (expr.Compare x s y) n us ts
 comparison_made x s y n h us ts (and_then (and_then d (a_comparison k)) e) =
     record {
       tree = expr.Compare d.tree s e.tree;
@@ -488,7 +488,7 @@ comparison_shown {version = version} x s y n d e =
 -- By the derivation from the tokens that were read.
 
 mutual
-  pub factor_shown : {version : Version} {ts rest : List Token} {x : Expr} (d : IsFactor ts x rest) (n : ℕ) → Low (factor_nesting d n) → Sound version ts → Room version 4 x n
+  pub factor_shown : {version : Version} {ts rest : List Terminal} {x : Expr} (d : IsFactor ts x rest) (n : ℕ) → Low (factor_nesting d n) → Sound version ts → Room version 4 x n
   factor_shown (a_neg {a = a} {x = x} d) n l s = neg_shown a x n (factor_shown d (suc n) l.1 s.1)
   factor_shown (a_number {a = a} {t = t}) n l s = number_shown a t n l.0 s.0.modest
   factor_shown (a_name {a = a} {t = t}) n l s = variable_shown a t n l.0 s.0
@@ -508,7 +508,7 @@ mutual
       (expr_shown d (suc n) (low_front (expr_nesting d (suc n)) (suc n ∷ (expr_nesting e (suc n) ++ n ∷ [])) l.1.1) s.1.1)
       (expr_shown e (suc n) (low_front (expr_nesting e (suc n)) (n ∷ []) after.1) (sound_after version (expr_eats d) s.1.1).1)
 
-  pub term_shown : {version : Version} {ts rest : List Token} {x : Expr} (d : IsTerm ts x rest) (n : ℕ) → Low (term_nesting d n) → Sound version ts → Room version 3 x n
+  pub term_shown : {version : Version} {ts rest : List Terminal} {x : Expr} (d : IsTerm ts x rest) (n : ℕ) → Low (term_nesting d n) → Sound version ts → Room version 3 x n
   term_shown (factors {x = x} d no_factors) n l s = looser 3 x n (factor_shown d n (low_front (factor_nesting d n) [] l) s)
   term_shown {version = version} (factors {x = x} d (one_factor {s = sign} {x = y} {xs = ys} k e f)) n l s =
       let after = low_back (factor_nesting d n) (n ∷ (factor_nesting e n ++ factors_nesting f n)) l in
@@ -518,13 +518,13 @@ mutual
       (factors_tail sign y ys n (factor_shown e n (low_front (factor_nesting e n) (factors_nesting f n) after.1) others)
       (factors_shown f n (low_back (factor_nesting e n) (factors_nesting f n) after.1) (sound_after version (factor_eats e) others)))
 
-  pub factors_shown : {version : Version} {ts rest : List Token} {xs : List ProductPart} (d : IsFactors ts xs rest) (n : ℕ) → Low (factors_nesting d n) → Sound version ts → Tail version (flat_map product_part_text xs) (FactorsOf xs n)
+  pub factors_shown : {version : Version} {ts rest : List Terminal} {xs : List ProductPart} (d : IsFactors ts xs rest) (n : ℕ) → Low (factors_nesting d n) → Sound version ts → Tail version (flat_map product_part_text xs) (FactorsOf xs n)
   factors_shown no_factors n l s = record { form = weaken empty (no_factors_made n); front = λ r h. h }
   factors_shown {version = version} (one_factor {s = sign} {x = y} {xs = ys} k e f) n l s =
       factors_tail sign y ys n (factor_shown e n (low_front (factor_nesting e n) (factors_nesting f n) l.1) s.1)
       (factors_shown f n (low_back (factor_nesting e n) (factors_nesting f n) l.1) (sound_after version (factor_eats e) s.1))
 
-  pub sum_is_shown : {version : Version} {ts rest : List Token} {x : Expr} (d : IsSum ts x rest) (n : ℕ) → Low (sum_nesting d n) → Sound version ts → Room version 2 x n
+  pub sum_is_shown : {version : Version} {ts rest : List Terminal} {x : Expr} (d : IsSum ts x rest) (n : ℕ) → Low (sum_nesting d n) → Sound version ts → Room version 2 x n
   sum_is_shown (terms {x = x} d no_terms) n l s = looser 2 x n (term_shown d n (low_front (term_nesting d n) [] l) s)
   sum_is_shown {version = version} (terms {x = x} d (one_term {s = sign} {x = y} {xs = ys} k e f)) n l s =
       let after = low_back (term_nesting d n) (n ∷ (term_nesting e n ++ terms_nesting f n)) l in
@@ -534,13 +534,13 @@ mutual
       (terms_tail sign y ys n (term_shown e n (low_front (term_nesting e n) (terms_nesting f n) after.1) others)
       (terms_shown f n (low_back (term_nesting e n) (terms_nesting f n) after.1) (sound_after version (term_eats e) others)))
 
-  pub terms_shown : {version : Version} {ts rest : List Token} {xs : List SumPart} (d : IsTerms ts xs rest) (n : ℕ) → Low (terms_nesting d n) → Sound version ts → Tail version (flat_map sum_part_text xs) (TermsOf xs n)
+  pub terms_shown : {version : Version} {ts rest : List Terminal} {xs : List SumPart} (d : IsTerms ts xs rest) (n : ℕ) → Low (terms_nesting d n) → Sound version ts → Tail version (flat_map sum_part_text xs) (TermsOf xs n)
   terms_shown no_terms n l s = record { form = weaken empty (no_terms_made n); front = λ r h. h }
   terms_shown {version = version} (one_term {s = sign} {x = y} {xs = ys} k e f) n l s =
       terms_tail sign y ys n (term_shown e n (low_front (term_nesting e n) (terms_nesting f n) l.1) s.1)
       (terms_shown f n (low_back (term_nesting e n) (terms_nesting f n) l.1) (sound_after version (term_eats e) s.1))
 
-  pub expr_shown : {version : Version} {ts rest : List Token} {x : Expr} (d : IsExpr ts x rest) (n : ℕ) → Low (expr_nesting d n) → Sound version ts → Shown version (printed x) x n
+  pub expr_shown : {version : Version} {ts rest : List Terminal} {x : Expr} (d : IsExpr ts x rest) (n : ℕ) → Low (expr_nesting d n) → Sound version ts → Shown version (printed x) x n
   expr_shown (alone d) n l s = (sum_is_shown d n l s).here
   expr_shown {version = version} (compared {s = how} {x = x} {y = y} d k e) n l s =
       comparison_shown x how y n

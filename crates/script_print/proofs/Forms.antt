@@ -5,38 +5,38 @@ use Rattle.script_tokens.specs.declared.token.Word.{Word}
 use Rattle.script_tokens.specs.declared.token.Word.TheVariants.{Name, Number}
 use Rattle.script_tokens.specs.Word.{word_of, is_name_byte}
 use Rattle.script_tokens.specs.Lexing.{is_blank}
-use Rattle.script_grammar.specs.Grammar.{Token, tok}
+use Rattle.script_grammar.specs.Grammar.{Terminal, tok}
 use Rattle.script_print.proofs.Cutting.{IsModest, Spells, spells_token, spells_blank, starts, longest_by}
 use Rattle.script_tokens.specs.declared.version.Version.{Version}
 
 -- between the tokens from the first on and those after the last
 abbrev pub Relation : Type 1
-Relation = List Token → List Token → Type 0
+Relation = List Terminal → List Terminal → Type 0
 
 -- The bytes are cut into tokens whose last are those of what stands after, and the others are of the form.
-pub record Cut (version : Version) (D : List Token → List Token → Type 0) (at : ℕ) (bytes : List ℕ) (after : ℕ → List Token) : Type 0 where
-  pub tokens : List Token
+pub record Cut (version : Version) (D : List Terminal → List Terminal → Type 0) (at : ℕ) (bytes : List ℕ) (after : ℕ → List Terminal) : Type 0 where
+  pub tokens : List Terminal
   pub spells : Spells version at bytes tokens
   pub end : ℕ
   pub form : D tokens (after end)
 
 -- Wherever the text stands, and whatever stands after it that begins with a byte that passes, it is of the form.
-pub record Forms (version : Version) (text : List ℕ) (passes : ℕ → Bool) (D : List Token → List Token → Type 0) : Type 0 where
-  pub cut : (rest : List ℕ) (after : ℕ → List Token) → starts passes rest ≡ true → ((at : ℕ) → Spells version at rest (after at)) → (at : ℕ) → Cut version D at (text ++ rest) after
+pub record Forms (version : Version) (text : List ℕ) (passes : ℕ → Bool) (D : List Terminal → List Terminal → Type 0) : Type 0 where
+  pub cut : (rest : List ℕ) (after : ℕ → List Terminal) → starts passes rest ≡ true → ((at : ℕ) → Spells version at rest (after at)) → (at : ℕ) → Cut version D at (text ++ rest) after
 
 -- one form and then another
-pub data Then (D E : List Token → List Token → Type 0) : List Token → List Token → Type 0 where
-  and_then : {us mid ts : List Token} → D us mid → E mid ts → Then D E us ts
+pub data Then (D E : List Terminal → List Terminal → Type 0) : List Terminal → List Terminal → Type 0 where
+  and_then : {us mid ts : List Terminal} → D us mid → E mid ts → Then D E us ts
 
 -- one token
-pub data IsToken (w : Word) (text : List ℕ) : List Token → List Token → Type 0 where
-  a_token : {a : ℕ} {ts : List Token} → IsToken w text (tok a w text ∷ ts) ts
+pub data IsToken (w : Word) (text : List ℕ) : List Terminal → List Terminal → Type 0 where
+  a_token : {a : ℕ} {ts : List Terminal} → IsToken w text (tok a w text ∷ ts) ts
 
 -- no token
-pub data IsNothing : List Token → List Token → Type 0 where
-  nothing : {ts : List Token} → IsNothing ts ts
+pub data IsNothing : List Terminal → List Terminal → Type 0 where
+  nothing : {ts : List Terminal} → IsNothing ts ts
 
-pub then_ : {version : Version} {t u : List ℕ} {f g : ℕ → Bool} {D E : List Token → List Token → Type 0} → Forms version t f D → Forms version u g E →
+pub then_ : {version : Version} {t u : List ℕ} {f g : ℕ → Bool} {D E : List Terminal → List Terminal → Type 0} → Forms version t f D → Forms version u g E →
     ((rest : List ℕ) → starts g rest ≡ true → starts f (u ++ rest) ≡ true) → Forms version (t ++ u) g (Then D E)
 then_ {version = version} {t = t} {u = u} a b ok = record {
   cut = λ rest after s spells at.
@@ -50,7 +50,7 @@ then_ {version = version} {t = t} {u = u} a b ok = record {
       };
 }
 
-pub weaken : {version : Version} {t : List ℕ} {f : ℕ → Bool} {D E : List Token → List Token → Type 0} → Forms version t f D → ((us ts : List Token) → D us ts → E us ts) → Forms version t f E
+pub weaken : {version : Version} {t : List ℕ} {f : ℕ → Bool} {D E : List Terminal → List Terminal → Type 0} → Forms version t f D → ((us ts : List Terminal) → D us ts → E us ts) → Forms version t f E
 weaken a h = record {
   cut = λ rest after s spells at.
       let c = a.cut rest after s spells at in
@@ -58,7 +58,7 @@ weaken a h = record {
 }
 
 -- fewer bytes may stand after
-pub before : {version : Version} {t : List ℕ} {f : ℕ → Bool} {D : List Token → List Token → Type 0} (g : ℕ → Bool) → Forms version t f D → ((rest : List ℕ) → starts g rest ≡ true → starts f rest ≡ true) → Forms version t g D
+pub before : {version : Version} {t : List ℕ} {f : ℕ → Bool} {D : List Terminal → List Terminal → Type 0} (g : ℕ → Bool) → Forms version t f D → ((rest : List ℕ) → starts g rest ≡ true → starts f rest ≡ true) → Forms version t g D
 before g a h = record { cut = λ rest after s spells at. a.cut rest after (h rest s) spells at }
 
 pub empty : {version : Version} {f : ℕ → Bool} → Forms version [] f IsNothing
@@ -80,7 +80,7 @@ calm b = not (is_name_byte b)
 abbrev pub no_arrow : ℕ → Bool
 no_arrow b = not (nat_eq 62 b)
 
-pub calmly : {version : Version} {t : List ℕ} {D : List Token → List Token → Type 0} → Forms version t any D → Forms version t calm D
+pub calmly : {version : Version} {t : List ℕ} {D : List Terminal → List Terminal → Type 0} → Forms version t any D → Forms version t calm D
 calmly a = before calm a (λ rest s. anything rest)
 
 pub a_blank : {version : Version} (b : ℕ) → is_blank b ≡ true → Forms version (b ∷ []) any IsNothing

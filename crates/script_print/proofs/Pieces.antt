@@ -13,16 +13,16 @@ use Rattle.script_tokens.specs.declared.token.Word.{Word}
 use Rattle.script_tokens.specs.declared.token.Word.TheVariants as word
 use Rattle.script_tokens.specs.Word.{Spelling, keywords, symbols, word_spelled, is_letter, is_name_byte, is_name, is_number, word_of}
 use Rattle.script_tokens.proofs.Longest.{word_of-letter, word_of-digit}
-use Rattle.script_grammar.specs.Grammar.{Token, tok, decimal}
+use Rattle.script_grammar.specs.Grammar.{Terminal, tok, decimal}
 use Rattle.script_print.proofs.Cutting.{IsModest, starts}
 use Rattle.script_print.proofs.Forms.{Forms, Then, and_then, IsToken, IsNothing, nothing, then_, weaken, calm, no_arrow, any, anything, a_blank, token_before, is_fixed, fixed_is_modest, symbol, word_before}
 use Rattle.script_tokens.specs.declared.version.Version.{Version}
 use Rattle.script_tokens.specs.declared.version.Version.TheVariants.{One, Two}
 
-pub nothing_after : {D : List Token → List Token → Type 0} (us ts : List Token) → Then D IsNothing us ts → D us ts
+pub nothing_after : {D : List Terminal → List Terminal → Type 0} (us ts : List Terminal) → Then D IsNothing us ts → D us ts
 nothing_after us ts (and_then d nothing) = d
 
-pub nothing_in_front : {D : List Token → List Token → Type 0} (us ts : List Token) → Then IsNothing D us ts → D us ts
+pub nothing_in_front : {D : List Terminal → List Terminal → Type 0} (us ts : List Terminal) → Then IsNothing D us ts → D us ts
 nothing_in_front us ts (and_then nothing d) = d
 
 -- A fixed word of both versions is one of each. (The keywords of a version are known once the version is.)

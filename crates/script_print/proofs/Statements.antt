@@ -14,7 +14,7 @@ use Rattle.script_grammar.specs.declared.tree.Right.TheVariants as right
 use Rattle.script_grammar.specs.declared.tree.Stmt.{Stmt}
 use Rattle.script_grammar.specs.declared.tree.Act.{Act}
 use Rattle.script_grammar.specs.declared.tree.Act.TheVariants as act
-use Rattle.script_grammar.specs.Grammar.{Token, tok, name_at, number_at, decimal, stmt_at, IsExpr, IsMoreArgs, no_more_args, one_more_arg, IsArgs, no_args, some_args, IsCall, a_call, IsRight, right_value, right_draw, right_new, right_call, right_spawn, IsInto, no_into, an_into, IsStmt, a_let, an_array, a_set, a_store, a_spawn, a_call_stmt, a_sync, a_print, an_if, a_while, a_pfor, a_scope, IsStmts, no_stmts, one_stmt, IsBlock, a_block, IsElse, no_else, an_else}
+use Rattle.script_grammar.specs.Grammar.{Terminal, tok, name_at, number_at, decimal, stmt_at, IsExpr, IsMoreArgs, no_more_args, one_more_arg, IsArgs, no_args, some_args, IsCall, a_call, IsRight, right_value, right_draw, right_new, right_call, right_spawn, IsInto, no_into, an_into, IsStmt, a_let, an_array, a_set, a_store, a_spawn, a_call_stmt, a_sync, a_print, an_if, a_while, a_pfor, a_scope, IsStmts, no_stmts, one_stmt, IsBlock, a_block, IsElse, no_else, an_else}
 use Rattle.script_grammar.specs.Nesting.{expr_nesting, more_args_nesting, args_nesting, call_nesting, right_nesting, into_nesting, stmt_nesting, stmts_nesting, block_nesting, else_nesting}
 use Rattle.script_print.specs.Canonical.{Printed, printed, expr_text, after_commas, listed, call_text, right_text, range_text, loop_call_text, into_text, block_text, else_text, act_text, stmt_text, stmts_text}
 use Rattle.script_print.specs.Unplaced.{unplaced_name, unplaced_number, unplaced_expr, unplaced_call, unplaced_right, unplaced_target, unplaced_act, unplaced_stmt}
@@ -31,28 +31,28 @@ use Rattle.script_tokens.proofs.Versions.{token_other}
 
 -- Arguments and calls.
 
-pub record MoreArgsOf (xs : List Expr) (n : ℕ) (us ts : List Token) : Type 0 where
+pub record MoreArgsOf (xs : List Expr) (n : ℕ) (us ts : List Terminal) : Type 0 where
   pub tree : List Expr
   pub derived : IsMoreArgs us tree ts
   pub same : map unplaced_expr tree ≡ map unplaced_expr xs
   pub low : Low (more_args_nesting derived n)
 
-pub record ArgsOf (xs : List Expr) (n : ℕ) (us ts : List Token) : Type 0 where
+pub record ArgsOf (xs : List Expr) (n : ℕ) (us ts : List Terminal) : Type 0 where
   pub tree : List Expr
   pub derived : IsArgs us tree ts
   pub same : map unplaced_expr tree ≡ map unplaced_expr xs
   pub low : Low (args_nesting derived n)
 
-pub record CallOf (c : CallText) (n : ℕ) (us ts : List Token) : Type 0 where
+pub record CallOf (c : CallText) (n : ℕ) (us ts : List Terminal) : Type 0 where
   pub tree : CallText
   pub derived : IsCall us tree ts
   pub same : unplaced_call tree ≡ unplaced_call c
   pub low : Low (call_nesting derived n)
 
-no_more_args_made : (n : ℕ) (us ts : List Token) → IsNothing us ts → MoreArgsOf [] n us ts
+no_more_args_made : (n : ℕ) (us ts : List Terminal) → IsNothing us ts → MoreArgsOf [] n us ts
 no_more_args_made n us ts nothing = record { tree = []; derived = no_more_args; same = refl; low = tt }
 
-more_args_made : (x : Expr) (xs : List Expr) (n : ℕ) → n ≤ 64 → (us ts : List Token) → Then (Then (IsToken word.Comma (codes ",")) (ExprOf x n)) (MoreArgsOf xs n) us ts → MoreArgsOf (x ∷ xs) n us ts
+more_args_made : (x : Expr) (xs : List Expr) (n : ℕ) → n ≤ 64 → (us ts : List Terminal) → Then (Then (IsToken word.Comma (codes ",")) (ExprOf x n)) (MoreArgsOf xs n) us ts → MoreArgsOf (x ∷ xs) n us ts
 more_args_made x xs n h us ts (and_then (and_then a_token d) e) =
     record {
       tree = d.tree ∷ e.tree;
@@ -61,7 +61,7 @@ more_args_made x xs n h us ts (and_then (and_then a_token d) e) =
       low = (h, low_append (expr_nesting d.derived n) (more_args_nesting e.derived n) (d.low n (omega arith)) e.low);
     }
 
-pub more_args_shown : {version : Version} {ts rest : List Token} {xs : List Expr} (d : IsMoreArgs ts xs rest) (n : ℕ) → Low (more_args_nesting d n) → Sound version ts → Tail version (after_commas expr_text xs) (MoreArgsOf xs n)
+pub more_args_shown : {version : Version} {ts rest : List Terminal} {xs : List Expr} (d : IsMoreArgs ts xs rest) (n : ℕ) → Low (more_args_nesting d n) → Sound version ts → Tail version (after_commas expr_text xs) (MoreArgsOf xs n)
 more_args_shown no_more_args n l s = record { form = weaken empty (no_more_args_made n); front = λ r h. h }
 more_args_shown {version = version} (one_more_arg {x = x} {xs = xs} d e) n l s =
     let first = expr_shown d n (low_front (expr_nesting d n) (more_args_nesting e n) l.1) s.1 in
@@ -71,10 +71,10 @@ more_args_shown {version = version} (one_more_arg {x = x} {xs = xs} d e) n l s =
       front = λ r h. refl;
     }
 
-no_args_made : (n : ℕ) (us ts : List Token) → IsNothing us ts → ArgsOf [] n us ts
+no_args_made : (n : ℕ) (us ts : List Terminal) → IsNothing us ts → ArgsOf [] n us ts
 no_args_made n us ts nothing = record { tree = []; derived = no_args; same = refl; low = tt }
 
-args_made : (x : Expr) (xs : List Expr) (n : ℕ) (us ts : List Token) → Then (ExprOf x n) (MoreArgsOf xs n) us ts → ArgsOf (x ∷ xs) n us ts
+args_made : (x : Expr) (xs : List Expr) (n : ℕ) (us ts : List Terminal) → Then (ExprOf x n) (MoreArgsOf xs n) us ts → ArgsOf (x ∷ xs) n us ts
 args_made x xs n us ts (and_then d e) =
     record {
       tree = d.tree ∷ e.tree;
@@ -83,14 +83,14 @@ args_made x xs n us ts (and_then d e) =
       low = low_append (expr_nesting d.derived n) (more_args_nesting e.derived n) (d.low n (omega arith)) e.low;
     }
 
-args_shown : {version : Version} {ts rest : List Token} {xs : List Expr} (d : IsArgs ts xs rest) (n : ℕ) → Low (args_nesting d n) → Sound version ts → Forms version (listed expr_text xs) calm (ArgsOf xs n)
+args_shown : {version : Version} {ts rest : List Terminal} {xs : List Expr} (d : IsArgs ts xs rest) (n : ℕ) → Low (args_nesting d n) → Sound version ts → Forms version (listed expr_text xs) calm (ArgsOf xs n)
 args_shown no_args n l s = weaken empty (no_args_made n)
 args_shown {version = version} (some_args {x = x} {xs = xs} d e) n l s =
     let first = expr_shown d n (low_front (expr_nesting d n) (more_args_nesting e n) l) s in
     let others = more_args_shown e n (low_back (expr_nesting d n) (more_args_nesting e n) l) (sound_after version (expr_eats d) s) in
     weaken (then_ first.expr others.form others.front) (args_made x xs n)
 
-call_made : (a : ℕ) (t : List ℕ) (xs : List Expr) (n : ℕ) → n ≤ 64 → suc n ≤ 64 → (us ts : List Token) →
+call_made : (a : ℕ) (t : List ℕ) (xs : List Expr) (n : ℕ) → n ≤ 64 → suc n ≤ 64 → (us ts : List Terminal) →
     Then (Then (Then (IsToken word.Name t) (IsToken word.Open (codes "("))) (ArgsOf xs (suc n))) (IsToken word.Close (codes ")")) us ts →
     CallOf (record { name = name_at a t; args = xs }) n us ts
 call_made a t xs n h k us ts (and_then (and_then (and_then (a_token {a = b}) a_token) d) a_token) =
@@ -101,7 +101,7 @@ call_made a t xs n h k us ts (and_then (and_then (and_then (a_token {a = b}) a_t
       low = (h, (k, low_append (args_nesting d.derived (suc n)) (n ∷ []) d.low (h, tt)));
     }
 
-pub call_shown : {version : Version} {ts rest : List Token} {c : CallText} (d : IsCall ts c rest) (n : ℕ) → Low (call_nesting d n) → Sound version ts → Forms version (call_text c) any (CallOf c n)
+pub call_shown : {version : Version} {ts rest : List Terminal} {c : CallText} (d : IsCall ts c rest) (n : ℕ) → Low (call_nesting d n) → Sound version ts → Forms version (call_text c) any (CallOf c n)
 call_shown (a_call {a = a} {t = t} {xs = xs} d) n l s =
     let args = args_shown d (suc n) (low_front (args_nesting d (suc n)) (n ∷ []) l.1.1) s.1.1 in
     weaken (then_ (then_ (then_ (name_form t s.0.word_is (s.0.modest.name refl)) opened (λ r h. refl)) args (λ r h. anything (listed expr_text xs ++ r))) closed (λ r h. refl))
@@ -109,25 +109,25 @@ call_shown (a_call {a = a} {t = t} {xs = xs} d) n l s =
 
 -- Right sides.
 
-pub record RightOf (r : Right) (n : ℕ) (us ts : List Token) : Type 0 where
+pub record RightOf (r : Right) (n : ℕ) (us ts : List Terminal) : Type 0 where
   pub tree : Right
   pub derived : IsRight us tree ts
   pub same : unplaced_right tree ≡ unplaced_right r
   pub low : Low (right_nesting derived n)
 
-value_made : (x : Expr) (n : ℕ) (us ts : List Token) → ExprOf x n us ts → RightOf (right.Value x) n us ts
+value_made : (x : Expr) (n : ℕ) (us ts : List Terminal) → ExprOf x n us ts → RightOf (right.Value x) n us ts
 value_made x n us ts d = record { tree = right.Value d.tree; derived = right_value d.derived; same = ap right.Value d.same; low = d.low n (omega arith) }
 
-draw_made : (a n : ℕ) → n ≤ 64 → (us ts : List Token) → IsToken word.Draw (codes "draw") us ts → RightOf (right.Draw a) n us ts
+draw_made : (a n : ℕ) → n ≤ 64 → (us ts : List Terminal) → IsToken word.Draw (codes "draw") us ts → RightOf (right.Draw a) n us ts
 draw_made a n h us ts (a_token {a = b}) = record { tree = right.Draw b; derived = right_draw; same = refl; low = (h, tt) }
 
-new_made : (a n : ℕ) → n ≤ 64 → (us ts : List Token) → IsToken word.New (codes "new") us ts → RightOf (right.New a) n us ts
+new_made : (a n : ℕ) → n ≤ 64 → (us ts : List Terminal) → IsToken word.New (codes "new") us ts → RightOf (right.New a) n us ts
 new_made a n h us ts (a_token {a = b}) = record { tree = right.New b; derived = right_new; same = refl; low = (h, tt) }
 
-right_call_made : (a : ℕ) (c : CallText) (n : ℕ) → n ≤ 64 → (us ts : List Token) → Then (IsToken word.Call (codes "call")) (CallOf c n) us ts → RightOf (right.Call a c) n us ts
+right_call_made : (a : ℕ) (c : CallText) (n : ℕ) → n ≤ 64 → (us ts : List Terminal) → Then (IsToken word.Call (codes "call")) (CallOf c n) us ts → RightOf (right.Call a c) n us ts
 right_call_made a c n h us ts (and_then (a_token {a = b}) d) = record { tree = right.Call b d.tree; derived = right_call d.derived; same = ap (right.Call 0) d.same; low = (h, d.low) }
 
-right_spawn_made : (a : ℕ) (c : CallText) (n : ℕ) → n ≤ 64 → (us ts : List Token) → Then (IsToken word.Spawn (codes "spawn")) (CallOf c n) us ts → RightOf (right.Spawn a c) n us ts
+right_spawn_made : (a : ℕ) (c : CallText) (n : ℕ) → n ≤ 64 → (us ts : List Terminal) → Then (IsToken word.Spawn (codes "spawn")) (CallOf c n) us ts → RightOf (right.Spawn a c) n us ts
 right_spawn_made a c n h us ts (and_then (a_token {a = b}) d) = record { tree = right.Spawn b d.tree; derived = right_spawn d.derived; same = ap (right.Spawn 0) d.same; low = (h, d.low) }
 
 call_word : {version : Version} → Forms version (codes "call ") any (IsToken word.Call (codes "call"))
@@ -136,7 +136,7 @@ call_word {version = version} = word_space word.Call (codes "call") refl (in_eac
 spawn_word : {version : Version} → Forms version (codes "spawn ") any (IsToken word.Spawn (codes "spawn"))
 spawn_word {version = version} = word_space word.Spawn (codes "spawn") refl (in_each version word.Spawn (codes "spawn") refl refl) refl
 
-right_shown : {version : Version} {ts rest : List Token} {r : Right} (d : IsRight ts r rest) (n : ℕ) → Low (right_nesting d n) → Sound version ts → Forms version (right_text r) calm (RightOf r n)
+right_shown : {version : Version} {ts rest : List Terminal} {r : Right} (d : IsRight ts r rest) (n : ℕ) → Low (right_nesting d n) → Sound version ts → Forms version (right_text r) calm (RightOf r n)
 right_shown (right_value {x = x} d) n l s = weaken (expr_shown d n l s).expr (value_made x n)
 right_shown {version = version} (right_draw {a = a}) n l s = weaken (keyword word.Draw (codes "draw") refl (in_each version word.Draw (codes "draw") refl refl) refl) (draw_made a n l.0)
 right_shown {version = version} (right_new {a = a}) n l s = weaken (keyword word.New (codes "new") refl (in_each version word.New (codes "new") refl refl) refl) (new_made a n l.0)
@@ -145,19 +145,19 @@ right_shown (right_spawn {a = a} {c = c} d) n l s = calmly (weaken (then_ spawn_
 
 -- Targets.
 
-pub record IntoOf (o : Option Name) (n : ℕ) (us ts : List Token) : Type 0 where
+pub record IntoOf (o : Option Name) (n : ℕ) (us ts : List Terminal) : Type 0 where
   pub tree : Option Name
   pub derived : IsInto us tree ts
   pub same : unplaced_target tree ≡ unplaced_target o
   pub low : Low (into_nesting derived n)
 
-no_into_made : (n : ℕ) (us ts : List Token) → IsNothing us ts → IntoOf None n us ts
+no_into_made : (n : ℕ) (us ts : List Terminal) → IsNothing us ts → IntoOf None n us ts
 no_into_made n us ts nothing = record { tree = None; derived = no_into; same = refl; low = tt }
 
-into_made : (a : ℕ) (t : List ℕ) (n : ℕ) → n ≤ 64 → (us ts : List Token) → Then (IsToken word.Into (codes "into")) (IsToken word.Name t) us ts → IntoOf (Some (name_at a t)) n us ts
+into_made : (a : ℕ) (t : List ℕ) (n : ℕ) → n ≤ 64 → (us ts : List Terminal) → Then (IsToken word.Into (codes "into")) (IsToken word.Name t) us ts → IntoOf (Some (name_at a t)) n us ts
 into_made a t n h us ts (and_then a_token (a_token {a = b})) = record { tree = Some (name_at b t); derived = an_into; same = refl; low = (h, (h, tt)) }
 
-into_shown : {version : Version} {ts rest : List Token} {o : Option Name} (d : IsInto ts o rest) (n : ℕ) → Low (into_nesting d n) → Sound version ts → Tail version (into_text o) (IntoOf o n)
+into_shown : {version : Version} {ts rest : List Terminal} {o : Option Name} (d : IsInto ts o rest) (n : ℕ) → Low (into_nesting d n) → Sound version ts → Tail version (into_text o) (IntoOf o n)
 into_shown no_into n l s = record { form = weaken empty (no_into_made n); front = λ r h. h }
 into_shown {version = version} (an_into {b = b} {u = u}) n l s =
     let name = s.1.0 in
@@ -168,25 +168,25 @@ into_shown {version = version} (an_into {b = b} {u = u}) n l s =
 
 -- Statements.
 
-pub record StmtOf (x : Stmt) (n : ℕ) (us ts : List Token) : Type 0 where
+pub record StmtOf (x : Stmt) (n : ℕ) (us ts : List Terminal) : Type 0 where
   pub tree : Stmt
   pub derived : IsStmt us tree ts
   pub same : unplaced_stmt tree ≡ unplaced_stmt x
   pub low : Low (stmt_nesting derived n)
 
-pub record StmtsOf (xs : List Stmt) (n : ℕ) (us ts : List Token) : Type 0 where
+pub record StmtsOf (xs : List Stmt) (n : ℕ) (us ts : List Terminal) : Type 0 where
   pub tree : List Stmt
   pub derived : IsStmts us tree ts
   pub same : map unplaced_stmt tree ≡ map unplaced_stmt xs
   pub low : Low (stmts_nesting derived n)
 
-pub record BlockOf (xs : List Stmt) (n : ℕ) (us ts : List Token) : Type 0 where
+pub record BlockOf (xs : List Stmt) (n : ℕ) (us ts : List Terminal) : Type 0 where
   pub tree : List Stmt
   pub derived : IsBlock us tree ts
   pub same : map unplaced_stmt tree ≡ map unplaced_stmt xs
   pub low : Low (block_nesting derived n)
 
-pub record ElseOf (xs : List Stmt) (n : ℕ) (us ts : List Token) : Type 0 where
+pub record ElseOf (xs : List Stmt) (n : ℕ) (us ts : List Terminal) : Type 0 where
   pub tree : List Stmt
   pub derived : IsElse us tree ts
   pub same : map unplaced_stmt tree ≡ map unplaced_stmt xs
@@ -201,7 +201,7 @@ assign = spaced_word word.Assign (codes "=") refl refl refl
 let_word : {version : Version} → Forms version (codes "let ") any (IsToken word.Let (codes "let"))
 let_word {version = version} = word_space word.Let (codes "let") refl (in_each version word.Let (codes "let") refl refl) refl
 
-let_made : (a b : ℕ) (t : List ℕ) (r : Right) (n : ℕ) → n ≤ 64 → (us ts : List Token) →
+let_made : (a b : ℕ) (t : List ℕ) (r : Right) (n : ℕ) → n ≤ 64 → (us ts : List Terminal) →
     Then (Then (Then (Then (IsToken word.Let (codes "let")) (IsToken word.Name t)) (IsToken word.Assign (codes "="))) (RightOf r n)) (IsToken word.Semicolon (codes ";")) us ts →
     StmtOf (stmt_at a (act.Let (name_at b t) r)) n us ts
 let_made a b t r n h us ts (and_then (and_then (and_then (and_then (a_token {a = c}) (a_token {a = e})) a_token) d) a_token) =
@@ -212,7 +212,7 @@ let_made a b t r n h us ts (and_then (and_then (and_then (and_then (a_token {a =
       low = (h, (h, (h, low_append (right_nesting d.derived n) (n ∷ []) d.low (h, tt))));
     }
 
-set_made : (a : ℕ) (t : List ℕ) (r : Right) (n : ℕ) → n ≤ 64 → (us ts : List Token) →
+set_made : (a : ℕ) (t : List ℕ) (r : Right) (n : ℕ) → n ≤ 64 → (us ts : List Terminal) →
     Then (Then (Then (IsToken word.Name t) (IsToken word.Assign (codes "="))) (RightOf r n)) (IsToken word.Semicolon (codes ";")) us ts →
     StmtOf (stmt_at a (act.Set (name_at a t) r)) n us ts
 set_made a t r n h us ts (and_then (and_then (and_then (a_token {a = c}) a_token) d) a_token) =
@@ -223,7 +223,7 @@ set_made a t r n h us ts (and_then (and_then (and_then (a_token {a = c}) a_token
       low = (h, (h, low_append (right_nesting d.derived n) (n ∷ []) d.low (h, tt)));
     }
 
-array_made : (a b c : ℕ) (t w : List ℕ) (n : ℕ) → n ≤ 64 → suc n ≤ 64 → decimal 0 w ≤ 9223372036854775807 → (us ts : List Token) →
+array_made : (a b c : ℕ) (t w : List ℕ) (n : ℕ) → n ≤ 64 → suc n ≤ 64 → decimal 0 w ≤ 9223372036854775807 → (us ts : List Terminal) →
     Then (Then (Then (Then (IsToken word.Let (codes "let")) (IsToken word.Name t)) (IsToken word.OpenItem (codes "["))) (IsToken word.Number (fmt.decimal (decimal 0 w))))
     (Then (IsToken word.CloseItem (codes "]")) (IsToken word.Semicolon (codes ";"))) us ts →
     StmtOf (stmt_at a (act.Array (name_at b t) (number_at c w))) n us ts
@@ -236,7 +236,7 @@ array_made a b c t w n h k small us ts (and_then (and_then (and_then (and_then (
       low = (h, (h, (k, (k, (h, (h, tt))))));
     }
 
-store_made : (a : ℕ) (t : List ℕ) (x y : Expr) (n : ℕ) → n ≤ 64 → suc n ≤ 64 → (us ts : List Token) →
+store_made : (a : ℕ) (t : List ℕ) (x y : Expr) (n : ℕ) → n ≤ 64 → suc n ≤ 64 → (us ts : List Terminal) →
     Then (Then (Then (Then (Then (IsToken word.Name t) (IsToken word.OpenItem (codes "["))) (ExprOf x (suc n))) (Then (IsToken word.CloseItem (codes "]")) (IsToken word.Assign (codes "=")))) (ExprOf y n)) (IsToken word.Semicolon (codes ";")) us ts →
     StmtOf (stmt_at a (act.Store (name_at a t) x y)) n us ts
 store_made a t x y n h k us ts (and_then (and_then (and_then (and_then (and_then (a_token {a = c}) a_token) d) (and_then a_token a_token)) e) a_token) =
@@ -254,7 +254,7 @@ store_made a t x y n h k us ts (and_then (and_then (and_then (and_then (and_then
       );
     }
 
-spawn_made : (a : ℕ) (c : CallText) (n : ℕ) → n ≤ 64 → (us ts : List Token) → Then (Then (IsToken word.Spawn (codes "spawn")) (CallOf c n)) (IsToken word.Semicolon (codes ";")) us ts → StmtOf (stmt_at a (act.Spawn c)) n us ts
+spawn_made : (a : ℕ) (c : CallText) (n : ℕ) → n ≤ 64 → (us ts : List Terminal) → Then (Then (IsToken word.Spawn (codes "spawn")) (CallOf c n)) (IsToken word.Semicolon (codes ";")) us ts → StmtOf (stmt_at a (act.Spawn c)) n us ts
 spawn_made a c n h us ts (and_then (and_then (a_token {a = b}) d) a_token) =
     record {
       tree = stmt_at b (act.Spawn d.tree);
@@ -263,7 +263,7 @@ spawn_made a c n h us ts (and_then (and_then (a_token {a = b}) d) a_token) =
       low = (h, low_append (call_nesting d.derived n) (n ∷ []) d.low (h, tt));
     }
 
-call_stmt_made : (a : ℕ) (c : CallText) (n : ℕ) → n ≤ 64 → (us ts : List Token) → Then (Then (IsToken word.Call (codes "call")) (CallOf c n)) (IsToken word.Semicolon (codes ";")) us ts → StmtOf (stmt_at a (act.Call c)) n us ts
+call_stmt_made : (a : ℕ) (c : CallText) (n : ℕ) → n ≤ 64 → (us ts : List Terminal) → Then (Then (IsToken word.Call (codes "call")) (CallOf c n)) (IsToken word.Semicolon (codes ";")) us ts → StmtOf (stmt_at a (act.Call c)) n us ts
 call_stmt_made a c n h us ts (and_then (and_then (a_token {a = b}) d) a_token) =
     record {
       tree = stmt_at b (act.Call d.tree);
@@ -272,10 +272,10 @@ call_stmt_made a c n h us ts (and_then (and_then (a_token {a = b}) d) a_token) =
       low = (h, low_append (call_nesting d.derived n) (n ∷ []) d.low (h, tt));
     }
 
-sync_made : (a n : ℕ) → n ≤ 64 → (us ts : List Token) → Then (IsToken word.Sync (codes "sync")) (IsToken word.Semicolon (codes ";")) us ts → StmtOf (stmt_at a act.Sync) n us ts
+sync_made : (a n : ℕ) → n ≤ 64 → (us ts : List Terminal) → Then (IsToken word.Sync (codes "sync")) (IsToken word.Semicolon (codes ";")) us ts → StmtOf (stmt_at a act.Sync) n us ts
 sync_made a n h us ts (and_then (a_token {a = b}) a_token) = record { tree = stmt_at b act.Sync; derived = a_sync; same = same_stmt b a act.Sync act.Sync refl; low = (h, (h, tt)) }
 
-print_made : (a : ℕ) (x : Expr) (n : ℕ) → n ≤ 64 → (us ts : List Token) → Then (Then (IsToken word.Print (codes "print")) (ExprOf x n)) (IsToken word.Semicolon (codes ";")) us ts → StmtOf (stmt_at a (act.Print x)) n us ts
+print_made : (a : ℕ) (x : Expr) (n : ℕ) → n ≤ 64 → (us ts : List Terminal) → Then (Then (IsToken word.Print (codes "print")) (ExprOf x n)) (IsToken word.Semicolon (codes ";")) us ts → StmtOf (stmt_at a (act.Print x)) n us ts
 print_made a x n h us ts (and_then (and_then (a_token {a = b}) d) a_token) =
     record {
       tree = stmt_at b (act.Print d.tree);
@@ -284,7 +284,7 @@ print_made a x n h us ts (and_then (and_then (a_token {a = b}) d) a_token) =
       low = (h, low_append (expr_nesting d.derived n) (n ∷ []) (d.low n (omega arith)) (h, tt));
     }
 
-if_made : (a : ℕ) (x : Expr) (p q : List Stmt) (n : ℕ) → n ≤ 64 → (us ts : List Token) → Then (Then (Then (Then (IsToken word.If (codes "if")) (ExprOf x n)) IsNothing) (BlockOf p n)) (ElseOf q n) us ts → StmtOf (stmt_at a (act.If x p q)) n us ts
+if_made : (a : ℕ) (x : Expr) (p q : List Stmt) (n : ℕ) → n ≤ 64 → (us ts : List Terminal) → Then (Then (Then (Then (IsToken word.If (codes "if")) (ExprOf x n)) IsNothing) (BlockOf p n)) (ElseOf q n) us ts → StmtOf (stmt_at a (act.If x p q)) n us ts
 if_made a x p q n h us ts (and_then (and_then (and_then (and_then (a_token {a = b}) d) nothing) e) f) =
     record {
       tree = stmt_at b (act.If d.tree e.tree f.tree);
@@ -293,7 +293,7 @@ if_made a x p q n h us ts (and_then (and_then (and_then (and_then (a_token {a = 
       low = (h, low_append (expr_nesting d.derived n) (block_nesting e.derived n ++ else_nesting f.derived n) (d.low n (omega arith)) (low_append (block_nesting e.derived n) (else_nesting f.derived n) e.low f.low));
     }
 
-while_made : (a : ℕ) (x : Expr) (p : List Stmt) (n : ℕ) → n ≤ 64 → (us ts : List Token) → Then (Then (Then (IsToken word.While (codes "while")) (ExprOf x n)) IsNothing) (BlockOf p n) us ts → StmtOf (stmt_at a (act.While x p)) n us ts
+while_made : (a : ℕ) (x : Expr) (p : List Stmt) (n : ℕ) → n ≤ 64 → (us ts : List Terminal) → Then (Then (Then (IsToken word.While (codes "while")) (ExprOf x n)) IsNothing) (BlockOf p n) us ts → StmtOf (stmt_at a (act.While x p)) n us ts
 while_made a x p n h us ts (and_then (and_then (and_then (a_token {a = b}) d) nothing) e) =
     record {
       tree = stmt_at b (act.While d.tree e.tree);
@@ -307,7 +307,7 @@ scope_is : (version : Version) (text : List ℕ) → word_of version text ≡ So
 scope_is One text e = let other : not (is_scope word.Scope) ≡ true = token_other text word.Scope e in absurd cc
 scope_is Two text e = refl
 
-scope_made : (a : ℕ) (p : List Stmt) (n : ℕ) → n ≤ 64 → (us ts : List Token) → Then (IsToken word.Scope (codes "scope")) (BlockOf p n) us ts → StmtOf (stmt_at a (act.Scope p)) n us ts
+scope_made : (a : ℕ) (p : List Stmt) (n : ℕ) → n ≤ 64 → (us ts : List Terminal) → Then (IsToken word.Scope (codes "scope")) (BlockOf p n) us ts → StmtOf (stmt_at a (act.Scope p)) n us ts
 scope_made a p n h us ts (and_then (a_token {a = b}) d) =
     record {
       tree = stmt_at b (act.Scope d.tree);
@@ -317,15 +317,15 @@ scope_made a p n h us ts (and_then (a_token {a = b}) d) =
     }
 
 -- `pfor i in E..E`, and ` call f(i, ..);`
-abbrev RangeOf : (t : List ℕ) (x y : Expr) (n : ℕ) → List Token → List Token → Type 0
+abbrev RangeOf : (t : List ℕ) (x y : Expr) (n : ℕ) → List Terminal → List Terminal → Type 0
 RangeOf t x y n = Then (Then (Then (Then (Then (IsToken word.Pfor (codes "pfor")) (IsToken word.Name t)) (IsToken word.In (codes "in"))) (ExprOf x n)) (IsToken word.Range (codes ".."))) (ExprOf y n)
 
-abbrev LoopCallOf : (t f : List ℕ) (xs : List Expr) (n : ℕ) → List Token → List Token → Type 0
+abbrev LoopCallOf : (t f : List ℕ) (xs : List Expr) (n : ℕ) → List Terminal → List Terminal → Type 0
 LoopCallOf t f xs n =
     Then (Then (Then (Then (Then (IsToken word.Call (codes "call")) (IsToken word.Name f)) (IsToken word.Open (codes "("))) (IsToken word.Name t)) (MoreArgsOf xs (suc n)))
     (Then (IsToken word.Close (codes ")")) (IsToken word.Semicolon (codes ";")))
 
-pfor_made : (a b c : ℕ) (t f : List ℕ) (x y : Expr) (o : Option Name) (xs : List Expr) (n : ℕ) → n ≤ 64 → suc n ≤ 64 → (us ts : List Token) →
+pfor_made : (a b c : ℕ) (t f : List ℕ) (x y : Expr) (o : Option Name) (xs : List Expr) (n : ℕ) → n ≤ 64 → suc n ≤ 64 → (us ts : List Terminal) →
     Then (Then (RangeOf t x y n) (IntoOf o n)) (LoopCallOf t f xs n) us ts → StmtOf (stmt_at a (act.Pfor (name_at b t) x y o (record { name = name_at c f; args = xs }))) n us ts
 pfor_made a b c t f x y o xs n h k us ts
     (and_then (and_then (and_then (and_then (and_then (and_then (and_then (a_token {a = i}) (a_token {a = j})) a_token) d) a_token) e) g)
@@ -356,13 +356,13 @@ open_block = weaken (then_ (symbol word.OpenBlock (codes "{") refl refl (λ b. r
 pub close_block : {version : Version} → Forms version (codes "}") any (IsToken word.CloseBlock (codes "}"))
 close_block = symbol word.CloseBlock (codes "}") refl refl (λ b. refl)
 
-pub blanks_after : (us ts : List Token) → Then IsNothing IsNothing us ts → IsNothing us ts
+pub blanks_after : (us ts : List Terminal) → Then IsNothing IsNothing us ts → IsNothing us ts
 blanks_after us ts (and_then nothing nothing) = nothing
 
 pub two_spaces : {version : Version} → Forms version (codes "  ") any IsNothing
 two_spaces = weaken (then_ (a_blank 32 refl) (a_blank 32 refl) (λ r h. refl)) blanks_after
 
-line_made : (x : Stmt) (n : ℕ) (us ts : List Token) → Then (Then IsNothing (StmtOf x n)) IsNothing us ts → StmtOf x n us ts
+line_made : (x : Stmt) (n : ℕ) (us ts : List Terminal) → Then (Then IsNothing (StmtOf x n)) IsNothing us ts → StmtOf x n us ts
 line_made x n us ts (and_then (and_then nothing d) nothing) = d
 
 -- a line of a statement
@@ -375,10 +375,10 @@ line {version = version} place x n margin m d =
 lined : {version : Version} (place : ℕ) (x : Act) (n : ℕ) (margin text : List ℕ) → Forms version margin any IsNothing → act_text x margin ≡ text → Forms version text any (StmtOf (stmt_at place x) n) → Forms version (stmt_text (stmt_at place x) margin) any (StmtOf (stmt_at place x) n)
 lined {version = version} place x n margin text m e d = line place x n margin m (subst (λ z. Forms version z any (StmtOf (stmt_at place x) n)) (sym e) d)
 
-no_stmts_made : (n : ℕ) (us ts : List Token) → IsNothing us ts → StmtsOf [] n us ts
+no_stmts_made : (n : ℕ) (us ts : List Terminal) → IsNothing us ts → StmtsOf [] n us ts
 no_stmts_made n us ts nothing = record { tree = []; derived = no_stmts; same = refl; low = tt }
 
-stmts_made : (x : Stmt) (xs : List Stmt) (n : ℕ) (us ts : List Token) → Then (StmtOf x n) (StmtsOf xs n) us ts → StmtsOf (x ∷ xs) n us ts
+stmts_made : (x : Stmt) (xs : List Stmt) (n : ℕ) (us ts : List Terminal) → Then (StmtOf x n) (StmtsOf xs n) us ts → StmtsOf (x ∷ xs) n us ts
 stmts_made x xs n us ts (and_then d e) =
     record {
       tree = d.tree ∷ e.tree;
@@ -387,7 +387,7 @@ stmts_made x xs n us ts (and_then d e) =
       low = low_append (stmt_nesting d.derived n) (stmts_nesting e.derived n) d.low e.low;
     }
 
-block_made : (xs : List Stmt) (n : ℕ) → n ≤ 64 → suc n ≤ 64 → (us ts : List Token) → Then (Then (Then (IsToken word.OpenBlock (codes "{")) (StmtsOf xs (suc n))) IsNothing) (IsToken word.CloseBlock (codes "}")) us ts → BlockOf xs n us ts
+block_made : (xs : List Stmt) (n : ℕ) → n ≤ 64 → suc n ≤ 64 → (us ts : List Terminal) → Then (Then (Then (IsToken word.OpenBlock (codes "{")) (StmtsOf xs (suc n))) IsNothing) (IsToken word.CloseBlock (codes "}")) us ts → BlockOf xs n us ts
 block_made xs n h k us ts (and_then (and_then (and_then a_token d) nothing) a_token) =
     record {
       tree = d.tree;
@@ -396,10 +396,10 @@ block_made xs n h k us ts (and_then (and_then (and_then a_token d) nothing) a_to
       low = (k, low_append (stmts_nesting d.derived (suc n)) (n ∷ []) d.low (h, tt));
     }
 
-no_else_made : (n : ℕ) (us ts : List Token) → IsNothing us ts → ElseOf [] n us ts
+no_else_made : (n : ℕ) (us ts : List Terminal) → IsNothing us ts → ElseOf [] n us ts
 no_else_made n us ts nothing = record { tree = []; derived = no_else; same = refl; low = tt }
 
-else_made : (xs : List Stmt) (n : ℕ) → n ≤ 64 → (us ts : List Token) → Then (IsToken word.Else (codes "else")) (BlockOf xs n) us ts → ElseOf xs n us ts
+else_made : (xs : List Stmt) (n : ℕ) → n ≤ 64 → (us ts : List Terminal) → Then (IsToken word.Else (codes "else")) (BlockOf xs n) us ts → ElseOf xs n us ts
 else_made xs n h us ts (and_then a_token d) = record { tree = d.tree; derived = an_else d.derived; same = d.same; low = (h, d.low) }
 
 -- an empty second block isn't written
@@ -420,7 +420,7 @@ loop_call_form {version = version} t f xs n name called args =
     args.form args.front) (then_ closed semicolon (λ r h. refl)) (λ r h. refl)
 
 mutual
-  pub stmt_shown : {version : Version} {ts rest : List Token} {x : Stmt} (d : IsStmt ts x rest) (n : ℕ) → Low (stmt_nesting d n) → Sound version ts → (margin : List ℕ) → Forms version margin any IsNothing → Forms version (stmt_text x margin) any (StmtOf x n)
+  pub stmt_shown : {version : Version} {ts rest : List Terminal} {x : Stmt} (d : IsStmt ts x rest) (n : ℕ) → Low (stmt_nesting d n) → Sound version ts → (margin : List ℕ) → Forms version margin any IsNothing → Forms version (stmt_text x margin) any (StmtOf x n)
   stmt_shown (a_let {a = a} {b = b} {u = u} {r = r} d) n l s margin m =
       let name = s.1.0 in
       let value = right_shown d n (low_front (right_nesting d n) (n ∷ []) l.1.1.1) s.1.1.1 in
@@ -501,14 +501,14 @@ mutual
       (weaken (then_ (then_ (range_form t lo hi n name first end) target.form target.front) (loop_call_form t f' xs n name called args) (λ r h. refl))
       (pfor_made a b f t f' lo hi o xs n l.0 after_into.1.1.0))
 
-  pub stmts_shown : {version : Version} {ts rest : List Token} {xs : List Stmt} (d : IsStmts ts xs rest) (n : ℕ) → Low (stmts_nesting d n) → Sound version ts → (margin : List ℕ) → Forms version margin any IsNothing → Forms version (stmts_text xs margin) any (StmtsOf xs n)
+  pub stmts_shown : {version : Version} {ts rest : List Terminal} {xs : List Stmt} (d : IsStmts ts xs rest) (n : ℕ) → Low (stmts_nesting d n) → Sound version ts → (margin : List ℕ) → Forms version margin any IsNothing → Forms version (stmts_text xs margin) any (StmtsOf xs n)
   stmts_shown no_stmts n l s margin m = weaken empty (no_stmts_made n)
   stmts_shown {version = version} (one_stmt {x = x} {xs = xs} d e) n l s margin m =
       let first = stmt_shown d n (low_front (stmt_nesting d n) (stmts_nesting e n) l) s margin m in
       let others = stmts_shown e n (low_back (stmt_nesting d n) (stmts_nesting e n) l) (sound_after version (stmt_eats d) s) margin m in
       weaken (then_ first others (λ r h. anything (stmts_text xs margin ++ r))) (stmts_made x xs n)
 
-  pub block_shown : {version : Version} {ts rest : List Token} {xs : List Stmt} (d : IsBlock ts xs rest) (n : ℕ) → Low (block_nesting d n) → Sound version ts → (margin : List ℕ) → Forms version margin any IsNothing → Forms version (block_text (map stmt_text xs) margin) any (BlockOf xs n)
+  pub block_shown : {version : Version} {ts rest : List Terminal} {xs : List Stmt} (d : IsBlock ts xs rest) (n : ℕ) → Low (block_nesting d n) → Sound version ts → (margin : List ℕ) → Forms version margin any IsNothing → Forms version (block_text (map stmt_text xs) margin) any (BlockOf xs n)
   block_shown {version = version} (a_block {xs = xs} d) n l s margin m =
       let deeper : Forms version (margin ++ codes "  ") any IsNothing = weaken (then_ m two_spaces (λ r h. anything (codes "  " ++ r))) blanks_after in
       let stmts = stmts_shown d (suc n) (low_front (stmts_nesting d (suc n)) (n ∷ []) l.1) s.1 (margin ++ codes "  ") deeper in
@@ -516,6 +516,6 @@ mutual
       subst (λ z. Forms version z any (BlockOf xs n)) (sym (block_text-stmts xs margin))
       (weaken (then_ (then_ (then_ open_block stmts (λ r h. anything (stmts_text xs (margin ++ codes "  ") ++ r))) m (λ r h. anything (margin ++ r))) close_block (λ r h. refl)) (block_made xs n end.0 l.0))
 
-  pub else_shown : {version : Version} {ts rest : List Token} {xs : List Stmt} (d : IsElse ts xs rest) (n : ℕ) → Low (else_nesting d n) → Sound version ts → (margin : List ℕ) → Forms version margin any IsNothing → Forms version (else_text (map stmt_text xs) margin) any (ElseOf xs n)
+  pub else_shown : {version : Version} {ts rest : List Terminal} {xs : List Stmt} (d : IsElse ts xs rest) (n : ℕ) → Low (else_nesting d n) → Sound version ts → (margin : List ℕ) → Forms version margin any IsNothing → Forms version (else_text (map stmt_text xs) margin) any (ElseOf xs n)
   else_shown no_else n l s margin m = weaken empty (no_else_made n)
   else_shown (an_else {xs = xs} d) n l s margin m = else_of_block xs n margin l.0 (block_shown d n l.1 s.1 margin m)

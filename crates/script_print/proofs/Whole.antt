@@ -16,7 +16,7 @@ use Rattle.script_tokens.proofs.Versions.{begins_in}
 use Rattle.script_grammar.proofs.Versions.{are_of_cut}
 use Rattle.script_grammar.specs.declared.tree.Function.{Function}
 use Rattle.script_grammar.specs.declared.tree.Script.{Script}
-use Rattle.script_grammar.specs.Grammar.{Token, tok, decimal, IsFunctions, IsScript, AreOf}
+use Rattle.script_grammar.specs.Grammar.{Terminal, tok, decimal, IsFunctions, IsScript, AreOf}
 use Rattle.script_grammar.specs.Nesting.{functions_nesting}
 use Rattle.script_grammar.specs.Fault.{is_fn, functions_begun, NestsAt, BreaksLimit, number_out_of_range, name_too_long, nested_too_deep, too_many_functions, WithinAfter, IsProgram}
 use Rattle.script_grammar.specs.Text.{token_of, tokens_of, Text, IsOfText}
@@ -30,26 +30,26 @@ use Rattle.script_print.proofs.Functions.{FunctionsOf, functions_shown}
 use Rattle.script_print.proofs.Scan.{ScanState, effect, nested, step, scan, start, script_scanned}
 
 -- The state after these tokens.
-abbrev after : ScanState → List Token → ScanState
+abbrev after : ScanState → List Terminal → ScanState
 after s [] = s
 after s (t ∷ ts) = after (step (effect t.word) s) ts
 
-after-more : (s : ScanState) (before : List Token) (t : Token) → after s (before ++ t ∷ []) ≡ step (effect t.word) (after s before)
+after-more : (s : ScanState) (before : List Terminal) (t : Terminal) → after s (before ++ t ∷ []) ≡ step (effect t.word) (after s before)
 after-more s [] t = refl
 after-more s (b ∷ bs) t = after-more (step (effect b.word) s) bs t
 
 -- the nesting at a token is told by those before it
-scan_at : (s : ScanState) (before : List Token) (t : Token) (more : List Token) → slice_get (scan s (before ++ t ∷ more)) (length before) ≡ Some (nested (effect t.word) (after s before))
+scan_at : (s : ScanState) (before : List Terminal) (t : Terminal) (more : List Terminal) → slice_get (scan s (before ++ t ∷ more)) (length before) ≡ Some (nested (effect t.word) (after s before))
 scan_at s [] t more = refl
 scan_at s (b ∷ bs) t more = scan_at (step (effect b.word) s) bs t more
 
-nested_there : (before : List Token) (t : Token) (more : List Token) (fs : List Function) (d : IsScript (before ++ t ∷ more) fs) →
+nested_there : (before : List Terminal) (t : Terminal) (more : List Terminal) (fs : List Function) (d : IsScript (before ++ t ∷ more) fs) →
     slice_get (functions_nesting d 0) (length before) ≡ Some (nested (effect t.word) (after start before))
 nested_there before t more fs d = ap (λ z. slice_get z (length before)) (script_scanned d) ∙ scan_at start before t more
 
 -- Of a program the nestings are within the limit, and it begins no more functions than it may.
 
-low_after : (version : Version) (before ts : List Token) (fs : List Function) → AreOf version (before ++ ts) → IsScript (before ++ ts) fs → WithinAfter version before ts → Low (scan (after start before) ts)
+low_after : (version : Version) (before ts : List Terminal) (fs : List Function) → AreOf version (before ++ ts) → IsScript (before ++ ts) fs → WithinAfter version before ts → Low (scan (after start before) ts)
 low_after version before [] fs of d w = tt
 low_after version before (t ∷ ts) fs of d w =
     let n : ℕ = nested (effect t.word) (after start before) in
@@ -62,7 +62,7 @@ low_after version before (t ∷ ts) fs of d w =
     go (inl h) is = absurd (w.0 5 (nested_too_deep is h))
     go (inr h) is = h
 
-begun-append : (before : List Token) (ts : List Token) → functions_begun (before ++ ts) ≡ functions_begun before + functions_begun ts
+begun-append : (before : List Terminal) (ts : List Terminal) → functions_begun (before ++ ts) ≡ functions_begun before + functions_begun ts
 begun-append [] ts = omega arith
 begun-append (b ∷ bs) ts = go (is_fn b.word) (begun-append bs ts)
   where
@@ -75,7 +75,7 @@ is_fn_word : (w : Word) → is_fn w ≡ true → w ≡ word.Fn
 is_fn_word word.Fn e = refl
 is_fn_word _ e = absurd cc
 
-few_functions : (version : Version) (before ts : List Token) → functions_begun before ≤ 1024 → WithinAfter version before ts → functions_begun (before ++ ts) ≤ 1024
+few_functions : (version : Version) (before ts : List Terminal) → functions_begun before ≤ 1024 → WithinAfter version before ts → functions_begun (before ++ ts) ≤ 1024
 few_functions version before [] h w = subst (λ z. functions_begun z ≤ 1024) (sym (append-nil before)) h
 few_functions version before (t ∷ ts) h w =
     subst (λ z. functions_begun z ≤ 1024) (append_assoc before (t ∷ []) ts)
@@ -89,7 +89,7 @@ few_functions version before (t ∷ ts) h w =
         go (inr k) = absurd (w.0 7 (too_many_functions (is_fn_word t.word e) k))
     here false e = omega arith
 
-modest_after : (version : Version) (before : List Token) (t : Token) → ((n : ℕ) → BreaksLimit version before t n → ⊥) → IsModest t
+modest_after : (version : Version) (before : List Terminal) (t : Terminal) → ((n : ℕ) → BreaksLimit version before t n → ⊥) → IsModest t
 modest_after version before t w = record { number = λ e. number (cases_lt 9223372036854775807 (decimal 0 t.text)) e; name = λ e. name (cases_lt 32 (length t.text)) e }
   where
     number : (9223372036854775807 < decimal 0 t.text) ⊎ (decimal 0 t.text ≤ 9223372036854775807) → t.word ≡ word.Number → decimal 0 t.text ≤ 9223372036854775807
@@ -100,7 +100,7 @@ modest_after version before t w = record { number = λ e. number (cases_lt 92233
     name (inl h) e = absurd (w 4 (name_too_long e h))
     name (inr h) e = h
 
-sound_tokens : (version : Version) (bytes : List ℕ) (before : List Token) (ls : List Lexeme) → All (λ l. word_of version (text_of bytes l) ≡ Some l.word) ls → WithinAfter version before (tokens_of bytes ls) → Sound version (tokens_of bytes ls)
+sound_tokens : (version : Version) (bytes : List ℕ) (before : List Terminal) (ls : List Lexeme) → All (λ l. word_of version (text_of bytes l) ≡ Some l.word) ls → WithinAfter version before (tokens_of bytes ls) → Sound version (tokens_of bytes ls)
 sound_tokens version bytes before [] h w = tt
 sound_tokens version bytes before (l ∷ ls) h w = (
   record { word_is = h 0 l (omega arith); modest = modest_after version before (token_of bytes l) w.0 },
@@ -112,7 +112,7 @@ sound_tokens version bytes before (l ∷ ls) h w = (
 same_some : {m n : ℕ} → ◌≡◌ {A = Option ℕ} (Some m) (Some n) → m ≡ n
 same_some e = cc
 
-none_breaks : (version : Version) (before : List Token) (t : Token) (n : ℕ) → IsModest t → nested (effect t.word) (after start before) ≤ 64 → functions_begun before + functions_begun (t ∷ []) ≤ 1024 → BreaksLimit version before t n → ⊥
+none_breaks : (version : Version) (before : List Terminal) (t : Terminal) (n : ℕ) → IsModest t → nested (effect t.word) (after start before) ≤ 64 → functions_begun before + functions_begun (t ∷ []) ≤ 1024 → BreaksLimit version before t n → ⊥
 none_breaks version before t n m low few (number_out_of_range e h) = omega (arith, m.number e, h)
 none_breaks version before t n m low few (name_too_long e h) = omega (arith, m.name e, h)
 none_breaks version before t n m low few (nested_too_deep {n = k} (more, fs, of, d, e) h) =
@@ -122,7 +122,7 @@ none_breaks version before t n m low few (too_many_functions e h) =
     let one : functions_begun (t ∷ []) ≡ 1 = ap (λ w. if is_fn w then 1 else 0) e in
     omega (arith, few, one, h)
 
-within_after : (version : Version) (before ts : List Token) → Modest ts → Low (scan (after start before) ts) → functions_begun (before ++ ts) ≤ 1024 → WithinAfter version before ts
+within_after : (version : Version) (before ts : List Terminal) → Modest ts → Low (scan (after start before) ts) → functions_begun (before ++ ts) ≤ 1024 → WithinAfter version before ts
 within_after version before [] m low few = tt
 within_after version before (t ∷ ts) m low few =
     let all : functions_begun ((before ++ t ∷ []) ++ ts) ≤ 1024 = subst (λ z. functions_begun z ≤ 1024) (sym (append_assoc before (t ∷ []) ts)) few in
@@ -138,7 +138,7 @@ count_same (f ∷ fs) [] e = absurd cc
 count_same (f ∷ fs) (g ∷ gs) e = let after : map unplaced_function fs ≡ map unplaced_function gs = cc in ap suc (count_same fs gs after)
 
 -- the tokens of the canonical text, and what they derive
-program_of : (version : Version) (fs gs : List Function) (us : List Token) (d : IsScript us gs) → AreOf version us → Low (functions_nesting d 0) → map unplaced_function gs ≡ map unplaced_function fs → Modest us → length fs ≤ 1024 → IsProgram version us gs
+program_of : (version : Version) (fs gs : List Function) (us : List Terminal) (d : IsScript us gs) → AreOf version us → Low (functions_nesting d 0) → map unplaced_function gs ≡ map unplaced_function fs → Modest us → length fs ≤ 1024 → IsProgram version us gs
 program_of version fs gs us d of low same modest few = record {
   of_version = of;
   derives = d;
@@ -166,7 +166,7 @@ canonical_is_text script o =
     let version = script.version in
     let bytes = o.bytes in
     let ls = o.text.lexemes in
-    let ts : List Token = tokens_of bytes ls in
+    let ts : List Terminal = tokens_of bytes ls in
     let text = flat_map function_text script.functions in
     let d : IsScript ts script.functions = o.text.program.derives in
     let within : WithinAfter version [] ts = o.text.program.within in

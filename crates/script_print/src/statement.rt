@@ -162,7 +162,7 @@ fn write_guard(head: &[u8], guard: &Expr, text: &mut Vec<u8>) -> Result<(), Memo
 }
 
 // The margin inside a block.
-fn deeper(alloc: Global, margin: &[u8]) -> Result<Vec<u8>, Memory>
+fn inner_margin(alloc: Global, margin: &[u8]) -> Result<Vec<u8>, Memory>
     ensures { IfOk result (λ inner. inner.items ≡ margin.now ++ codes "  ") }
 {
     let mut inner = Vec::from_slice(alloc, margin)?;
@@ -200,7 +200,7 @@ fn write_block(
     ensures { OnOk result (text.new.items ≡ text.old.items ++ block_text (map stmt_text block.now) margin.now) }
 {
     text.extend_from_slice(b"{\n")?;
-    write_stmts(alloc, block, &deeper(alloc, margin)?, text)?;
+    write_stmts(alloc, block, &inner_margin(alloc, margin)?, text)?;
     text.extend_from_slice(margin)?;
     text.push(b'}')?;
     Ok(())

@@ -4,7 +4,7 @@ use Rattle.std.specs.List.{list_all}
 use Rattle.script_tokens.specs.Lexing.{is_blank, gap_length}
 use Rattle.script_grammar.specs.declared.tree.Function.{Function}
 use Rattle.script_grammar.specs.declared.tree.Script.{Script}
-use Rattle.script_grammar.specs.Grammar.{Token, IsScript}
+use Rattle.script_grammar.specs.Grammar.{Terminal, IsScript}
 use Rattle.script_grammar.specs.Nesting.{functions_nesting}
 use Rattle.script_grammar.specs.Text.{Text, SyntaxFault}
 use Rattle.script_text.specs.Faults.{IsFirstFault}
@@ -59,4 +59,4 @@ GapsAreBlanksAndComments =
 -- The nesting at each token of a script counts what is open there: after the token the machine still expects so many closing brackets and
 -- ends of a unary minus's operand (`depth`). After the last one it expects nothing that has to come.
 abbrev pub NestingCountsOpen : Type 0
-NestingCountsOpen = (tokens : List Token) (fs : List Function) → (d : IsScript tokens fs) → nestings tokens (functions ∷ []) ≡ Some (functions_nesting d 0, functions ∷ [])
+NestingCountsOpen = (tokens : List Terminal) (fs : List Function) → (d : IsScript tokens fs) → nestings tokens (functions ∷ []) ≡ Some (functions_nesting d 0, functions ∷ [])

@@ -9,7 +9,7 @@ use Rattle.script_tokens.specs.declared.token.Word.{Word}
 use Rattle.script_tokens.specs.declared.token.Word.TheVariants as word
 use Rattle.script_tokens.specs.declared.lexing.LexEnd.{LexEnd}
 use Rattle.script_tokens.specs.declared.lexing.LexEnd.TheVariants.{End, NotAscii, NoToken}
-use Rattle.script_grammar.specs.Grammar.{Token, decimal}
+use Rattle.script_grammar.specs.Grammar.{Terminal, decimal}
 use Rattle.script_grammar.specs.Fault.{is_fn, TextEnd}
 use Rattle.script_grammar.specs.FaultNumbers as fault
 
@@ -202,9 +202,9 @@ abbrev pub consume : Word → List ℕ → List Sym → Option (List Sym)
 consume w text [] = None
 consume w text (a ∷ s) = choose (find_rule w text (rules a)) (is_empty a) s (consume w text s)
 
-abbrev pub run : List Token → List Sym → Option (List Sym)
-run [] s = Some s
-run (t ∷ ts) s = option_and_then (run ts) (consume t.word t.text s)
+abbrev pub consume_all : List Terminal → List Sym → Option (List Sym)
+consume_all [] s = Some s
+consume_all (t ∷ ts) s = option_and_then (consume_all ts) (consume t.word t.text s)
 
 abbrev pub all_empty : List Sym → Bool
 all_empty [] = true
@@ -228,7 +228,7 @@ onward None go = None
 onward (Some s) go = option_and_then (λ p. Some (nesting s ∷ p.0, p.1)) (go s)
 
 -- the nesting after each token, and the stack in the end
-abbrev pub nestings : List Token → List Sym → Nestings
+abbrev pub nestings : List Terminal → List Sym → Nestings
 nestings [] s = Some ([], s)
 nestings (t ∷ ts) s = onward (consume t.word t.text s) (nestings ts)
 
@@ -237,7 +237,7 @@ abbrev pub PlacedFault : Type 0
 PlacedFault = ℕ × ℕ
 
 -- the limit that a token breaks where it may come, with n functions before, and nested d deep
-abbrev pub broken : ℕ → Token → ℕ → Option ℕ
+abbrev pub broken : ℕ → Terminal → ℕ → Option ℕ
 broken n t d =
     if same_word t.word word.Number && nat_lt 9223372036854775807 (decimal 0 t.text) then Some fault.number_out_of_range
     else if same_word t.word word.Name && nat_lt 32 (length t.text) then Some fault.name_too_long
@@ -249,7 +249,7 @@ abbrev pub unless_broken : Option ℕ → ℕ → Option PlacedFault → Option 
 unless_broken None at o = o
 unless_broken (Some k) at o = Some (k, at)
 
-abbrev pub verdict : ℕ → Token → Option (List Sym) → (List Sym → Option PlacedFault) → Option PlacedFault
+abbrev pub verdict : ℕ → Terminal → Option (List Sym) → (List Sym → Option PlacedFault) → Option PlacedFault
 verdict n t None go = Some (fault.unexpected_token, t.at)
 verdict n t (Some s) go = unless_broken (broken n t (nesting s)) t.at (go s)
 
@@ -259,10 +259,10 @@ at_stop end (NotAscii place) s = Some (fault.not_ascii, place)
 at_stop end (NoToken place) s = Some (fault.unexpected_token, place)
 
 -- how many functions have begun after a token
-abbrev pub begun : Token → ℕ → ℕ
-begun t n = if is_fn t.word then suc n else n
+abbrev pub begun_with : Terminal → ℕ → ℕ
+begun_with t n = if is_fn t.word then suc n else n
 
 -- the first fault of these tokens, where these symbols are expected and n functions have begun
-abbrev pub judge : TextEnd → ℕ → List Sym → List Token → Option PlacedFault
+abbrev pub judge : TextEnd → ℕ → List Sym → List Terminal → Option PlacedFault
 judge e n s [] = at_stop e.end e.stop s
-judge e n s (t ∷ ts) = verdict n t (consume t.word t.text s) (λ s'. judge e (begun t n) s' ts)
+judge e n s (t ∷ ts) = verdict n t (consume t.word t.text s) (λ s'. judge e (begun_with t n) s' ts)

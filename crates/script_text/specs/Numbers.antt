@@ -1,5 +1,5 @@
 -- The numbers of the faults of a text, and what they are called.
-use Rattle.std.specs.Prelude.{ℕ, nat_eq, List, if◌then◌else◌, codes}
+use Rattle.std.specs.Prelude.{ℕ, nat_eq, List, [], ◌∷◌, if◌then◌else◌, codes}
 use Rattle.script_grammar.specs.FaultNumbers as fault
 use Rattle.script_text.specs.declared.fault.TextFault.{TextFault}
 use Rattle.script_text.specs.declared.fault.TextFault.TheVariants.{NotAscii, UnexpectedToken, NumberOutOfRange, NameTooLong, NestedTooDeep, UnexpectedEnd, TooManyFunctions}
@@ -13,26 +13,23 @@ number_of NestedTooDeep = fault.nested_too_deep
 number_of UnexpectedEnd = fault.unexpected_end
 number_of TooManyFunctions = fault.too_many_functions
 
--- the fault of a number
+-- the fault among these that has this number, and the last one where none has
+abbrev pub fault_among : List TextFault → ℕ → TextFault
+fault_among [] number = TooManyFunctions
+fault_among (fault ∷ faults) number = if nat_eq number (number_of fault) then fault else fault_among faults number
+
 abbrev pub fault_of : ℕ → TextFault
-fault_of number =
-    if nat_eq number fault.not_ascii then NotAscii
-    else if nat_eq number fault.unexpected_token then UnexpectedToken
-    else if nat_eq number fault.number_out_of_range then NumberOutOfRange
-    else if nat_eq number fault.name_too_long then NameTooLong
-    else if nat_eq number fault.nested_too_deep then NestedTooDeep
-    else if nat_eq number fault.unexpected_end then UnexpectedEnd
-    else TooManyFunctions
+fault_of = fault_among (NotAscii ∷ UnexpectedToken ∷ NumberOutOfRange ∷ NameTooLong ∷ NestedTooDeep ∷ UnexpectedEnd ∷ [])
 
 -- what it is called
-abbrev pub text_of : TextFault → List ℕ
-text_of NotAscii = codes "not ASCII"
-text_of UnexpectedToken = codes "unexpected token"
-text_of NumberOutOfRange = codes "number out of range"
-text_of NameTooLong = codes "name too long"
-text_of NestedTooDeep = codes "nested too deep"
-text_of UnexpectedEnd = codes "unexpected end"
-text_of TooManyFunctions = codes "too many functions"
+abbrev pub fault_name : TextFault → List ℕ
+fault_name NotAscii = codes "not ASCII"
+fault_name UnexpectedToken = codes "unexpected token"
+fault_name NumberOutOfRange = codes "number out of range"
+fault_name NameTooLong = codes "name too long"
+fault_name NestedTooDeep = codes "nested too deep"
+fault_name UnexpectedEnd = codes "unexpected end"
+fault_name TooManyFunctions = codes "too many functions"
 
 abbrev pub fault_text : ℕ → List ℕ
-fault_text number = text_of (fault_of number)
+fault_text number = fault_name (fault_of number)

@@ -1,7 +1,7 @@
 // The faults of a text, their numbers, and what they are called.
 
 ghost use Rattle.std.specs.Prelude.{◌≡◌};
-ghost use Rattle.script_text.specs.Numbers.{fault_of, fault_text, number_of, text_of};
+ghost use Rattle.script_text.specs.Numbers.{fault_of, fault_text, number_of, fault_name};
 
 use crate::error::SyntaxError;
 
@@ -48,7 +48,7 @@ impl TextFault {
     }
 
     fn text(self) -> &'static str
-        ensures { result.now ≡ text_of self }
+        ensures { result.now ≡ fault_name self }
     {
         match self {
             TextFault::NotAscii => "not ASCII",

@@ -112,6 +112,9 @@ pub fn lexemes(alloc: Global, bytes: &[u8]) -> Result<Lexed, Memory>
 /// byte from 128 on stands among these blanks and comments or directly after them (`NotAscii`, with the offset of the first such byte), or
 /// else where the byte directly after them begins no token (`NoToken`, with its offset). An offset inside a token or a comment is taken
 /// as the start of a text.
+///
+/// It is for who goes through a text token by token, as to colour it: of `a..b` the tokens from 0 on are `a` at 0 to 1, `..` at 1 to 3, `b`
+/// at 3 to 4, and `End` at 4 to 4, each from where the one before it ended.
 pub fn next_token(bytes: &[u8], from: u32, version: Version) -> Result<Token, Misfit>
     requires size { length bytes.now ≤ MAX_BYTES }
     requires within { from ≤ length bytes.now }

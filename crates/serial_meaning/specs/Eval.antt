@@ -3,7 +3,7 @@ use Rattle.std.specs.Prelude.{ℕ, zero, suc, ◌+◌, ◌-◌, ◌==◌, if◌t
 use Rattle.std.specs.Prelude.{pos, ℤ}
 use Rattle.std.specs.Int.{w64, int_wrapping_add}
 use Rattle.serial_meaning.specs.Runs.{Run, done, ◌then◌}
-use Rattle.serial_meaning.specs.Functions.{function_at, number_of, main_name}
+use Rattle.serial_meaning.specs.Functions.{function_at, function_number, main_name}
 use Rattle.serial_meaning.specs.Plan.{PlanView, functions_of}
 use Rattle.serial_meaning.specs.Exec.{Manner, instance}
 use Rattle.serial_meaning.specs.declared.value.Value.{Value}
@@ -72,7 +72,7 @@ abbrev pub eval : PlanView → Origin → Evaluation
 eval plan o = eval_with plan (eval_below plan (depth_left plan o)) o
 
 abbrev pub main_origin : PlanView → Origin
-main_origin plan = Instance (number_of (functions_of plan) main_name) [] []
+main_origin plan = Instance (function_number (functions_of plan) main_name) [] []
 
 abbrev pub elision : PlanView → Evaluation
 elision plan = eval plan (main_origin plan)

@@ -12,7 +12,7 @@ use Rattle.script_grammar.specs.declared.tree.Act.TheVariants as act
 use Rattle.serial_meaning.specs.Trees.{named, number, variable, product, sum, applied, call, spawn, stated, int_param, function}
 use Rattle.serial_meaning.specs.Plan.{PlanView, functions_of}
 use Rattle.serial_meaning.specs.Eval.{main_origin, elision}
-use Rattle.serial_meaning.specs.Open.{opened, strand_pedigrees, faults}
+use Rattle.serial_meaning.specs.Open.{node_of, strand_pedigrees, faults}
 use Rattle.serial_meaning.specs.declared.plan.Show.TheVariants.{Plain}
 use Rattle.serial_meaning.specs.declared.value.Value.TheVariants.{Int}
 use Rattle.serial_meaning.specs.declared.event.FaultKind.TheVariants as fault
@@ -194,7 +194,7 @@ abbrev pub ScopeHasStrands : Type 0
 ScopeHasStrands =
     (n : ℕ) →
     let plan : PlanView = in_version_two (with_depth 2 (1 ∷ 0 ∷ []) (plan_of one_scope (twenty_or_more n))) in
-    strand_pedigrees (main_origin plan) (opened plan (main_origin plan)) ≡ (0 ∷ []) ∷ (0 ∷ 0 ∷ []) ∷ (0 ∷ 1 ∷ []) ∷ (1 ∷ []) ∷ []
+    strand_pedigrees (main_origin plan) (node_of plan (main_origin plan)) ≡ (0 ∷ []) ∷ (0 ∷ 0 ∷ []) ∷ (0 ∷ 1 ∷ []) ∷ (1 ∷ []) ∷ []
 
 abbrev pub print_and_draw : List Function
 print_and_draw =

@@ -19,7 +19,7 @@ use Rattle.script_grammar.specs.declared.tree.Act.TheOpen as act
 use Rattle.script_grammar.specs.declared.tree.Act.TheOpen.{Act-F}
 use Rattle.serial_meaning.specs.Runs.{Run, done, run_ends_by, happens, ◌then◌}
 use Rattle.serial_meaning.specs.Values.{Env, slot_of, items_of, as_integer, is_true, at_index, value_of, values_of}
-use Rattle.serial_meaning.specs.Functions.{number_of, function_at, any_spawns}
+use Rattle.serial_meaning.specs.Functions.{function_number, function_at, any_spawns}
 use Rattle.serial_meaning.specs.Plan.{PlanView, functions_of, drawn}
 use Rattle.serial_meaning.specs.declared.value.Value.{Value}
 use Rattle.serial_meaning.specs.declared.value.Value.TheVariants.{Int, Id}
@@ -119,9 +119,9 @@ most_calls = 256
 abbrev pub BlockMeaning : Type 0 → Type 0 → Type 0 → Type 0
 BlockMeaning I E K = List ℕ → ℕ → List Stmt → State K → Run I E (State K)
 
--- what is shown at a place, and nothing else happens
-abbrev pub shown : {I E A : Type 0} → List I → A → Run I E A
-shown items a = record { items = items; ending = Ok a }
+-- these items are shown, and nothing else happens
+abbrev pub all_happen : {I E A : Type 0} → List I → A → Run I E A
+all_happen items a = record { items = items; ending = Ok a }
 
 -- at the present path `path`
 module _ {I E K : Type 0} (how : Manner I E K) (plan : PlanView) (path : List ℕ) where
@@ -157,7 +157,7 @@ module _ {I E K : Type 0} (how : Manner I E K) (plan : PlanView) (path : List �
       unless_fault (values_of c.args s.env) s λ vs.
       tested (nat_lt (length path + 1) plan.limits.depth) Depth s
       (happens (how.event (event.Spawn (strand path s))) s then λ s.
-      how.spawn (origin.Instance (number_of (functions_of plan) c.name.bytes) vs (strand path s)) s.spawned then λ r.
+      how.spawn (origin.Instance (function_number (functions_of plan) c.name.bytes) vs (strand path s)) s.spawned then λ r.
       done (r.0, record s { rank = s.rank + 1; spawned = r.1 }))
 
   -- a sync at that path
@@ -173,7 +173,7 @@ module _ {I E K : Type 0} (how : Manner I E K) (plan : PlanView) (path : List �
 
   -- out of the scope that stands at this rank, to the rank after it
   abbrev pub goes_out : ℕ → State K → Run I E (State K)
-  goes_out rank s = shown (how.closes (path ++ rank ∷ [])) (record s { rank = rank + 1 })
+  goes_out rank s = all_happen (how.closes (path ++ rank ∷ [])) (record s { rank = rank + 1 })
 
   -- the end of that scope: a sync of the frame in it, and then out
   abbrev pub leaves : ℕ → State K → Run I E (State K)
@@ -184,8 +184,8 @@ module _ {I E K : Type 0} (how : Manner I E K) (plan : PlanView) (path : List �
   implied false s = done s
 
   -- a function's end: its return pays a step, then comes the sync that is implied where the text holds a spawn, then the value
-  abbrev pub returned : Function → State K → Run I E (Value × State K)
-  returned f s =
+  abbrev pub function_end : Function → State K → Run I E (Value × State K)
+  function_end f s =
       paid s λ s.
       implied (any_spawns f.body) s then λ s.
       unless_fault (value_of f.result s.env) s λ v.
@@ -195,7 +195,7 @@ module _ {I E K : Type 0} (how : Manner I E K) (plan : PlanView) (path : List �
   -- calls only functions that there are
   abbrev pub frame : BlockMeaning I E K → ℕ → Option Function → List Value → State K → Run I E (Value × State K)
   frame block calls (Some f) vs s =
-      block path calls f.body (record s { env = bound f.params vs; spawned = how.none }) then returned f
+      block path calls f.body (record s { env = bound f.params vs; spawned = how.none }) then function_end f
   frame block calls None vs s = done (Int (pos 0), s)
 
   -- a call goes on from the caller's rank and steps, and the caller from the callee's last ones
@@ -203,7 +203,7 @@ module _ {I E K : Type 0} (how : Manner I E K) (plan : PlanView) (path : List �
   called block calls c s =
       unless_fault (values_of c.args s.env) s λ vs.
       tested (nat_lt calls most_calls) Calls s
-      (frame block (calls + 1) (function_at (functions_of plan) (number_of (functions_of plan) c.name.bytes)) vs s then λ r.
+      (frame block (calls + 1) (function_at (functions_of plan) (function_number (functions_of plan) c.name.bytes)) vs s then λ r.
       done (r.0, record s { rank = r.1.rank; steps = r.1.steps }))
 
   -- the right side of a let or an assignment
@@ -242,14 +242,14 @@ module _ {I E K : Type 0} (how : Manner I E K) (plan : PlanView) (path : List �
       tested (has_room target n s'.env) Index s'
       (tested (fits_depth n) Depth s'
       (happens (how.event (event.Loop (strand path s'))) s' then λ s.
-      how.loop (origin.Loop (number_of (functions_of plan) c.name.bytes) vs lo (strand path s) (record { lo = 0; hi = n })) then λ ws.
+      how.loop (origin.Loop (function_number (functions_of plan) c.name.bytes) vs lo (strand path s) (record { lo = 0; hi = n })) then λ ws.
       done (record s { rank = s.rank + 1; env = with_loop_values target ws s.env }))))
 
   -- a scope: the depth, its block one level further at rank 0, and its end
   abbrev pub scoped : BlockMeaning I E K → ℕ → List Stmt → State K → Run I E (State K)
   scoped block calls sts s =
       tested (nat_lt (length path + 1) plan.limits.depth) Depth s
-      (shown (how.opens (strand path s)) (record s { rank = 0 }) then block (strand path s) calls sts then leaves s.rank)
+      (all_happen (how.opens (strand path s)) (record s { rank = 0 }) then block (strand path s) calls sts then leaves s.rank)
 
   -- one statement whose step is paid; block runs what stands inside it
   abbrev pub does : BlockMeaning I E K → ℕ → Stmt → Act-F Act Stmt → State K → Run I E (State K)

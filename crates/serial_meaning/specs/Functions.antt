@@ -6,9 +6,9 @@ use Rattle.std.specs.Str.{bytes_eq}
 use Rattle.script_grammar.specs.declared.tree.Function.{Function}
 
 -- the place of the first function of this name, or the number of functions where there is none
-abbrev pub number_of : List Function → List ℕ → ℕ
-number_of [] name = 0
-number_of (f ∷ fs) name = if bytes_eq f.name.bytes name then 0 else suc (number_of fs name)
+abbrev pub function_number : List Function → List ℕ → ℕ
+function_number [] name = 0
+function_number (f ∷ fs) name = if bytes_eq f.name.bytes name then 0 else suc (function_number fs name)
 
 abbrev pub function_at : List Function → ℕ → Option Function
 function_at = slice_get

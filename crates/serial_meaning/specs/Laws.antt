@@ -12,7 +12,7 @@ use Rattle.serial_meaning.specs.Names.{names_in}
 use Rattle.serial_meaning.specs.Plan.{PlanView, drawn}
 use Rattle.serial_meaning.specs.Exec.{State, Manner, statement, exec}
 use Rattle.serial_meaning.specs.Eval.{Evaluation, serial, eval, main_origin, elision}
-use Rattle.serial_meaning.specs.Open.{Child, put_off_all, loop_end, opened, faults}
+use Rattle.serial_meaning.specs.Open.{Child, put_off_all, loop_end, node_of, faults}
 use Rattle.serial_meaning.specs.declared.value.Value.{Value}
 use Rattle.serial_meaning.specs.declared.event.Fault.{Fault}
 use Rattle.serial_meaning.specs.declared.event.Event.{Event}
@@ -30,7 +30,7 @@ pub record Equations {I E K : Type 0} (how : Manner I E K) (plan : PlanView) (pa
       exec how plan path calls (st ∷ sts) s ≡ (statement how plan path (exec how plan) calls st s then exec how plan path calls sts)
   pub in_a_row : (calls : ℕ) (xs ys : List Stmt) (s : State K) →
       exec how plan path calls (xs ++ ys) s ≡ (exec how plan path calls xs s then exec how plan path calls ys)
-  pub again : (calls : ℕ) (loop : Stmt) (body sts : List Stmt) (s : State K) →
+  pub loop_again : (calls : ℕ) (loop : Stmt) (body sts : List Stmt) (s : State K) →
       ((exec how plan path calls body s then exec how plan path calls (loop ∷ [])) then exec how plan path calls sts) ≡ exec how plan path calls (body ++ (loop ∷ sts)) s
 
 abbrev pub ElisionHasEquations : Type 0
@@ -81,14 +81,14 @@ FaultIsLeast = (plan : PlanView) → EndsByLeast (faults plan) (elision plan).en
 abbrev pub LoopsEndAlike : Type 0
 LoopsEndAlike =
     (plan : PlanView) (function : ℕ) (rest : List Value) (first : ℤ) (path : List ℕ) (range : Range) →
-    let o = Loop function rest first path range in (opened plan o).ending ≡ loop_end (eval plan o).ending
+    let o = Loop function rest first path range in (node_of plan o).ending ≡ loop_end (eval plan o).ending
 
 -- main's origin; a child of an origin of the plan; or a loop's origin with only a part of such a child's iterations
 pub data IsOriginOf (plan : PlanView) : Origin → Type 0 where
   Main : IsOriginOf plan (main_origin plan)
-  ChildOf : (parent child : Origin) → IsOriginOf plan parent → Contains (opened plan parent).items (Child child) → IsOriginOf plan child
+  ChildOf : (parent child : Origin) → IsOriginOf plan parent → Contains (node_of plan parent).items (Child child) → IsOriginOf plan child
   PartOf : (parent : Origin) (function : ℕ) (rest : List Value) (first : ℤ) (path : List ℕ) (whole part : Range) → IsOriginOf plan parent →
-      Contains (opened plan parent).items (Child (Loop function rest first path whole)) → whole.lo ≤ part.lo → part.lo ≤ part.hi → part.hi ≤ whole.hi →
+      Contains (node_of plan parent).items (Child (Loop function rest first path whole)) → whole.lo ≤ part.lo → part.lo ≤ part.hi → part.hi ≤ whole.hi →
       IsOriginOf plan (Loop function rest first path part)
 
 abbrev pub EndsWithin : List Fault → Result (List Value) Fault → Type 0

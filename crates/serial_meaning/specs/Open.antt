@@ -113,8 +113,8 @@ node_with plan child (Loop function rest first path range) =
     let os = iterations function rest first path range.lo (range.hi - range.lo) in record { items = map Child os; ending = loop_end (gathered child os) }
 
 -- an origin's node
-abbrev pub opened : PlanView → Origin → Node
-opened plan o = node_with plan (eval_below plan (depth_left plan o)) o
+abbrev pub node_of : PlanView → Origin → Node
+node_of plan o = node_with plan (eval_below plan (depth_left plan o)) o
 
 abbrev pub own_fault : Result (List Value) NodeFault → List Fault
 own_fault (Ok vs) = []
@@ -130,7 +130,7 @@ faults_of below (Closed j ∷ items) = faults_of below items
 
 -- the faults below a node, where those of a child's part are what below says, and the instance's own
 abbrev pub faults_with : PlanView → (Origin → List Fault) → Origin → List Fault
-faults_with plan below o = faults_of below (opened plan o).items ++ own_fault (opened plan o).ending
+faults_with plan below o = faults_of below (node_of plan o).items ++ own_fault (node_of plan o).ending
 
 abbrev pub faults_below : PlanView → ℕ → Origin → List Fault
 faults_below plan = by_depth plan [] (faults_with plan)

@@ -15,18 +15,18 @@ run_ends_by e = record { items = []; ending = Err e }
 abbrev pub happens : {I E A : Type 0} → I → A → Run I E A
 happens i a = record { items = i ∷ []; ending = Ok a }
 
--- a run with items in front
+-- a run with items before it
 abbrev pub after_items : {I E A : Type 0} → List I → Run I E A → Run I E A
 after_items items r = record { items = items ++ r.items; ending = r.ending }
 
 -- goes on after a run, unless it was stopped
 infixl 10 ◌then◌
-abbrev pub goes_on : {I E A B : Type 0} → List I → Result A E → (A → Run I E B) → Run I E B
-goes_on items (Ok a) go = after_items items (go a)
-goes_on items (Err e) go = record { items = items; ending = Err e }
+abbrev pub continued : {I E A B : Type 0} → List I → Result A E → (A → Run I E B) → Run I E B
+continued items (Ok a) go = after_items items (go a)
+continued items (Err e) go = record { items = items; ending = Err e }
 
 abbrev pub ◌then◌ : {I E A B : Type 0} → Run I E A → (A → Run I E B) → Run I E B
-r then go = goes_on r.items r.ending go
+r then go = continued r.items r.ending go
 
 -- the same for a calculation, in which nothing happens
 infixl 10 ◌>>=◌

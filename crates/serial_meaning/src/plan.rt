@@ -1,9 +1,9 @@
-ghost use Rattle.std.specs.Prelude.{◌≡◌, ◌≤◌, true, length, IfOk, option_copied, option_map, slice_get};
+ghost use Rattle.std.specs.Prelude.{◌≡◌, ◌≤◌, ◌↔◌, IsTrue, true, length, IfOk, option_copied, option_map, slice_get};
 ghost use Rattle.std.specs.Arc.{arc_value};
 ghost use Rattle.script_check.specs.Places.{finds_all, finds_callee, table_of_places, variable_names};
 ghost use Rattle.script_check.specs.Spawns.{spawns_in};
 ghost use Rattle.serial_meaning.specs.Plan.{IsPlan, functions_of};
-ghost use Rattle.serial_meaning.specs.Functions.{number_of};
+ghost use Rattle.serial_meaning.specs.Functions.{function_number};
 ghost use Rattle.serial_meaning.specs.Eval.{main_origin};
 
 use crate::memory::Memory;
@@ -131,7 +131,7 @@ impl Plan {
     #[inline(always)]
     pub fn callee(&self, name: &Name) -> u32
         requires { finds_callee (functions_of self.now) name.now ≡ true }
-        ensures { result ≡ number_of (functions_of self.now) name.now.bytes }
+        ensures { result ≡ function_number (functions_of self.now) name.now.bytes }
     {
         self.checked.callee(name)
     }
@@ -146,12 +146,30 @@ impl Plan {
             path: Ped::root(alloc)?,
         })
     }
+
+    /// Whether an origin is that of a whole run.
+    pub fn is_main_origin(&self, origin: &Origin) -> bool
+        ensures { IsTrue result ↔ (origin.now ≡ main_origin self.now) }
+    {
+        match origin {
+            Origin::Instance {
+                function,
+                args,
+                path,
+            } => {
+                path.len() == 0
+                    && args.as_slice().is_empty()
+                    && *function == function_number(self.functions(), b"main")
+            }
+            Origin::Loop { .. } => false,
+        }
+    }
 }
 
 /// The place of the first function of this name, or the number of functions where there is none.
 pub fn function_number(functions: &[Function], name: &[u8]) -> u32
     requires { length functions.now ≤ 1024 }
-    ensures { result ≡ number_of functions.now name.now }
+    ensures { result ≡ function_number functions.now name.now }
 {
     let mut number = 0;
     for function in functions {

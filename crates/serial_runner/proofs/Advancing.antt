@@ -10,8 +10,8 @@ use Rattle.serial_meaning.specs.declared.event.Fault.{Fault}
 use Rattle.serial_meaning.specs.declared.origin.Origin.{Origin}
 use Rattle.serial_meaning.specs.declared.answer.Outcome.{Outcome}
 use Rattle.serial_meaning.specs.declared.answer.Outcome.TheVariants as outcome
-use Rattle.strand_meaning.specs.Laws.{IsFaultOf, IsOf, IsSoundStop, KeepsOrigin, LeavesFewer}
-use Rattle.strand_meaning.specs.Trace.{AwaitedChild, Trace, heard_unless, heard, heard_all}
+use Rattle.strand_meaning.specs.Laws.{IsFaultOf, IsSameTask, IsSoundStop, KeepsOrigin, LeavesFewer}
+use Rattle.strand_meaning.specs.Trace.{AwaitedChild, Trace, merged_answer_unless, merged_answer, merged_answers}
 use Rattle.strand_meaning.specs.Rest.{evaluations}
 use Rattle.strand_meaning.specs.Sound.{IsTask}
 use Rattle.strand_meaning.specs.Task.{Task, start, Stop, Spawn, Wait, End}
@@ -21,16 +21,16 @@ use Rattle.strand_meaning.proofs.TakenAnswers.AnswersKeepTasks.{answers_keep_tas
 use Rattle.strand_meaning.proofs.NextStops.Stops.{stops_are_sound, stops_keep_origins}
 use Rattle.strand_machine.specs.Family.{tag, tags}
 use Rattle.strand_machine.specs.Faults.{is_fault, EndsByFault}
-use Rattle.strand_machine.specs.Parts.{awaited}
+use Rattle.strand_machine.specs.AwaitedChildren.{awaited}
 use Rattle.strand_machine.specs.Stops.{IsStop, WentOn, answer_tags, any_cut, is_cut, with_evaluations, view_on}
 use Rattle.strand_machine.specs.Tasks.{TaskView, fresh}
 use Rattle.strand_machine.specs.declared.stop.Stop as stops
 use Rattle.strand_machine.specs.declared.stop.Stop.TheVariants as stop
-use Rattle.serial_runner.specs.Stacks.{task_of, IsOpenTask, AreBelow, IsStack, lowest_of, tasks, IsAnswerOf, task_of_answer, stack_with_answer, Follows, Closes, AdvancesTo}
+use Rattle.serial_runner.specs.Stacks.{task_of, IsOpenTask, AreBelow, IsStack, lowest_of, tasks, IsAnswerOf, task_of_answer, stack_with_answer, StepsStack, AnswersLowest, AdvancesTo}
 use Rattle.serial_runner.specs.declared.open_tasks.OpenTask.{OpenTask}
 use Rattle.serial_runner.specs.declared.stack.Stack.{Stack}
 use Rattle.serial_runner.specs.declared.stack.Advanced.{Advanced}
-use Rattle.serial_runner.specs.declared.stack.Advanced.TheVariants.{Goes, Ends}
+use Rattle.serial_runner.specs.declared.stack.Advanced.TheVariants.{Continues, Ends}
 use Rattle.strand_machine.specs.declared.memory.Memory.{Memory}
 use Rattle.serial_runner.proofs.Handed.{handed, HandsStop, stops_hand}
 
@@ -75,24 +75,24 @@ went_whole answers t next whole h = h.whole whole
 
 -- Children that a wait is over with aren't awaited
 
-heard-none : (f : Option Fault) (prefix : List Event) (p : AwaitedChild) (events : List Event) (ending : Result (List Value) Fault) → (heard_unless f prefix p events ending).handed ≡ []
+heard-none : (f : Option Fault) (prefix : List Event) (p : AwaitedChild) (events : List Event) (ending : Result (List Value) Fault) → (merged_answer_unless f prefix p events ending).handed ≡ []
 heard-none (Some f) prefix p events ending = refl
 heard-none None prefix p events (Ok vs) = refl
 heard-none None prefix p events (Err f) = refl
 
-pub none-heard : (ps : List AwaitedChild) (answers : List Evaluation) (trace : Trace) → trace.handed ≡ [] → (heard_all ps answers trace).handed ≡ []
+pub none-heard : (ps : List AwaitedChild) (answers : List Evaluation) (trace : Trace) → trace.handed ≡ [] → (merged_answers ps answers trace).handed ≡ []
 none-heard [] answers trace h = h
 none-heard (p ∷ ps) [] trace h = h
-none-heard (p ∷ ps) (a ∷ answers) trace h = none-heard ps answers (heard p a trace) (heard-none trace.fault trace.prefix p a.items a.ending)
+none-heard (p ∷ ps) (a ∷ answers) trace h = none-heard ps answers (merged_answer p a trace) (heard-none trace.fault trace.prefix p a.items a.ending)
 
 -- Stacks
 
 -- only the plan and the origin of the task above count
-pub below-same : (t u : Task) (fs : List OpenTask) → IsOf t u → AreBelow t fs → AreBelow u fs
+pub below-same : (t u : Task) (fs : List OpenTask) → IsSameTask t u → AreBelow t fs → AreBelow u fs
 below-same t u [] same b = tt
 below-same t u (f ∷ fs) same b = (same.0 ∙ b.0, subst (λ (o : Origin). IsOpenTask (o ∷ []) f) (sym same.1) b.1, b.2)
 
-pub lowest-same : (t u : Task) (fs : List OpenTask) → IsOf t u → IsOf (lowest_of t fs) (lowest_of u fs)
+pub lowest-same : (t u : Task) (fs : List OpenTask) → IsSameTask t u → IsSameTask (lowest_of t fs) (lowest_of u fs)
 lowest-same t u [] same = same
 lowest-same t u (f ∷ fs) same = (refl, refl)
 
@@ -124,7 +124,7 @@ module _ (s : Stack) (is : IsStack s) where
     begun : child.task ≡ start t.plan c
     begun = ap (λ (v : TaskView). v.task) is-fresh
 
-    with-child : IsSoundStop t to → KeepsOrigin t to → LeavesFewer t to → HandsStop t to → Follows s (record { top = open_task child []; below = open_task rest s.top.answers ∷ s.below })
+    with-child : IsSoundStop t to → KeepsOrigin t to → LeavesFewer t to → HandsStop t to → StepsStack s (record { top = open_task child []; below = open_task rest s.top.answers ∷ s.below })
     with-child sound same fewer hands = record {
       sound = record {
         top = subst (λ (v : TaskView). IsOpenTask [] (open_task v [])) (sym is-fresh) (begun-open_task t.plan c (tasks_begin t.plan c sound.0 is.top.task.clear));
@@ -142,9 +142,9 @@ module _ (s : Stack) (is : IsStack s) where
             ∙ sym (tags-append rest.task.plan (handed t) (c ∷ [])) ∙ ap (tags rest.task.plan) (sym hands.0)
 
     -- A child goes on top.
-    pub spawned : (top : OpenTask) (below : List OpenTask) → top ≡ record { task = child; answers = [] } → below ≡ record { task = rest; answers = s.top.answers } ∷ s.below → Follows s (record { top = top; below = below })
+    pub spawned : (top : OpenTask) (below : List OpenTask) → top ≡ record { task = child; answers = [] } → below ≡ record { task = rest; answers = s.top.answers } ∷ s.below → StepsStack s (record { top = top; below = below })
     spawned top below e h =
-        subst (λ (f : OpenTask). Follows s (record { top = f; below = below })) (sym e) (subst (λ (fs : List OpenTask). Follows s (record { top = open_task child []; below = fs })) (sym h)
+        subst (λ (f : OpenTask). StepsStack s (record { top = f; below = below })) (sym e) (subst (λ (fs : List OpenTask). StepsStack s (record { top = open_task child []; below = fs })) (sym h)
         (with-child (stops_are_sound t to is.top.task at.next) (stops_keep_origins t to at.next) (stops_fall t to is.top.task is.top.idle at.next) (stops_hand t to is.top.task at.next)))
 
   module _ (rest : TaskView) (at : IsStop s.top.task (stop.Wait rest)) where
@@ -161,7 +161,7 @@ module _ (s : Stack) (is : IsStack s) where
     none : (with_evaluations rest).trace.handed ≡ []
     none = none-heard rest.task.trace.handed (evaluations (eval rest.task.plan) rest.task.trace.handed) _ refl
 
-    gone-on : IsSoundStop t (Wait rest.task) → KeepsOrigin t (Wait rest.task) → Follows s (record { top = open_task (view_on rest) []; below = s.below })
+    gone-on : IsSoundStop t (Wait rest.task) → KeepsOrigin t (Wait rest.task) → StepsStack s (record { top = open_task (view_on rest) []; below = s.below })
     gone-on sound same = record {
       sound = record {
         top = record { task = answers_keep_tasks rest.task sound; idle = refl; goes_on = at.keeps.2; whole = refl; answers = ap (λ (l : List AwaitedChild). tags rest.task.plan (awaited l)) (sym none) };
@@ -174,16 +174,16 @@ module _ (s : Stack) (is : IsStack s) where
     }
 
     -- It goes on.
-    pub went_up : (top : OpenTask) (v : TaskView) → top ≡ record { task = v; answers = [] } → v ≡ view_on rest → Follows s (record { top = top; below = s.below })
+    pub went_up : (top : OpenTask) (v : TaskView) → top ≡ record { task = v; answers = [] } → v ≡ view_on rest → StepsStack s (record { top = top; below = s.below })
     went_up top v e h =
-        subst (λ (f : OpenTask). Follows s (record { top = f; below = s.below })) (sym (e ∙ ap (λ (w : TaskView). open_task w []) h))
+        subst (λ (f : OpenTask). StepsStack s (record { top = f; below = s.below })) (sym (e ∙ ap (λ (w : TaskView). open_task w []) h))
         (gone-on (stops_are_sound t (Wait rest.task) is.top.task at.next) (stops_keep_origins t (Wait rest.task) at.next))
 
   module _ (answer : AnswerView) (give : AnswerTag) (at : IsStop s.top.task (stop.Done answer give)) where
-    to-parent : (f : OpenTask) (fs : List OpenTask) → s.below ≡ f ∷ fs → AreBelow t (f ∷ fs) → Follows s (stack_with_answer answer f fs)
+    to-parent : (f : OpenTask) (fs : List OpenTask) → s.below ≡ f ∷ fs → AreBelow t (f ∷ fs) → StepsStack s (stack_with_answer answer f fs)
     to-parent f fs e b = record {
       sound = record { top = record { task = b.1.task; idle = b.1.idle; goes_on = b.1.goes_on; whole = more-uncut f.answers answer b.1.whole whole; answers = answers }; below = b.2 };
-      lowest = subst (λ (l : List OpenTask). IsOf (lowest_of t l) (lowest_of (task_of f) fs)) (sym e) (refl, refl);
+      lowest = subst (λ (l : List OpenTask). IsSameTask (lowest_of t l) (lowest_of (task_of f) fs)) (sym e) (refl, refl);
       stop = End answer.out answer.outcome;
       comes = at.next;
       leaves = ap tasks (sym e);
@@ -202,7 +202,7 @@ module _ (s : Stack) (is : IsStack s) where
     IsEnd fs = IsAnswerOf (lowest_of t fs) answer
 
     -- An end's answer goes to the task below, or is the one of the task at the bottom.
-    pub ended : (result : Result Advanced Memory) → ((f : OpenTask) (fs : List OpenTask) → s.below ≡ f ∷ fs → IfOk result (λ to. to ≡ Goes (stack_with_answer answer f fs))) →
+    pub ended : (result : Result Advanced Memory) → ((f : OpenTask) (fs : List OpenTask) → s.below ≡ f ∷ fs → IfOk result (λ to. to ≡ Continues (stack_with_answer answer f fs))) →
         (s.below ≡ [] → IfOk result (λ to. to ≡ Ends answer)) → IfOk result (AdvancesTo s)
     ended (Err e) parent last = tt
     ended (Ok to) parent last = by_below s.below refl
@@ -212,11 +212,11 @@ module _ (s : Stack) (is : IsStack s) where
 
         by_below : (fs : List OpenTask) → s.below ≡ fs → AdvancesTo s to
         by_below [] e =
-            let closes : Closes s answer = subst IsEnd (sym e) (record { plan = at.keeps.0; origin = at.keeps.1; fault = sound.1 }) in subst (AdvancesTo s) (sym (last e)) closes
-        by_below (f ∷ fs) e = let follows : Follows s (stack_with_answer answer f fs) = to-parent f fs e (subst (AreBelow t) e is.below) in subst (AdvancesTo s) (sym (parent f fs e)) follows
+            let closes : AnswersLowest s answer = subst IsEnd (sym e) (record { plan = at.keeps.0; origin = at.keeps.1; fault = sound.1 }) in subst (AdvancesTo s) (sym (last e)) closes
+        by_below (f ∷ fs) e = let follows : StepsStack s (stack_with_answer answer f fs) = to-parent f fs e (subst (AreBelow t) e is.below) in subst (AdvancesTo s) (sym (parent f fs e)) follows
 
     -- An end by a fault ends all tasks.
-    same-task : IsOf t (task_of_answer answer)
+    same-task : IsSameTask t (task_of_answer answer)
     same-task = (at.keeps.0, at.keeps.1)
 
     pub known_fault : IsFaultOf answer.plan answer.outcome
@@ -227,9 +227,9 @@ module _ (s : Stack) (is : IsStack s) where
     pub answer_below : AreBelow (task_of_answer answer) s.below
     answer_below = below-same t (task_of_answer answer) s.below same-task is.below
 
-    pub all_ended : (last : AnswerView) → IsAnswerOf (lowest_of (task_of_answer answer) s.below) last → Closes s last
+    pub all_ended : (last : AnswerView) → IsAnswerOf (lowest_of (task_of_answer answer) s.below) last → AnswersLowest s last
     all_ended last h =
-        let same : IsOf (lowest_of t s.below) (lowest_of (task_of_answer answer) s.below) = lowest-same t (task_of_answer answer) s.below same-task in
+        let same : IsSameTask (lowest_of t s.below) (lowest_of (task_of_answer answer) s.below) = lowest-same t (task_of_answer answer) s.below same-task in
         record { plan = h.plan ∙ same.0; origin = h.origin ∙ same.1; fault = subst (λ (p : PlanView). IsFaultOf p last.outcome) same.0 h.fault }
 
 -- The tasks below an answer that is a fault
@@ -238,13 +238,13 @@ pub record EndsAt (bottom : Task) (answer : AnswerView) (fs : List OpenTask) : T
   pub below : AreBelow (task_of_answer answer) fs
   pub fault : is_fault answer.outcome ≡ true
   pub known : IsFaultOf answer.plan answer.outcome
-  pub lowest : IsOf bottom (lowest_of (task_of_answer answer) fs)
+  pub lowest : IsSameTask bottom (lowest_of (task_of_answer answer) fs)
 
 pub ends-next : (bottom : Task) (a b : AnswerView) (by : AnswerTag) (f : OpenTask) (fs gs : List OpenTask) → gs ≡ f ∷ fs → EndsAt bottom a gs → EndsByFault f.task b by → EndsAt bottom b fs
 ends-next bottom a b by f fs gs e at ends =
     let was : EndsAt bottom a (f ∷ fs) = subst (EndsAt bottom a) e at in
-    let same : IsOf (task_of f) (task_of_answer b) = (ends.plan, ends.origin) in
-    let lower : IsOf (lowest_of (task_of f) fs) (lowest_of (task_of_answer b) fs) = lowest-same (task_of f) (task_of_answer b) fs same in
+    let same : IsSameTask (task_of f) (task_of_answer b) = (ends.plan, ends.origin) in
+    let lower : IsSameTask (lowest_of (task_of f) fs) (lowest_of (task_of_answer b) fs) = lowest-same (task_of f) (task_of_answer b) fs same in
     record {
       below = below-same (task_of f) (task_of_answer b) fs same was.below.2;
       fault = ends.fault;

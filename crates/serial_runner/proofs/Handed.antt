@@ -13,12 +13,12 @@ use Rattle.serial_meaning.specs.declared.origin.Origin.TheVariants.{Instance, Lo
 use Rattle.serial_meaning.specs.declared.answer.Outcome.{Outcome}
 use Rattle.strand_meaning.specs.Machine.{Effect, Opens, Closes, Emitted, Handed, Syncs, Loops, Reached, Stands, Gives, move}
 use Rattle.strand_meaning.specs.Trace.{AwaitedChild, Trace, after_last, emit, emit_at, add_child, with_effects}
-use Rattle.strand_meaning.specs.Task.{InstanceState, Running, AtSync, AtLoop, Ended, Work, Splits, Runs, Finished, Task, own_instance, MoveOrStop, Passes, Stops, Stop, Spawn, Wait, End, IsNext, Now, Later, stage_after, child_in, stops_at, passing, moved, ends_unless, faults_after, gave, stage_step, first_half, split_step, over_step, work_step, step}
-use Rattle.strand_meaning.specs.Sound.{IsEndOf, IsSoundWork, IsTask}
-use Rattle.strand_meaning.specs.Laws.{IsOf, IsSoundStep}
+use Rattle.strand_meaning.specs.Task.{Stage, Running, AtSync, AtLoop, Ended, Remaining, Splits, Runs, Finished, Task, own_instance, MoveOrStop, Passes, Stops, Stop, Spawn, Wait, End, IsNext, Now, Later, stage_after, child_in, stops_at, passing, step_result, ends_unless, faults_after, returned, stage_step, first_half, split_step, over_step, remaining_step, step}
+use Rattle.strand_meaning.specs.Sound.{IsEndOf, IsSoundRemaining, IsTask}
+use Rattle.strand_meaning.specs.Laws.{IsSameTask, IsSoundStep}
 use Rattle.strand_meaning.proofs.SoundSteps.Ends.{steps_are_sound}
 use Rattle.strand_meaning.proofs.NextStops.Stops.{KeepsStep, step-keeps}
-use Rattle.strand_machine.specs.Parts.{awaited}
+use Rattle.strand_machine.specs.AwaitedChildren.{awaited}
 use Rattle.serial_runner.proofs.Shows.{children, IsDeeper, AtMostOne, MoveHands, move_hands}
 
 -- the children whose answers aren't taken
@@ -95,7 +95,7 @@ module _ (t : Task) where
       let same : c ≡ o = cc in (h ∙ ap (λ d. handed t ++ d ∷ []) same, subst (λ d. IsSmaller t.plan t.origin d) same (deeper-smaller t.plan t.origin c k))
   hands-at (c ∷ d ∷ os) o next e h k = absurd k
 
-  hands-moved : (ts : List Effect) (e : Result Reached Fault) → MoveHands t.plan (path_of (own_instance t.origin)) (children ts) e → HandsStep t (moved t ts e)
+  hands-moved : (ts : List Effect) (e : Result Reached Fault) → MoveHands t.plan (path_of (own_instance t.origin)) (children ts) e → HandsStep t (step_result t ts e)
   hands-moved ts (Ok (Stands m)) h = hands-at (children ts) (child_in ts) (passing t ts (Runs (stage_after ts m))) (child-first ts) (awaited-effects ts t.trace) h
   hands-moved ts (Ok (Gives v)) h = awaited-effects ts t.trace ∙ ap (λ os. handed t ++ os) h ∙ append-nil (handed t)
   hands-moved ts (Err f) h = awaited-effects ts t.trace ∙ ap (λ os. handed t ++ os) h ∙ append-nil (handed t)
@@ -104,11 +104,11 @@ module _ (t : Task) where
   hands-faults [] f = hands-ends t.trace.fault _
   hands-faults (p ∷ ps) f = refl
 
-  hands-gave : (o : Origin) (v : Value) → HandsStep t (gave t o v)
+  hands-gave : (o : Origin) (v : Value) → HandsStep t (returned t o v)
   hands-gave (Instance function args path) v = hands-ends t.trace.fault _
   hands-gave (Loop function rest first path range) v = refl
 
-  hands-stage : (stage : InstanceState) → HandsStep t (stage_step t stage)
+  hands-stage : (stage : Stage) → HandsStep t (stage_step t stage)
   hands-stage (Running m) =
       let path = path_of (own_instance t.origin) in let r = move t.plan path m in hands-moved r.items r.ending (move_hands t.plan path m)
   hands-stage (AtSync m) = refl
@@ -135,19 +135,19 @@ module _ (t : Task) where
       by_size (suc zero) g = rw g (hands-ends t.trace.fault _)
       by_size (suc (suc n)) g = rw g refl
 
-  hands-work : (work : Work) → IsSoundWork t.plan t.origin t.trace.handed work → HandsStep t (work_step t work)
-  hands-work (Splits left) is = hands-split left (left.hi - left.lo) is.0 refl
-  hands-work (Runs stage) is = hands-stage stage
-  hands-work (Finished v true) is = hands-ends t.trace.fault _
-  hands-work (Finished v false) is = hands-over v t.origin
+  hands-remaining : (remaining : Remaining) → IsSoundRemaining t.plan t.origin t.trace.handed remaining → HandsStep t (remaining_step t remaining)
+  hands-remaining (Splits left) is = hands-split left (left.hi - left.lo) is.0 refl
+  hands-remaining (Runs stage) is = hands-stage stage
+  hands-remaining (Finished v true) is = hands-ends t.trace.fault _
+  hands-remaining (Finished v false) is = hands-over v t.origin
 
 step-hands : (t : Task) → IsTask t → HandsStep t (step t)
-step-hands t is = hands-work t t.work is.work
+step-hands t is = hands-remaining t t.remaining is.remaining
 
 abbrev pub HandsStop : Task → Stop → Type 0
 HandsStop t stop = HandsStep t (Stops stop)
 
-hands-further : (t next : Task) (stop : Stop) → IsOf t next → handed next ≡ handed t → HandsStop next stop → HandsStop t stop
+hands-further : (t next : Task) (stop : Stop) → IsSameTask t next → handed next ≡ handed t → HandsStop next stop → HandsStop t stop
 hands-further t next (Spawn child rest) same h k =
     (k.0 ∙ ap (λ l. l ++ child ∷ []) h, subst (λ (o : Origin). IsSmaller t.plan o child) same.1 (subst (λ (p : PlanView). IsSmaller p next.origin child) same.0 k.1))
 hands-further t next (Wait rest) same h k = k ∙ h

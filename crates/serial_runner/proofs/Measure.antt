@@ -16,7 +16,7 @@ use Rattle.strand_meaning.proofs.SoundSteps.Ends.{tasks_begin}
 use Rattle.strand_meaning.proofs.NextStops.Fewer.{stops_fall, answers_leave_no_more}
 use Rattle.strand_meaning.proofs.NextStops.Stops.{stops_are_one, stops_are_sound, stops_keep_origins}
 use Rattle.strand_meaning.proofs.TakenAnswers.AnswersKeepTasks.{answers_keep_tasks}
-use Rattle.serial_runner.specs.Stacks.{task_of, IsStack, tasks, tasks_after, Follows}
+use Rattle.serial_runner.specs.Stacks.{task_of, IsStack, tasks, tasks_after, StepsStack}
 use Rattle.serial_runner.specs.declared.stack.Stack.{Stack}
 use Rattle.serial_runner.proofs.Handed.{size_of, IsSmaller, HandsStop, stops_hand}
 
@@ -202,6 +202,6 @@ one_less_follows t stop ts is idle n = less _ _ _ (sym first) (by_stop stop (aft
     by_stop (End out ended) b = omega arith
 
 -- So a stop of a sound stack leaves less.
-pub follows_fall : (s after : Stack) → IsStack s → Follows s after → stops_in_all (tasks (after.top ∷ after.below)) < stops_in_all (tasks (s.top ∷ s.below))
+pub follows_fall : (s after : Stack) → IsStack s → StepsStack s after → stops_in_all (tasks (after.top ∷ after.below)) < stops_in_all (tasks (s.top ∷ s.below))
 follows_fall s after is f =
     subst (λ ts. stops_in_all ts < stops_in_all (tasks (s.top ∷ s.below))) (sym f.leaves) (one_less_follows (task_of s.top) f.stop (tasks s.below) is.top.task is.top.idle f.comes)

@@ -2,7 +2,7 @@
 use Rattle.std.proofs.Common.{◌≡◌, ℕ, Bool, true, false, ◌||◌, ◌&&◌, List, [], ◌∷◌, ◌++◌, Option, Some, None, Result, Ok, Err, append-nil, if◌then◌else◌, refl, sym, ap, ◌∙◌, subst, arith}
 use Rattle.serial_meaning.specs.Eval.{path_of}
 use Rattle.serial_meaning.specs.Open as open_tree
-use Rattle.serial_meaning.specs.Open.{Item, Happened, Child, Opened, Closed, NodeFault, Own, ChildFaulted, opened, strand_pedigrees}
+use Rattle.serial_meaning.specs.Open.{Item, Happened, Child, Opened, Closed, NodeFault, Own, ChildFaulted, node_of, strand_pedigrees}
 use Rattle.serial_meaning.specs.Runs.{after_items}
 use Rattle.serial_meaning.specs.Plan.{PlanView}
 use Rattle.serial_meaning.specs.declared.value.Value.{Value}
@@ -17,8 +17,8 @@ use Rattle.strand_meaning.proofs.NodesObserved.EventsOfPedigree.{events_at-appen
 use Rattle.strand_machine.specs.Eyes.{new_eye, eye_after, is_none_ahead}
 use Rattle.strand_machine.specs.declared.eye.Eye.{Eye}
 use Rattle.strand_machine.proofs.NodesObserved.Eyes.{looks-append, own-append, places-seen, places-without, past-seen}
-use Rattle.serial_runner.specs.Nodes.{IsBelow, shown_by, shown_at, fault_at, is_none, came_to, strand_seen, child_fault_before, node_seen}
-use Rattle.serial_runner.specs.Observed.{with_observation, first_child, with_child, seen, IsSeen, is_some, is_over}
+use Rattle.serial_runner.specs.Nodes.{IsBelow, node_by, node_at, fault_at, is_none, came_to, strand_seen, child_fault_before, node_seen}
+use Rattle.serial_runner.specs.Observed.{with_observation, first_child, with_child, observed_on, IsSeen, is_some, is_over}
 use Rattle.serial_runner.specs.declared.observed.ObservedInstance.{ObservedInstance}
 use Rattle.serial_runner.proofs.Over.{IsOver, stays, comes, none-later, fault-later, not-ended, last-led, came-stays}
 use Rattle.serial_runner.proofs.Places.{stands, came_by, stands-append, by-append, follow-front, follow-rest, NodeFollows, NodeEnds, node-follows}
@@ -85,23 +85,23 @@ module _ (path j : List ℕ) (observation later : Observation) where
       ap (λ (l : List Event). l ++ events) e ∙ ap (λ (l : List Event). events_at j (own_events observation.items) ++ l) h ∙ sym (events_at-append j (own_events observation.items) (own_events later.items))
       ∙ ap (events_at j) (sym (own-append observation.items later.items))
 
-  pub seen-with : (s : ObservedInstance) (eye : Eye) (events : List Event) (fault child_fault : Option Fault) → s ≡ seen path j observation → eye ≡ eye_after j s.eye later.items → events ≡ events_at j (own_events later.items) →
+  pub seen-with : (s : ObservedInstance) (eye : Eye) (events : List Event) (fault child_fault : Option Fault) → s ≡ observed_on path j observation → eye ≡ eye_after j s.eye later.items → events ≡ events_at j (own_events later.items) →
       fault ≡ later.fault → child_fault ≡ later.child_fault → with_observation eye events fault child_fault s ≡ observed_so_far (child_on_way j observation.items)
   seen-with s eye events fault child_fault e r v f g =
       ap (with_observation eye events fault child_fault) e
-      ∙ ap (λ (b : Eye). record (with_observation eye events fault child_fault (seen path j observation)) { eye = b }) (r ∙ ap (λ (t : ObservedInstance). eye_after j t.eye later.items) e ∙ sym (looks-append j (new_eye path j) observation.items later.items))
+      ∙ ap (λ (b : Eye). record (with_observation eye events fault child_fault (observed_on path j observation)) { eye = b }) (r ∙ ap (λ (t : ObservedInstance). eye_after j t.eye later.items) e ∙ sym (looks-append j (new_eye path j) observation.items later.items))
       ∙ ap (λ (l : List Event). record (observed_so_far (child_on_way j observation.items)) { events = l; fault = newest observation.fault fault; child_fault = newest observation.child_fault child_fault }) (with-events (events_at j (own_events observation.items)) events refl v)
       ∙ ap (λ (x : Option Fault). record (observed_so_far (child_on_way j observation.items)) { fault = newest observation.fault x; child_fault = newest observation.child_fault child_fault }) f
       ∙ ap (λ (x : Option Fault). record (observed_so_far (child_on_way j observation.items)) { child_fault = newest observation.child_fault x }) g
 
   -- where a child was handed out, and where none was
-  pub seen_child : (c : Origin) (s : ObservedInstance) → item_children later.items ≡ c ∷ [] → s ≡ observed_so_far (child_on_way j observation.items) → with_child j c s ≡ seen path j (also observation later)
+  pub seen_child : (c : Origin) (s : ObservedInstance) → item_children later.items ≡ c ∷ [] → s ≡ observed_so_far (child_on_way j observation.items) → with_child j c s ≡ observed_on path j (also observation later)
   seen_child c s h e =
       ap (with_child j c) e
       ∙ ap (λ (x : Option Origin). observed_so_far (first_child (child_on_way j observation.items) x)) (sym (child-among j later.items ∙ ap (origin_on_way j) h))
       ∙ ap observed_so_far (sym (child-append j observation.items later.items))
 
-  pub seen_none : (s : ObservedInstance) → item_children later.items ≡ [] → s ≡ observed_so_far (child_on_way j observation.items) → s ≡ seen path j (also observation later)
+  pub seen_none : (s : ObservedInstance) → item_children later.items ≡ [] → s ≡ observed_so_far (child_on_way j observation.items) → s ≡ observed_on path j (also observation later)
   seen_none s h e =
       e ∙ ap observed_so_far (sym (child-append j observation.items later.items ∙ ap (first_child (child_on_way j observation.items)) (child-among j later.items ∙ ap (origin_on_way j) h) ∙ first-only (child_on_way j observation.items)))
 
@@ -165,8 +165,8 @@ module _ (function : ℕ) (args : List Value) (path : List ℕ) (r : ℕ) (more 
       ap (λ (b : Bool). if b then Some (a_strand (events_at j (own_events n.items)) (fault_at j (own_fault_of n.ending))) else None) (came-is n.ending)
       ∙ ap (λ (f : Option Fault). if is_one_of j (strand_pedigrees o n) then Some (a_strand (events_at j (own_events n.items)) f) else None) (own-at j n.ending)
 
-  pub node-is : node_seen j (observed_of n.items n.ending) ≡ shown_at o n j
-  node-is = ap (λ (t : Option Strand). shown_by (child_on_way j n.items) t (child_fault_before (observed_of n.items n.ending))) strand-is ∙ ap (λ (f : Option Fault). shown_by (child_on_way j n.items) (strand_of o n j) f) (child_fault-is n.ending)
+  pub node-is : node_seen j (observed_of n.items n.ending) ≡ node_at o n j
+  node-is = ap (λ (t : Option Strand). node_by (child_on_way j n.items) t (child_fault_before (observed_of n.items n.ending))) strand-is ∙ ap (λ (f : Option Fault). node_by (child_on_way j n.items) (strand_of o n j) f) (child_fault-is n.ending)
 
   -- Where a strand of its own was over before some of its items, the others tell no more.
   module _ (follows : NodeFollows path n) (xs ys : List Item) (parts : n.items ≡ xs ++ ys) (came : (eye_after j (new_eye path j) xs).came ≡ true) where
@@ -225,11 +225,11 @@ module _ (function : ℕ) (args : List Value) (path : List ℕ) (r : ℕ) (more 
         ∙ ap (λ (l : List Event). Some (a_strand l (fault_at j (own_fault_of n.ending)))) same-events
         ∙ ap strand (no-fault n.ending (whole.ends []))
 
-    pub over-is : (s : ObservedInstance) → s.eye ≡ eye_after j (new_eye path j) xs → s.events ≡ events_at j (own_events xs) → s.fault ≡ None → s.child ≡ child_on_way j xs → s.child_fault ≡ None → node_seen j s ≡ shown_at o n j
+    pub over-is : (s : ObservedInstance) → s.eye ≡ eye_after j (new_eye path j) xs → s.events ≡ events_at j (own_events xs) → s.fault ≡ None → s.child ≡ child_on_way j xs → s.child_fault ≡ None → node_seen j s ≡ node_at o n j
     over-is s eye events fault child child_fault =
-        ap (λ (c : Option Origin). shown_by c (strand_seen j s) (child_fault_before s)) (child ∙ sym same-child)
-        ∙ ap (λ (t : Option Strand). shown_by (child_on_way j n.items) t (child_fault_before s)) (here-strand ∙ sym strand-there)
-        ∙ ap (λ (f : Option Fault). shown_by (child_on_way j n.items) (strand_of o n j) f) (here-child_fault ∙ sym (sym (child_fault-is n.ending) ∙ no-block n.ending (whole.ends [])))
+        ap (λ (c : Option Origin). node_by c (strand_seen j s) (child_fault_before s)) (child ∙ sym same-child)
+        ∙ ap (λ (t : Option Strand). node_by (child_on_way j n.items) t (child_fault_before s)) (here-strand ∙ sym strand-there)
+        ∙ ap (λ (f : Option Fault). node_by (child_on_way j n.items) (strand_of o n j) f) (here-child_fault ∙ sym (sym (child_fault-is n.ending) ∙ no-block n.ending (whole.ends [])))
       where
         here-strand : strand_seen j s ≡ strand None
         here-strand =
@@ -244,45 +244,45 @@ module _ (function : ℕ) (args : List Value) (path : List ℕ) (r : ℕ) (more 
 
 -- a child on the way is told alone
 pub by-child : (j : List ℕ) (s : ObservedInstance) (c : Origin) → s.child ≡ Some c → node_seen j s ≡ record { strand = None; child = Some c; child_fault = None }
-by-child j s c e = ap (λ (d : Option Origin). shown_by d (strand_seen j s) (child_fault_before s)) e
+by-child j s c e = ap (λ (d : Option Origin). node_by d (strand_seen j s) (child_fault_before s)) e
 
 module _ (plan : PlanView) (o : Origin) (j : List ℕ) (i : IsInstance o) (below : IsBelow (path_of o) j) where
   -- what is seen of the whole instance
-  pub whole_seen : (observation : Observation) → IsAllObserved plan o observation → (s : ObservedInstance) → s ≡ seen (path_of o) j observation → IsSeen plan o j s
-  whole_seen observation w s e = ap (node_seen j) (e ∙ same) ∙ from o i j below (opened plan o)
+  pub whole_seen : (observation : Observation) → IsAllObserved plan o observation → (s : ObservedInstance) → s ≡ observed_on (path_of o) j observation → IsSeen plan o j s
+  whole_seen observation w s e = ap (node_seen j) (e ∙ same) ∙ from o i j below (node_of plan o)
     where
       n : open_tree.Node
-      n = opened plan o
+      n = node_of plan o
 
-      same : seen (path_of o) j observation ≡ an_observed (eye_after j (new_eye (path_of o) j) n.items) (events_at j (own_events n.items)) (own_fault_of n.ending) (child_on_way j n.items) (fault_of_child n.ending)
+      same : observed_on (path_of o) j observation ≡ an_observed (eye_after j (new_eye (path_of o) j) n.items) (events_at j (own_events n.items)) (own_fault_of n.ending) (child_on_way j n.items) (fault_of_child n.ending)
       same =
           ap (λ (l : List Item). an_observed (eye_after j (new_eye (path_of o) j) l) (events_at j (own_events l)) observation.fault (child_on_way j l) observation.child_fault) (sym w.items)
           ∙ ap (λ (f : Option Fault). an_observed (eye_after j (new_eye (path_of o) j) n.items) (events_at j (own_events n.items)) f (child_on_way j n.items) observation.child_fault) (sym w.fault)
           ∙ ap (λ (f : Option Fault). an_observed (eye_after j (new_eye (path_of o) j) n.items) (events_at j (own_events n.items)) (own_fault_of n.ending) (child_on_way j n.items) f) (sym w.child_fault)
 
       from : (o : Origin) → IsInstance o → (j : List ℕ) → IsBelow (path_of o) j → (n : open_tree.Node) →
-          node_seen j (an_observed (eye_after j (new_eye (path_of o) j) n.items) (events_at j (own_events n.items)) (own_fault_of n.ending) (child_on_way j n.items) (fault_of_child n.ending)) ≡ shown_at o n j
+          node_seen j (an_observed (eye_after j (new_eye (path_of o) j) n.items) (events_at j (own_events n.items)) (own_fault_of n.ending) (child_on_way j n.items) (fault_of_child n.ending)) ≡ node_at o n j
       from (Instance function args path) i [] b n = absurd (let l = b.longer in omega (arith, l))
       from (Instance function args path) i (r ∷ more) b n = node-is function args path r more n
       from (Loop function rest first path range) i j b n = absurd i
 
   -- what is seen once nothing more counts
-  pub over_seen : (observation : Observation) (u : Task) → u.plan ≡ plan → u.origin ≡ o → IsOnWay observation u → (s : ObservedInstance) → s ≡ seen (path_of o) j observation → is_over s ≡ true → IsSeen plan o j s
+  pub over_seen : (observation : Observation) (u : Task) → u.plan ≡ plan → u.origin ≡ o → IsOnWay observation u → (s : ObservedInstance) → s ≡ observed_on (path_of o) j observation → is_over s ≡ true → IsSeen plan o j s
   over_seen observation u plan_is origin_is way s e h = by_child s.child refl
     where
-      node : opened plan o ≡ after_items observation.items (node_left u)
-      node = subst (λ (p : PlanView). opened p o ≡ after_items observation.items (node_left u)) plan_is (subst (λ (d : Origin). opened u.plan d ≡ after_items observation.items (node_left u)) origin_is way.node)
+      node : node_of plan o ≡ after_items observation.items (node_left u)
+      node = subst (λ (p : PlanView). node_of p o ≡ after_items observation.items (node_left u)) plan_is (subst (λ (d : Origin). node_of u.plan d ≡ after_items observation.items (node_left u)) origin_is way.node)
 
-      parts : (opened plan o).items ≡ observation.items ++ (node_left u).items
+      parts : (node_of plan o).items ≡ observation.items ++ (node_left u).items
       parts = ap (λ (n : open_tree.Node). n.items) node
 
       child : s.child ≡ child_on_way j observation.items
       child = ap (λ (t : ObservedInstance). t.child) e
 
       found : (c : Origin) → s.child ≡ Some c → IsSeen plan o j s
-      found c g = by-child j s c g ∙ sym (ap (λ (d : Option Origin). shown_by d (strand_of o (opened plan o) j) (blocking_fault (opened plan o) j)) there)
+      found c g = by-child j s c g ∙ sym (ap (λ (d : Option Origin). node_by d (strand_of o (node_of plan o) j) (blocking_fault (node_of plan o) j)) there)
         where
-          there : child_on_way j (opened plan o).items ≡ Some c
+          there : child_on_way j (node_of plan o).items ≡ Some c
           there = ap (child_on_way j) parts ∙ child-append j observation.items (node_left u).items ∙ ap (λ (d : Option Origin). first_child d (child_on_way j (node_left u).items)) (sym child ∙ g)
 
       came : s.child ≡ None → (s.eye.came ≡ true) × (s.fault ≡ None)
@@ -294,7 +294,7 @@ module _ (plan : PlanView) (o : Origin) (j : List ℕ) (i : IsInstance o) (below
           split false f k = absurd (cc)
 
       from : (o : Origin) → IsInstance o → (j : List ℕ) → IsBelow (path_of o) j → (n : open_tree.Node) → NodeFollows (path_of o) n → n.items ≡ observation.items ++ (node_left u).items → (eye_after j (new_eye (path_of o) j) observation.items).came ≡ true →
-          s.eye ≡ eye_after j (new_eye (path_of o) j) observation.items → s.events ≡ events_at j (own_events observation.items) → s.fault ≡ None → s.child ≡ child_on_way j observation.items → s.child_fault ≡ None → node_seen j s ≡ shown_at o n j
+          s.eye ≡ eye_after j (new_eye (path_of o) j) observation.items → s.events ≡ events_at j (own_events observation.items) → s.fault ≡ None → s.child ≡ child_on_way j observation.items → s.child_fault ≡ None → node_seen j s ≡ node_at o n j
       from (Instance function args path) i [] b n follows p c eye events fault one child_fault = absurd (let l = b.longer in omega (arith, l))
       from (Instance function args path) i (r ∷ more) b n follows p c eye events fault one child_fault = over-is function args path r more n follows observation.items (node_left u).items p c s eye events fault one child_fault
       from (Loop function rest first path range) i j b n follows p c eye events fault one child_fault = absurd i
@@ -304,4 +304,4 @@ module _ (plan : PlanView) (o : Origin) (j : List ℕ) (i : IsInstance o) (below
       by_child None g =
           let k = came g in
           let eye : s.eye ≡ eye_after j (new_eye (path_of o) j) observation.items = ap (λ (t : ObservedInstance). t.eye) e in
-          from o i j below (opened plan o) (node-follows plan o i) parts (sym (ap (λ (y : Eye). y.came) eye) ∙ k.0) eye (ap (λ (t : ObservedInstance). t.events) e) k.1 child (ap (λ (t : ObservedInstance). t.child_fault) e ∙ way.child_fault)
+          from o i j below (node_of plan o) (node-follows plan o i) parts (sym (ap (λ (y : Eye). y.came) eye) ∙ k.0) eye (ap (λ (t : ObservedInstance). t.events) e) k.1 child (ap (λ (t : ObservedInstance). t.child_fault) e ∙ way.child_fault)

@@ -2,12 +2,12 @@
 -- before it.
 use Rattle.std.proofs.Common.{◌≡◌, ℕ, ◌+◌, Bool, true, false, List, [], ◌∷◌, ◌++◌, Option, Some, None, Result, Ok, Err, refl, sym, ap, ◌∙◌, subst, append-nil, if◌then◌else◌}
 use Rattle.script_grammar.specs.declared.tree.Function.{Function}
-use Rattle.serial_meaning.specs.Runs.{Run, done, after_items, goes_on, ◌then◌}
+use Rattle.serial_meaning.specs.Runs.{Run, done, after_items, continued, ◌then◌}
 use Rattle.serial_meaning.specs.Functions.{function_at}
 use Rattle.serial_meaning.specs.Plan.{PlanView, functions_of}
 use Rattle.serial_meaning.specs.Exec.{State, goes_out, frame, exec, with_loop_values}
 use Rattle.serial_meaning.specs.Eval.{Evaluation, path_of, eval_below, depth_left}
-use Rattle.serial_meaning.specs.Open.{Item, Happened, Child, Opened, Closed, NodeFault, Own, ChildFaulted, Node, put_off_all, unless_child_faulted, loop_end, is_empty_loop, raised, strand_after, last_of, opened}
+use Rattle.serial_meaning.specs.Open.{Item, Happened, Child, Opened, Closed, NodeFault, Own, ChildFaulted, Node, put_off_all, unless_child_faulted, loop_end, is_empty_loop, raised, strand_after, last_of, node_of}
 use Rattle.serial_meaning.proofs.RisingPedigrees.Closed.{Closed as Rules, closed-exec, returned-q}
 use Rattle.serial_meaning.specs.declared.value.Value.{Value}
 use Rattle.serial_meaning.specs.declared.event.Fault.{Fault}
@@ -109,7 +109,7 @@ follows-then {A = A} {B = B} path f-rank g-rank lo r f h k = from r.items r.endi
     start : List ℕ
     start = path ++ lo ∷ []
 
-    from : (items : List Item) (q : Result A NodeFault) → ((by : List ℕ) → Follow start by items) → ((by : List ℕ) → EndsAt path f-rank (stands start items) (came_by by items) q) → Follows path g-rank lo (goes_on items q f)
+    from : (items : List Item) (q : Result A NodeFault) → ((by : List ℕ) → Follow start by items) → ((by : List ℕ) → EndsAt path f-rank (stands start items) (came_by by items) q) → Follows path g-rank lo (continued items q f)
     from items (Err (Own x)) g e = record { follow = g; ends = e }
     from items (Err (ChildFaulted x)) g e = record { follow = g; ends = e }
     from items (Ok a) g e = record { follow = follow; ends = ends }
@@ -188,7 +188,7 @@ module _ (plan : PlanView) (child : Origin → Evaluation) where
       first = j ++ 0 ∷ []
 
       from : (items : List Item) (q : Result S NodeFault) → ((by : List ℕ) → Follow first by items) → ((by : List ℕ) → EndsAt j rank_of (stands first items) (came_by by items) q) →
-          P path s.rank (goes_on (Opened j ∷ items) q (goes_out (put_off_all plan child) plan path s.rank))
+          P path s.rank (continued (Opened j ∷ items) q (goes_out (put_off_all plan child) plan path s.rank))
       from items (Err (Own f)) g e = record { follow = λ by. (refl, strand-is path s.rank, g []); ends = λ by. e [] }
       from items (Err (ChildFaulted f)) g e = record { follow = λ by. (refl, strand-is path s.rank, g []); ends = λ by. e [] }
       from items (Ok a) g e = record {
@@ -242,13 +242,13 @@ mapped {A = A} path rank r f g h = from r.items r.ending h.follow h.ends
     here = path ++ 0 ∷ []
 
     from : (items : List Item) (q : Result A NodeFault) → ((by : List ℕ) → Follow here by items) → ((by : List ℕ) → EndsAt path rank (stands here items) (came_by by items) q) →
-        NodeFollows path (goes_on items q (λ a. done (f a)) then λ b. done (g b))
+        NodeFollows path (continued items q (λ a. done (f a)) then λ b. done (g b))
     from items (Ok a) k e = record { follow = λ by. subst (Follow here by) (sym (append-nil (items ++ []) ∙ append-nil items)) (k by); ends = λ by. tt }
     from items (Err (Own x)) k e = record { follow = k; ends = e }
     from items (Err (ChildFaulted x)) k e = record { follow = k; ends = e }
 
 -- The node of an instance is such.
-pub node-follows : (plan : PlanView) (o : Origin) → IsInstance o → NodeFollows (path_of o) (opened plan o)
+pub node-follows : (plan : PlanView) (o : Origin) → IsInstance o → NodeFollows (path_of o) (node_of plan o)
 node-follows plan (origin.Instance function args path) i =
     let child : Origin → Evaluation = eval_below plan (depth_left plan (origin.Instance function args path)) in
     mapped path (pair_rank plan child) (frame (put_off_all plan child) plan path (exec (put_off_all plan child) plan) 0 (function_at (functions_of plan) function) args (start plan child)) (λ r. r.0) (λ v. v ∷ []) (frame-follows plan child path (function_at (functions_of plan) function) args)

@@ -9,10 +9,10 @@ use Rattle.serial_meaning.specs.declared.origin.Origin.{Origin}
 use Rattle.serial_meaning.specs.declared.origin.Origin.TheVariants.{Instance, Loop}
 use Rattle.serial_meaning.specs.declared.answer.Outcome.{Outcome}
 use Rattle.strand_meaning.specs.Machine.{Effect, Opens, Closes, Emitted, Handed, Syncs, Loops, Reached, Stands, Gives, move}
-use Rattle.strand_meaning.specs.Observation.{IsInstance, Observation, effect_items, work_observation, step_observation, Shows, Now, Later}
+use Rattle.strand_meaning.specs.Observation.{IsInstance, Observation, effect_items, remaining_observation, step_observation, Shows, Now, Later}
 use Rattle.strand_meaning.specs.Trace.{AwaitedChild}
-use Rattle.strand_meaning.specs.Task.{Running, AtSync, AtLoop, Ended, Work, Splits, Runs, Finished, Task, own_instance, MoveOrStop, Passes, Stops, Stop, Spawn, Wait, End, stage_after, child_in, stops_at, passing, moved, ends_unless, faults_after, gave, work_step}
-use Rattle.strand_meaning.specs.Sound.{IsEndOf, IsLoop, IsSoundWork, IsTask}
+use Rattle.strand_meaning.specs.Task.{Running, AtSync, AtLoop, Ended, Remaining, Splits, Runs, Finished, Task, own_instance, MoveOrStop, Passes, Stops, Stop, Spawn, Wait, End, stage_after, child_in, stops_at, passing, step_result, ends_unless, faults_after, returned, remaining_step}
+use Rattle.strand_meaning.specs.Sound.{IsEndOf, IsLoop, IsSoundRemaining, IsTask}
 use Rattle.strand_meaning.specs.Laws.{IsSoundStep}
 use Rattle.strand_meaning.proofs.SoundSteps.Ends.{steps_are_sound}
 use Rattle.strand_meaning.proofs.NextStops.Stops.{KeepsStep, step-keeps}
@@ -55,7 +55,7 @@ module _ (t : Task) where
   at-child is (c ∷ []) (Some o) next h e k = let same : c ≡ o = cc in h ∙ ap (λ d. d ∷ []) same
   at-child is (c ∷ d ∷ os) o next h e k = absurd k
 
-  at-move : (ts : List Effect) (e : Result Reached Fault) → MoveHands t.plan (path_of (own_instance t.origin)) (children ts) e → ShowsStep (effect_items ts) (moved t ts e)
+  at-move : (ts : List Effect) (e : Result Reached Fault) → MoveHands t.plan (path_of (own_instance t.origin)) (children ts) e → ShowsStep (effect_items ts) (step_result t ts e)
   at-move ts (Ok (Stands m)) h = at-child (effect_items ts) (children ts) (child_in ts) (passing t ts (Runs (stage_after ts m))) (effect-children ts) (child-first ts) h
   at-move ts (Ok (Gives v)) h = effect-children ts ∙ h
   at-move ts (Err f) h = effect-children ts ∙ h
@@ -64,21 +64,21 @@ module _ (t : Task) where
   at-fault [] f = at-end t.trace.fault _
   at-fault (p ∷ ps) f = refl
 
-  at-value : (o : Origin) (v : Value) → ShowsStep [] (gave t o v)
+  at-value : (o : Origin) (v : Value) → ShowsStep [] (returned t o v)
   at-value (Instance function args path) v = at-end t.trace.fault _
   at-value (Loop function rest first path range) v = refl
 
-  at-work : (work : Work) → IsInstance t.origin → IsSoundWork t.plan t.origin t.trace.handed work → ShowsStep (work_observation t.plan (path_of (own_instance t.origin)) work).items (work_step t work)
-  at-work (Splits left) i is = absurd (no_end t.origin left i is.0)
-  at-work (Runs (Running m)) i is =
+  at-remaining : (remaining : Remaining) → IsInstance t.origin → IsSoundRemaining t.plan t.origin t.trace.handed remaining → ShowsStep (remaining_observation t.plan (path_of (own_instance t.origin)) remaining).items (remaining_step t remaining)
+  at-remaining (Splits left) i is = absurd (no_end t.origin left i is.0)
+  at-remaining (Runs (Running m)) i is =
       let path = path_of (own_instance t.origin) in let r = move t.plan path m in at-move r.items r.ending (move_hands t.plan path m)
-  at-work (Runs (AtSync m)) i is = refl
-  at-work (Runs (AtLoop m)) i is = refl
-  at-work (Runs (Ended (Ok v))) i is = at-value t.origin v
-  at-work (Runs (Ended (Err (Own f)))) i is = at-fault t.trace.handed f
-  at-work (Runs (Ended (Err (ChildFaulted f)))) i is = at-end t.trace.fault _
-  at-work (Finished v true) i is = absurd (no_loop t.origin i is.0)
-  at-work (Finished v false) i is = absurd (no_loop t.origin i is.0)
+  at-remaining (Runs (AtSync m)) i is = refl
+  at-remaining (Runs (AtLoop m)) i is = refl
+  at-remaining (Runs (Ended (Ok v))) i is = at-value t.origin v
+  at-remaining (Runs (Ended (Err (Own f)))) i is = at-fault t.trace.handed f
+  at-remaining (Runs (Ended (Err (ChildFaulted f)))) i is = at-end t.trace.fault _
+  at-remaining (Finished v true) i is = absurd (no_loop t.origin i is.0)
+  at-remaining (Finished v false) i is = absurd (no_loop t.origin i is.0)
 
 abbrev pub ShowsStop : List Item → Stop → Type 0
 ShowsStop is stop = ShowsStep is (Stops stop)
@@ -90,10 +90,10 @@ shows-more is more (End out ended) h k = children-append is more ∙ ap (λ l. l
 
 pub stops_show : (t : Task) (observation : Observation) (stop : Stop) → IsTask t → IsInstance t.origin → Shows t observation stop → ShowsStop observation.items stop
 stops_show t observation stop is i (Now h e) =
-    let k : ShowsStop (step_observation t).items stop = subst (ShowsStep (step_observation t).items) h (at-work t t.work i is.work) in
+    let k : ShowsStop (step_observation t).items stop = subst (ShowsStep (step_observation t).items) h (at-remaining t t.remaining i is.remaining) in
     subst (λ (l : List Item). ShowsStop l stop) (sym (ap (λ (m : Observation). m.items) e)) k
 stops_show t observation stop is i (Later next later h n e) =
     let same : KeepsStep t (Passes next) = subst (KeepsStep t) h (step-keeps t) in
-    let shown : ShowsStep (step_observation t).items (Passes next) = subst (ShowsStep (step_observation t).items) h (at-work t t.work i is.work) in
+    let shown : ShowsStep (step_observation t).items (Passes next) = subst (ShowsStep (step_observation t).items) h (at-remaining t t.remaining i is.remaining) in
     subst (λ (l : List Item). ShowsStop l stop) (sym (ap (λ (m : Observation). m.items) e))
     (shows-more (step_observation t).items later.items stop shown (stops_show next later stop (subst (IsSoundStep t) h (steps_are_sound t is)) (subst IsInstance (sym same.1) i) n))

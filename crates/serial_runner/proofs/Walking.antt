@@ -8,11 +8,11 @@ use Rattle.serial_meaning.specs.Plan.{PlanView}
 use Rattle.serial_meaning.specs.declared.event.Event.{Event}
 use Rattle.serial_meaning.specs.declared.event.Fault.{Fault}
 use Rattle.serial_meaning.specs.declared.origin.Origin.{Origin}
-use Rattle.strand_meaning.specs.Laws.{IsOf, IsSoundStop, KeepsOrigin, LeavesFewer, ObservationBegins, ObservationGoesOn, AnswersShowNothing}
+use Rattle.strand_meaning.specs.Laws.{IsSameTask, IsSoundStop, KeepsOrigin, LeavesFewer, ObservationBegins, ObservationGoesOn, AnswersShowNothing}
 use Rattle.strand_meaning.specs.Left.{stops_left}
 use Rattle.strand_meaning.specs.Observation.{IsInstance, no_observation, also, IsOnWay, OnWay, IsAllObserved}
 use Rattle.strand_meaning.specs.Trace.{AwaitedChild}
-use Rattle.strand_meaning.specs.Sound.{AreParts, IsTask}
+use Rattle.strand_meaning.specs.Sound.{AreSoundChildren, IsTask}
 use Rattle.strand_meaning.specs.Task.{Task, start}
 use Rattle.serial_meaning.proofs.OriginFaults.Origins.{cons-contained}
 use Rattle.strand_meaning.proofs.NextStops.Fewer.{stops_fall, answers_leave_no_more}
@@ -20,7 +20,7 @@ use Rattle.strand_meaning.proofs.TakenAnswers.AnswersKeepTasks.{answers_keep_tas
 use Rattle.strand_meaning.proofs.NextStops.Stops.{stops_are_sound, stops_keep_origins}
 use Rattle.strand_machine.specs.Family.{tags}
 use Rattle.strand_machine.specs.Observed.{IsObserved}
-use Rattle.strand_machine.specs.Parts.{awaited}
+use Rattle.strand_machine.specs.AwaitedChildren.{awaited}
 use Rattle.strand_machine.specs.Stops.{stop_of, answer_tags, any_cut, with_evaluations, view_on, WentOn}
 use Rattle.strand_machine.specs.Tasks.{TaskView}
 use Rattle.strand_machine.specs.declared.stop.Stop as stops
@@ -28,17 +28,17 @@ use Rattle.strand_machine.specs.declared.stop.Stop.TheVariants as stop
 use Rattle.strand_machine.specs.declared.observe.ObservedStop.{ObservedStop}
 use Rattle.strand_machine.specs.declared.eye.Eye.{Eye}
 use Rattle.serial_runner.specs.Nodes.{IsBelow}
-use Rattle.serial_runner.specs.Observed.{with_observation, with_child, seen, begun_walk, origin_of, AreOriginsOf, IsWalk, IsSeen, is_over, WalksOn}
+use Rattle.serial_runner.specs.Observed.{with_observation, with_child, observed_on, begun_walk, origin_of, AreOriginsOf, IsWalk, IsSeen, is_over, WalksOn}
 use Rattle.serial_runner.specs.declared.observed.ObservedInstance.{ObservedInstance}
 use Rattle.serial_runner.specs.declared.walk.NodeWalk.{NodeWalk}
 use Rattle.serial_runner.specs.declared.walk.Walked.{Walked}
-use Rattle.serial_runner.specs.declared.walk.Walked.TheVariants.{Goes, Ends}
+use Rattle.serial_runner.specs.declared.walk.Walked.TheVariants.{Continues, Ends}
 use Rattle.serial_runner.proofs.Observing.{seen-with, seen_child, seen_none, whole_seen, over_seen}
 use Rattle.serial_runner.proofs.Showing.{ShowsStop, stops_show}
 use Rattle.serial_runner.proofs.Advancing.{went_whole}
 
 -- Each child that a task awaits is an origin of its plan.
-parts-known : (plan : PlanView) (o : Origin) (ps : List AwaitedChild) → AreParts plan o ps → AreOriginsOf plan (awaited ps)
+parts-known : (plan : PlanView) (o : Origin) (ps : List AwaitedChild) → AreSoundChildren plan o ps → AreOriginsOf plan (awaited ps)
 parts-known plan o [] h c there = absurd (omega (arith, there.1))
 parts-known plan o (p ∷ ps) h c there = from (cons-contained p.child c (awaited ps) there) (parts-known plan o ps h.1 c)
   where
@@ -62,7 +62,7 @@ module _ (plan : PlanView) (o : Origin) (j : List ℕ) (w : NodeWalk) (is : IsWa
 
   module _ (s : stops.Stop) (eye : Eye) (events : List Event) (fault child_fault : Option Fault) (observed_stop : IsObserved w.task j w.observed.eye (record { stop = s; eye = eye; events = events; fault = fault; child_fault = child_fault })) where
     -- what is seen, but for a child that was handed out
-    observation-seen : (observed : ObservedInstance) → observed ≡ with_observation eye events fault child_fault w.observed → observed ≡ record (seen (path_of o) j (also is.observation observed_stop.observation)) { child = (seen (path_of o) j is.observation).child }
+    observation-seen : (observed : ObservedInstance) → observed ≡ with_observation eye events fault child_fault w.observed → observed ≡ record (observed_on (path_of o) j (also is.observation observed_stop.observation)) { child = (observed_on (path_of o) j is.observation).child }
     observation-seen observed e =
         e ∙ seen-with (path_of o) j is.observation observed_stop.observation w.observed eye events fault child_fault is.says observed_stop.eye observed_stop.events observed_stop.fault observed_stop.child_fault
 
@@ -82,7 +82,7 @@ module _ (plan : PlanView) (o : Origin) (j : List ℕ) (w : NodeWalk) (is : IsWa
     goes-on go = go t is.observation observed_stop.observation (stop_of s) is.task of_instance is.on observed_stop.shows
 
     -- Where nothing more counts, and this task is what is left, all that is to be seen of it is seen.
-    all-seen : IsBelow (path_of o) j → (u : Task) → IsOf t u → IsOnWay (also is.observation observed_stop.observation) u → (observed : ObservedInstance) → is_over observed ≡ true → observed ≡ seen (path_of o) j (also is.observation observed_stop.observation) → IsSeen plan o j observed
+    all-seen : IsBelow (path_of o) j → (u : Task) → IsSameTask t u → IsOnWay (also is.observation observed_stop.observation) u → (observed : ObservedInstance) → is_over observed ≡ true → observed ≡ observed_on (path_of o) j (also is.observation observed_stop.observation) → IsSeen plan o j observed
     all-seen below u same way observed over says = over_seen plan o j is.instance below (also is.observation observed_stop.observation) u (same.0 ∙ is.plan_is) (same.1 ∙ is.origin_is) way observed says over
 
   module _ (n : ObservedStop) (as_observed : IsObserved w.task j w.observed.eye n) (child rest : TaskView) (stopped : n.stop ≡ stop.Spawn child rest) where
@@ -98,7 +98,7 @@ module _ (plan : PlanView) (o : Origin) (j : List ℕ) (w : NodeWalk) (is : IsWa
 
     -- The walk goes on with the rest.
     pub walks_by_child : ObservationGoesOn → (before observed : ObservedInstance) → before ≡ with_observation n.eye n.events n.fault n.child_fault w.observed → observed ≡ with_child j child.task.origin before →
-        WalksOn plan o j w (Goes (record { task = rest; observed = observed }))
+        WalksOn plan o j w (Continues (record { task = rest; observed = observed }))
     walks_by_child go before observed b h = (walk, less.0)
       where
         kept : KeepsOrigin t (stop_of s)
@@ -161,7 +161,7 @@ module _ (plan : PlanView) (o : Origin) (j : List ℕ) (w : NodeWalk) (is : IsWa
     pub children_known : AreOriginsOf plan (awaited rest.task.trace.handed)
     children_known =
         let task : IsSoundStop t (stop_of at) = sound at n.eye n.events n.fault n.child_fault observed_wait in
-        subst (λ (p : PlanView). AreOriginsOf p (awaited rest.task.trace.handed)) of_plan (parts-known rest.task.plan rest.task.origin rest.task.trace.handed task.parts)
+        subst (λ (p : PlanView). AreOriginsOf p (awaited rest.task.trace.handed)) of_plan (parts-known rest.task.plan rest.task.origin rest.task.trace.handed task.awaiting)
 
     -- These are the answers that it awaits.
     pub it_has_answers : (answers : List AnswerView) (os : List Origin) → os ≡ awaited rest.task.trace.handed → answer_tags answers ≡ tags plan os → answer_tags answers ≡ tags rest.task.plan (awaited rest.task.trace.handed)
@@ -169,9 +169,9 @@ module _ (plan : PlanView) (o : Origin) (j : List ℕ) (w : NodeWalk) (is : IsWa
 
     -- The walk goes on with the answers.
     pub walks_by_wait : ObservationGoesOn → AnswersShowNothing → (answers : List AnswerView) → any_cut answers ≡ false → (v : TaskView) → WentOn answers rest v →
-        (observed : ObservedInstance) → observed ≡ with_observation n.eye n.events n.fault n.child_fault w.observed → WalksOn plan o j w (Goes (record { task = v; observed = observed }))
+        (observed : ObservedInstance) → observed ≡ with_observation n.eye n.events n.fault n.child_fault w.observed → WalksOn plan o j w (Continues (record { task = v; observed = observed }))
     walks_by_wait go nothing answers whole v h observed b =
-        subst (λ (u : TaskView). WalksOn plan o j w (Goes (record { task = u; observed = observed }))) (sym (went_whole answers rest v whole h)) (walk, left)
+        subst (λ (u : TaskView). WalksOn plan o j w (Continues (record { task = u; observed = observed }))) (sym (went_whole answers rest v whole h)) (walk, left)
       where
         kept : KeepsOrigin t (stop_of at)
         kept = same at n.eye n.events n.fault n.child_fault observed_wait
@@ -241,7 +241,7 @@ module _ (plan : PlanView) (o : Origin) (j : List ℕ) (w : NodeWalk) (is : IsWa
         shows : ShowsStop observed_end.observation.items (stop_of end)
         shows = shown end n.eye n.events n.fault n.child_fault observed_end
 
-        says : observed ≡ seen (path_of o) j (also is.observation observed_end.observation)
+        says : observed ≡ observed_on (path_of o) j (also is.observation observed_end.observation)
         says = seen_none (path_of o) j is.observation observed_end.observation observed shows (observation-seen end n.eye n.events n.fault n.child_fault observed_end observed b)
 
         whole : OnWay (also is.observation observed_end.observation) t (stop_of end)

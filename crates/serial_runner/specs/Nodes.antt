@@ -1,7 +1,7 @@
 -- What an instance shows on the way down to a pedigree.
 use Rattle.std.specs.Prelude.{◌≡◌, ◌<◌, ℕ, Bool, true, false, ◌||◌, ◌&&◌, List, Option, Some, None, length, take, bytes_eq, if◌then◌else◌}
 use Rattle.serial_meaning.specs.Open as open_tree
-use Rattle.serial_meaning.specs.Open.{opened}
+use Rattle.serial_meaning.specs.Open.{node_of}
 use Rattle.serial_meaning.specs.Plan.{PlanView}
 use Rattle.serial_meaning.specs.declared.event.Fault.{Fault}
 use Rattle.serial_meaning.specs.declared.origin.Origin.{Origin}
@@ -17,15 +17,15 @@ pub record IsBelow (path j : List ℕ) : Type 0 where
 
 -- A child on the way to the pedigree; where there is none, the instance's strand with that pedigree, and the fault of a child by which it
 -- ended before that.
-abbrev pub shown_by : Option Origin → Option Strand → Option Fault → Node
-shown_by (Some c) strand child_fault = record { strand = None; child = Some c; child_fault = None }
-shown_by None strand child_fault = record { strand = strand; child = None; child_fault = child_fault }
+abbrev pub node_by : Option Origin → Option Strand → Option Fault → Node
+node_by (Some c) strand child_fault = record { strand = None; child = Some c; child_fault = None }
+node_by None strand child_fault = record { strand = strand; child = None; child_fault = child_fault }
 
-abbrev pub shown_at : Origin → open_tree.Node → List ℕ → Node
-shown_at o n j = shown_by (child_on_way j n.items) (strand_of o n j) (blocking_fault n j)
+abbrev pub node_at : Origin → open_tree.Node → List ℕ → Node
+node_at o n j = node_by (child_on_way j n.items) (strand_of o n j) (blocking_fault n j)
 
 abbrev pub node_toward : PlanView → Origin → List ℕ → Node
-node_toward plan o j = shown_at o (opened plan o) j
+node_toward plan o j = node_at o (node_of plan o) j
 
 -- What is seen of an instance with an eye on one pedigree
 
@@ -48,4 +48,4 @@ abbrev pub child_fault_before : ObservedInstance → Option Fault
 child_fault_before s = if s.eye.past then s.child_fault else None
 
 abbrev pub node_seen : List ℕ → ObservedInstance → Node
-node_seen j s = shown_by s.child (strand_seen j s) (child_fault_before s)
+node_seen j s = node_by s.child (strand_seen j s) (child_fault_before s)

@@ -21,7 +21,7 @@ use Rattle.serial_runner.specs.Nodes.{is_none, node_seen, node_toward}
 use Rattle.serial_runner.specs.declared.observed.ObservedInstance.{ObservedInstance}
 use Rattle.serial_runner.specs.declared.walk.NodeWalk.{NodeWalk}
 use Rattle.serial_runner.specs.declared.walk.Walked.{Walked}
-use Rattle.serial_runner.specs.declared.walk.Walked.TheVariants.{Goes, Ends}
+use Rattle.serial_runner.specs.declared.walk.Walked.TheVariants.{Continues, Ends}
 
 abbrev pub nothing_seen : Eye → ObservedInstance
 nothing_seen eye = record { eye = eye; events = []; fault = None; child = None; child_fault = None }
@@ -42,8 +42,8 @@ abbrev pub with_child : List ℕ → Origin → ObservedInstance → ObservedIns
 with_child j o s = record s { child = first_child s.child (child_on_way j (Child o ∷ [])) }
 
 -- what an observation says of a pedigree, of an instance with this path
-abbrev pub seen : List ℕ → List ℕ → Observation → ObservedInstance
-seen path j observation = record {
+abbrev pub observed_on : List ℕ → List ℕ → Observation → ObservedInstance
+observed_on path j observation = record {
   eye = eye_after j (new_eye path j) observation.items;
   events = events_at j (own_events observation.items);
   fault = observation.fault;
@@ -71,7 +71,7 @@ pub record IsWalk (plan : PlanView) (o : Origin) (j : List ℕ) (w : NodeWalk) :
   pub origin_is : origin_of w ≡ o
   pub observation : Observation
   pub on : IsOnWay observation w.task.task
-  pub says : w.observed ≡ seen (path_of o) j observation
+  pub says : w.observed ≡ observed_on (path_of o) j observation
 
 -- The task of a walk has come to this stop, and this is what is seen then.
 pub record IsStopped (j : List ℕ) (w : NodeWalk) (stop : Stop) (observed : ObservedInstance) : Type 0 where
@@ -95,5 +95,5 @@ is_over s = is_some s.child || (s.eye.came && is_none s.fault)
 
 -- One stop further: a walk with fewer stops left, or all that is to be seen, since the instance has ended or nothing that it does later counts.
 abbrev pub WalksOn : PlanView → Origin → List ℕ → NodeWalk → Walked → Type 0
-WalksOn plan o j w (Goes next) = IsWalk plan o j next × (stops_left next.task.task < stops_left w.task.task)
+WalksOn plan o j w (Continues next) = IsWalk plan o j next × (stops_left next.task.task < stops_left w.task.task)
 WalksOn plan o j w (Ends observed) = IsSeen plan o j observed

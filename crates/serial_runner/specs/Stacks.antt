@@ -3,17 +3,17 @@ use Rattle.std.specs.Prelude.{◌≡◌, false, List, [], ◌∷◌, ◌++◌, N
 use Rattle.serial_meaning.specs.Answer.{AnswerView}
 use Rattle.serial_meaning.specs.Eval.{eval}
 use Rattle.serial_meaning.specs.declared.origin.Origin.{Origin}
-use Rattle.strand_meaning.specs.Laws.{IsFaultOf, IsOf}
+use Rattle.strand_meaning.specs.Laws.{IsFaultOf, IsSameTask}
 use Rattle.strand_meaning.specs.Rest.{evaluations}
 use Rattle.strand_meaning.specs.Sound.{IsTask}
 use Rattle.strand_meaning.specs.Task.{Task, start, Stop, Spawn, Wait, End, IsNext, on}
 use Rattle.strand_machine.specs.Family.{tags}
-use Rattle.strand_machine.specs.Parts.{awaited}
+use Rattle.strand_machine.specs.AwaitedChildren.{awaited}
 use Rattle.strand_machine.specs.Stops.{answer_tags, any_cut}
 use Rattle.serial_runner.specs.declared.open_tasks.OpenTask.{OpenTask}
 use Rattle.serial_runner.specs.declared.stack.Stack.{Stack}
 use Rattle.serial_runner.specs.declared.stack.Advanced.{Advanced}
-use Rattle.serial_runner.specs.declared.stack.Advanced.TheVariants.{Goes, Ends}
+use Rattle.serial_runner.specs.declared.stack.Advanced.TheVariants.{Continues, Ends}
 
 abbrev pub task_of : OpenTask → Task
 task_of f = f.task.task
@@ -60,9 +60,9 @@ abbrev pub stack_with_answer : AnswerView → OpenTask → List OpenTask → Sta
 stack_with_answer answer f fs = record { top = record f { answers = f.answers ++ answer ∷ [] }; below = fs }
 
 -- one stop of the topmost task
-pub record Follows (s next : Stack) : Type 0 where
+pub record StepsStack (s next : Stack) : Type 0 where
   pub sound : IsStack next
-  pub lowest : IsOf (lowest s) (lowest next)
+  pub lowest : IsSameTask (lowest s) (lowest next)
   pub stop : Stop
   pub comes : IsNext (task_of s.top) stop
   pub leaves : tasks (next.top ∷ next.below) ≡ tasks_after stop (tasks s.below)
@@ -74,13 +74,13 @@ pub record IsAnswerOf (t : Task) (answer : AnswerView) : Type 0 where
   pub fault : IsFaultOf t.plan answer.outcome
 
 -- the answer of the task at the bottom
-abbrev pub Closes : Stack → AnswerView → Type 0
-Closes s = IsAnswerOf (lowest s)
+abbrev pub AnswersLowest : Stack → AnswerView → Type 0
+AnswersLowest s = IsAnswerOf (lowest s)
 
 -- the task of an answer before it was begun
 abbrev pub task_of_answer : AnswerView → Task
 task_of_answer answer = start answer.plan answer.origin
 
 abbrev pub AdvancesTo : Stack → Advanced → Type 0
-AdvancesTo s (Goes next) = Follows s next
-AdvancesTo s (Ends answer) = Closes s answer
+AdvancesTo s (Continues next) = StepsStack s next
+AdvancesTo s (Ends answer) = AnswersLowest s answer

@@ -20,16 +20,16 @@ fn boxed(alloc: Global, answer: Answer) -> Result<Boxed<Answer>, Memory>
 }
 
 /// The answer of a task that has ended goes to the one below it. The list of the answers that it took is of use again.
-fn answered(
+fn answer_below(
     alloc: Global,
     answer: Answer,
     taken: Items<Answer>,
     mut below: OpenTasks,
 ) -> Result<Advanced, Memory>
-    ensures parent { (f : OpenTask) (fs : List OpenTask) → below ≡ f ∷ fs → IfOk result (λ advanced. advanced ≡ Advanced.Goes (stack_with_answer answer f fs)) }
+    ensures parent { (f : OpenTask) (fs : List OpenTask) → below ≡ f ∷ fs → IfOk result (λ advanced. advanced ≡ Advanced.Continues (stack_with_answer answer f fs)) }
     ensures last { below ≡ [] → IfOk result (λ advanced. advanced ≡ Advanced.Ends answer) }
 {
-    below.spare(taken);
+    below.reuse(taken);
     match below.pop() {
         Some(mut top) => {
             if top.answers.as_slice().is_empty() {
@@ -39,7 +39,7 @@ fn answered(
                 top.answers.0.try_reserve(1)?;
             }
             top.answers.0.push_reserved(answer);
-            Ok(Advanced::Goes(Stack { top, below }))
+            Ok(Advanced::Continues(Stack { top, below }))
         }
         None => Ok(Advanced::Ends(boxed(alloc, answer)?)),
     }
@@ -80,12 +80,12 @@ pub(crate) fn advance(stack: Stack, alloc: Global) -> Result<Advanced, Memory>
             };
             let (child, ()) = beside(child, below.push(parent))?;
             let top = below.open_task(alloc, child);
-            Ok(Advanced::Goes(Stack { top, below }))
+            Ok(Advanced::Continues(Stack { top, below }))
         }
         Paused::Wait { rest } => {
             let (task, answers) = rest.resume_by(alloc, answers)?;
             let top = OpenTask { task, answers };
-            Ok(Advanced::Goes(Stack { top, below }))
+            Ok(Advanced::Continues(Stack { top, below }))
         }
         Paused::Ended { rest } => {
             let (answer, give) = rest.finish();
@@ -94,7 +94,7 @@ pub(crate) fn advance(stack: Stack, alloc: Global) -> Result<Advanced, Memory>
                 let last = end_all(alloc, answer, below)?;
                 return Ok(Advanced::Ends(boxed(alloc, last)?));
             }
-            answered(alloc, answer, answers, below)
+            answer_below(alloc, answer, answers, below)
         }
     }
 }

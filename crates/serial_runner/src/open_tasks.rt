@@ -62,7 +62,7 @@ impl OpenTasks {
     }
 
     /// Keeps a list that is no longer needed, where there is room for it.
-    pub fn spare(&mut self, answers: Items<Answer>)
+    pub fn reuse(&mut self, answers: Items<Answer>)
         ensures { self.new ≡ self.old }
     {
         match self.spare.push(answers) {

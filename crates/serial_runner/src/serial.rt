@@ -4,32 +4,16 @@ ghost use Rattle.std.specs.Arc.{arc_value};
 ghost use Rattle.serial_meaning.specs.Laws.{IsOriginOf};
 ghost use Rattle.strand_meaning.specs.Laws.{IsFaultOf};
 ghost use Rattle.strand_meaning.specs.Task.{start};
-ghost use Rattle.strand_machine.specs.Tasks.{fresh};
 ghost use Rattle.serial_runner.specs.Stacks.{IsStack, lowest};
 
 use crate::advance::advance;
 use crate::open_tasks::OpenTasks;
 use crate::stack::{Advanced, Stack};
-use meet_block::Give;
-use serial_meaning::{Answer, AnswerKey, Origin, Plan};
+use serial_meaning::{Answer, Origin, Plan};
 use std::alloc::Global;
 use std::sync::Arc;
 use strand_machine::{Memory, Task};
 use strand_meaning::laws;
-
-/// A task of the origin. Nobody looks for what it gives, nor for what the tasks below it give: their answers are taken as they come.
-pub(crate) fn begin_task(alloc: Global, plan: &Arc<Plan>, origin: Origin) -> Result<Task, Memory>
-    requires { IsOriginOf (arc_value plan.now) origin }
-    ensures { IfOk result (λ task. task ≡ fresh (arc_value plan.now) origin) }
-{
-    let key = AnswerKey {
-        plan: Arc::try_clone(plan)?,
-        origin,
-    };
-    let give = Give::alone(&key);
-    let AnswerKey { plan, origin } = key;
-    Ok(Task::start(alloc, plan, origin, give)?)
-}
 
 /// The stack of this task alone.
 pub(crate) fn stack_of(alloc: Global, plan: &Arc<Plan>, origin: Origin) -> Result<Stack, Memory>
@@ -41,7 +25,7 @@ pub(crate) fn stack_of(alloc: Global, plan: &Arc<Plan>, origin: Origin) -> Resul
     let _script = plan.checked.script();
     laws::valid_plans_are_clear();
     laws::tasks_begin();
-    let task = begin_task(alloc, plan, origin)?;
+    let task = Task::alone(alloc, plan, origin)?;
     let mut below = OpenTasks::new(alloc);
     let top = below.open_task(alloc, task);
     Ok(Stack { top, below })
@@ -61,7 +45,7 @@ pub fn run_serial(alloc: Global, plan: &Arc<Plan>, origin: Origin) -> Result<Ans
     let mut stack = stack_of(alloc, plan, origin)?;
     loop {
         match advance(stack, alloc)? {
-            Advanced::Goes(next) => stack = next,
+            Advanced::Continues(next) => stack = next,
             Advanced::Ends(answer) => return Ok(Box::into_inner(answer.0)),
         }
     }

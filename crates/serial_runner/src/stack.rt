@@ -12,7 +12,7 @@ pub(crate) struct Stack {
 /// What a stop of the topmost task makes of a stack. An answer stands in a box, so that this stays small.
 #[derive(Drop)]
 pub(crate) enum Advanced {
-    Goes(Stack),
+    Continues(Stack),
     /// The task at the bottom has ended.
     Ends(Boxed<Answer>),
 }

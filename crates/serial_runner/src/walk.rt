@@ -13,7 +13,7 @@ ghost use Rattle.serial_runner.specs.Observed.{AreOriginsOf, IsSeen, IsStopped, 
 
 use crate::beside::beside;
 use crate::observed::ObservedInstance;
-use crate::serial::{begin_task, run_serial};
+use crate::serial::run_serial;
 use ped_path::Pedigree;
 use script_grammar::Items;
 use serial_meaning::{Answer, Origin, Plan};
@@ -33,7 +33,7 @@ pub(crate) struct NodeWalk {
 /// What a stop of the task makes of a walk.
 #[derive(Drop)]
 pub(crate) enum Walked {
-    Goes(NodeWalk),
+    Continues(NodeWalk),
     /// The instance has ended, or nothing that it does later counts.
     Ends(ObservedInstance),
 }
@@ -92,7 +92,7 @@ fn walk_on(walk: NodeWalk, alloc: Global, plan: &Arc<Plan>, at: &Pedigree) -> Re
                 drop(rest);
                 return Ok(Walked::Ends(observed));
             }
-            Ok(Walked::Goes(NodeWalk {
+            Ok(Walked::Continues(NodeWalk {
                 task: rest,
                 observed,
             }))
@@ -105,7 +105,7 @@ fn walk_on(walk: NodeWalk, alloc: Global, plan: &Arc<Plan>, at: &Pedigree) -> Re
             let answers = answers_of(alloc, plan, rest.awaited().as_slice());
             let ((rest, observed), answers) = beside((rest, observed), answers)?;
             let (observed, task) = beside(observed, rest.resume_with(alloc, answers))?;
-            Ok(Walked::Goes(NodeWalk { task, observed }))
+            Ok(Walked::Continues(NodeWalk { task, observed }))
         }
         Stop::Done { answer, give } => {
             drop(answer);
@@ -130,8 +130,8 @@ fn begin_walk(
     let _script = plan.checked.script();
     laws::valid_plans_are_clear();
     laws::tasks_begin();
-    let eye = Eye::start(path(&origin), at);
-    let task = begin_task(alloc, plan, origin)?;
+    let eye = Eye::new(path(&origin), at);
+    let task = Task::alone(alloc, plan, origin)?;
     Ok(NodeWalk {
         task,
         observed: ObservedInstance::new(eye),
@@ -155,7 +155,7 @@ pub(crate) fn observe_instance(
     let mut walk = begin_walk(alloc, plan, origin, at)?;
     loop {
         match walk_on(walk, alloc, plan, at)? {
-            Walked::Goes(next) => walk = next,
+            Walked::Continues(next) => walk = next,
             Walked::Ends(observed) => return Ok(observed),
         }
     }

@@ -31,21 +31,21 @@ after_event o (event.Spawn j) = went_on o
 after_event o (event.Sync j) = synced o
 after_event o (event.Loop j) = looping_at j (went_on o)
 
-abbrev pub joined : OpenInstance → Begun → ℕ → OpenInstance
-joined o Spawned within = record o { spawned = max o.spawned within; within = max o.within within }
-joined o Iterated within = record o { looped = max o.looped within; within = max o.within within }
+abbrev pub after_child_end : OpenInstance → Begun → ℕ → OpenInstance
+after_child_end o Spawned within = record o { spawned = max o.spawned within; within = max o.within within }
+after_child_end o Iterated within = record o { looped = max o.looped within; within = max o.within within }
 
 -- an instance that has begun
-abbrev pub begun : List ℕ → Begun → ℕ → OpenInstance
-begun path how before = record { path = path; begun = how; before = before; looping = None; looped = 0; spawned = 0; within = 0 }
+abbrev pub new_open_instance : List ℕ → Begun → ℕ → OpenInstance
+new_open_instance path how before = record { path = path; begun = how; before = before; looping = None; looped = 0; spawned = 0; within = 0 }
 
 -- whether a path begins with another
 abbrev pub starts : List ℕ → List ℕ → Bool
 starts front path = bytes_eq (take (length front) path) front
 
 -- whether a path is the instance's or that of one below it, or goes on from the instance's by the ranks of its open scopes
-abbrev pub leads : OpenInstance → List ℕ → Bool
-leads o path = starts o.path path
+abbrev pub is_path_below : OpenInstance → List ℕ → Bool
+is_path_below o path = starts o.path path
 
 abbrev pub iteration_at : List ℕ → Option ℕ → Option (List ℕ)
 iteration_at by None = None

@@ -36,7 +36,7 @@ pub record IsHome (events : List Event) (pedigree home : List ℕ) : Type 0 wher
   pub longest : (other : List ℕ) → IsInstance events other → BeginsProperly other pedigree → length other ≤ length home
 
 -- an event of this instance with this number
-pub record IsOf (events : List Event) (home : List ℕ) (i : ℕ) (e : Event) : Type 0 where
+pub record IsEventOf (events : List Event) (home : List ℕ) (i : ℕ) (e : Event) : Type 0 where
   pub numbered : IsEvent events i e
   pub belongs : IsHome events (pedigree_of e) home
 
@@ -51,16 +51,16 @@ pub record IsMeet (events : List Event) (a b meet : List ℕ) : Type 0 where
 -- itself; or it lies in a loop of that instance, and `b` doesn't; or it lies in a child that this instance spawned before a sync of its own.
 pub data PrecedesAtMeet (events : List Event) (i : ℕ) (a b meet : List ℕ) : Type 0 where
   Own : a ≡ meet → PrecedesAtMeet events i a b meet
-  Looped : (c : ℕ) (j : List ℕ) → IsOf events meet c (event.Loop j) → BeginsProperly j a → (Begins j b → ⊥) → PrecedesAtMeet events i a b meet
-  Synced : (c s : ℕ) (j at : List ℕ) → IsOf events meet c (event.Spawn j) → Begins j a → IsOf events meet s (event.Sync at) → c < s → s < i → PrecedesAtMeet events i a b meet
+  Looped : (c : ℕ) (j : List ℕ) → IsEventOf events meet c (event.Loop j) → BeginsProperly j a → (Begins j b → ⊥) → PrecedesAtMeet events i a b meet
+  Synced : (c s : ℕ) (j at : List ℕ) → IsEventOf events meet c (event.Spawn j) → Begins j a → IsEventOf events meet s (event.Sync at) → c < s → s < i → PrecedesAtMeet events i a b meet
 
 -- Event number i is in series before what an instance does from number n on.
-pub record IsReady (events : List Event) (i n : ℕ) (home : List ℕ) : Type 0 where
+pub record PrecedesFrom (events : List Event) (i n : ℕ) (home : List ℕ) : Type 0 where
   pub earlier : i < n
   pub e : Event
   pub own : List ℕ
   pub meet : List ℕ
-  pub placed : IsOf events own i e
+  pub placed : IsEventOf events own i e
   pub parting : IsMeet events own home meet
   pub awaited : PrecedesAtMeet events n own home meet
 
@@ -68,8 +68,8 @@ pub record IsReady (events : List Event) (i n : ℕ) (home : List ℕ) : Type 0 
 pub record InSeries (events : List Event) (i n : ℕ) : Type 0 where
   pub e : Event
   pub home : List ℕ
-  pub placed : IsOf events home n e
-  pub ready : IsReady events i n home
+  pub placed : IsEventOf events home n e
+  pub ready : PrecedesFrom events i n home
 
 -- the chain's next number, if there is one, is that of an event in series before this one
 abbrev pub Follows : List Event → ℕ → List ℕ → Type 0

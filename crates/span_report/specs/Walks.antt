@@ -8,7 +8,7 @@ use Rattle.span_report.specs.declared.instance.OpenInstance.{OpenInstance}
 use Rattle.span_report.specs.declared.instance.Begun.TheVariants.{Spawned, Iterated}
 use Rattle.span_report.specs.declared.walk.Walk.{Walk}
 use Rattle.span_report.specs.Series.{IsSpan, pedigree_of}
-use Rattle.span_report.specs.Opens.{begun, joined, leads, after_event, iteration_on}
+use Rattle.span_report.specs.Opens.{new_open_instance, after_child_end, is_path_below, after_event, iteration_on}
 
 -- The current instance, and those that it stands below, from its parent on.
 pub record OpenInstances : Type 0 where
@@ -20,43 +20,43 @@ open_instances w = record { top = w.top; under = reverse w.below.items }
 
 -- at the start main alone
 abbrev pub main_alone : OpenInstances
-main_alone = record { top = begun [] Spawned 0; under = [] }
+main_alone = record { top = new_open_instance [] Spawned 0; under = [] }
 
 -- after the end of the instances that don't lead to a path
 abbrev pub left : List ℕ → OpenInstance → List OpenInstance → OpenInstances
 left path o [] = record { top = o; under = [] }
-left path o (p ∷ ps) = cond (leads o path) (record { top = o; under = p ∷ ps }) (left path (joined p o.begun o.within) ps)
+left path o (p ∷ ps) = cond (is_path_below o path) (record { top = o; under = p ∷ ps }) (left path (after_child_end p o.begun o.within) ps)
 
 -- after the end of all but main
-abbrev pub ended : OpenInstance → List OpenInstance → OpenInstance
-ended o [] = o
-ended o (p ∷ ps) = ended (joined p o.begun o.within) ps
+abbrev pub after_ends : OpenInstance → List OpenInstance → OpenInstance
+after_ends o [] = o
+after_ends o (p ∷ ps) = after_ends (after_child_end p o.begun o.within) ps
 
 abbrev pub pushed : OpenInstances → OpenInstance → OpenInstances
 pushed w o = record { top = o; under = w.top ∷ w.under }
 
 abbrev pub pushed_iteration : Option (List ℕ) → OpenInstances → OpenInstances
 pushed_iteration None w = w
-pushed_iteration (Some path) w = pushed w (begun path Iterated w.top.before)
+pushed_iteration (Some path) w = pushed w (new_open_instance path Iterated w.top.before)
 
 -- where the instance of a path goes on, of which at most an iteration isn't open yet
 abbrev pub opened_to : List ℕ → OpenInstances → OpenInstances
 opened_to path w = pushed_iteration (iteration_on w.top.looping path) w
 
-abbrev pub went : OpenInstances → Event → OpenInstances
-went w (event.Print j v) = record w { top = after_event w.top (event.Print j v) }
-went w (event.Draw j n) = record w { top = after_event w.top (event.Draw j n) }
-went w (event.New j) = record w { top = after_event w.top (event.New j) }
-went w (event.Spawn j) = pushed (record w { top = after_event w.top (event.Spawn j) }) (begun j Spawned (after_event w.top (event.Spawn j)).before)
-went w (event.Sync j) = record w { top = after_event w.top (event.Sync j) }
-went w (event.Loop j) = record w { top = after_event w.top (event.Loop j) }
+abbrev pub instances_after : OpenInstances → Event → OpenInstances
+instances_after w (event.Print j v) = record w { top = after_event w.top (event.Print j v) }
+instances_after w (event.Draw j n) = record w { top = after_event w.top (event.Draw j n) }
+instances_after w (event.New j) = record w { top = after_event w.top (event.New j) }
+instances_after w (event.Spawn j) = pushed (record w { top = after_event w.top (event.Spawn j) }) (new_open_instance j Spawned (after_event w.top (event.Spawn j)).before)
+instances_after w (event.Sync j) = record w { top = after_event w.top (event.Sync j) }
+instances_after w (event.Loop j) = record w { top = after_event w.top (event.Loop j) }
 
 -- a pedigree's path, which is all of it but the last rank
 abbrev pub path_of : Event → List ℕ
 path_of e = take (length (pedigree_of e) - 1) (pedigree_of e)
 
 abbrev pub walked : OpenInstances → Event → OpenInstances
-walked w e = went (opened_to (path_of e) (left (path_of e) w.top w.under)) e
+walked w e = instances_after (opened_to (path_of e) (left (path_of e) w.top w.under)) e
 
 abbrev pub walked_all : OpenInstances → List Event → OpenInstances
 walked_all w [] = w
@@ -64,7 +64,7 @@ walked_all w (e ∷ es) = walked_all (walked w e) es
 
 -- the length of the longest chain, as the walk has it once all instances have ended
 abbrev pub walked_span : List Event → ℕ
-walked_span es = (ended (walked_all main_alone es).top (walked_all main_alone es).under).within
+walked_span es = (after_ends (walked_all main_alone es).top (walked_all main_alone es).under).within
 
 -- The walk along the events of a serial elision comes to their span.
 abbrev pub SpansAreWalked : Type 0

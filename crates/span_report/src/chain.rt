@@ -34,22 +34,22 @@ fn longest_chain(alloc: Global, events: &Out) -> Result<u64, Memory>
 {
     let mut walk = Walk::new(alloc)?;
     if let Some((full, last)) = events.chunks() {
-        note_chunks(alloc, &mut walk, full)?;
-        note_chunk(alloc, &mut walk, last)?;
+        add_chunks(alloc, &mut walk, full)?;
+        add_chunk(alloc, &mut walk, last)?;
     }
     Ok(walk.longest())
 }
 
-fn note_chunks(alloc: Global, walk: &mut Walk, chunks: &[Chunk]) -> Result<(), Memory>
+fn add_chunks(alloc: Global, walk: &mut Walk, chunks: &[Chunk]) -> Result<(), Memory>
     ensures { OnOk result (open_instances walk.new ≡ walked_all (open_instances walk.old) (joined chunks.now)) }
 {
     for chunk in chunks {
-        note_chunk(alloc, walk, chunk.events())?;
+        add_chunk(alloc, walk, chunk.events())?;
     }
     Ok(())
 }
 
-fn note_chunk(alloc: Global, walk: &mut Walk, events: &[Event]) -> Result<(), Memory>
+fn add_chunk(alloc: Global, walk: &mut Walk, events: &[Event]) -> Result<(), Memory>
     ensures { OnOk result (open_instances walk.new ≡ walked_all (open_instances walk.old) events.now) }
 {
     for event in events {

@@ -1,5 +1,5 @@
 ghost use Rattle.std.specs.Prelude.{◌≡◌, IfOk, OnOk};
-ghost use Rattle.span_report.specs.Opens.{begun, joined, leads, after_event, iteration_on};
+ghost use Rattle.span_report.specs.Opens.{new_open_instance, after_child_end, is_path_below, after_event, iteration_on};
 
 use ped_path::Ped;
 use serial_meaning::{Event, Memory};
@@ -35,7 +35,7 @@ pub(crate) struct OpenInstance {
 impl OpenInstance {
     /// An instance that has just begun, of which a chain of this length ends before the first event.
     pub(crate) fn begin(path: Ped, how: Begun, before: u64) -> OpenInstance
-        ensures { result ≡ begun path how before }
+        ensures { result ≡ new_open_instance path how before }
     {
         OpenInstance {
             path,
@@ -50,14 +50,14 @@ impl OpenInstance {
 
     /// Whether a path is that of this instance, in an open scope or in none, or of one that stands below it.
     pub(crate) fn leads_to(&self, path: &Ped) -> bool
-        ensures { result ≡ leads self.now path.now }
+        ensures { result ≡ is_path_below self.now path.now }
     {
         path.begins_with(&self.path)
     }
 
     /// The path of the iteration with which this path begins, where the instance is in a loop and the path is of that. A path in an
     /// open scope isn't.
-    pub(crate) fn iteration(&self, alloc: Global, path: &Ped) -> Result<Option<Ped>, Memory>
+    pub(crate) fn iteration_on(&self, alloc: Global, path: &Ped) -> Result<Option<Ped>, Memory>
         ensures { IfOk result (λ found. found ≡ iteration_on self.now.looping path.now) }
     {
         let Some(by) = &self.looping else {
@@ -96,7 +96,7 @@ impl OpenInstance {
 
     /// Takes in what a child did, which has ended.
     pub(crate) fn take_in(&mut self, child: &OpenInstance)
-        ensures { self.new ≡ joined self.old child.now.begun child.now.within }
+        ensures { self.new ≡ after_child_end self.old child.now.begun child.now.within }
     {
         match child.begun {
             Begun::Spawned => self.spawned = self.spawned.max(child.within),

@@ -1,7 +1,7 @@
 ghost use Rattle.std.specs.Prelude.{◌≡◌, IfOk, OnOk, reverse};
 ghost use Rattle.span_report.specs.Series.{pedigree_of};
-ghost use Rattle.span_report.specs.Opens.{joined};
-ghost use Rattle.span_report.specs.Walks.{ended, opened_to, left, open_instances, path_of, pushed, main_alone, walked};
+ghost use Rattle.span_report.specs.Opens.{after_child_end};
+ghost use Rattle.span_report.specs.Walks.{after_ends, opened_to, left, open_instances, path_of, pushed, main_alone, walked};
 
 use crate::instance::{Begun, OpenInstance};
 use ped_path::{Ped, Pedigree};
@@ -60,7 +60,7 @@ impl Walk {
     fn enter(&mut self, alloc: Global, path: &Ped) -> Result<(), Memory>
         ensures { OnOk result (open_instances self.new ≡ opened_to path.now (open_instances self.old)) }
     {
-        if let Some(iteration) = self.top.iteration(alloc, path)? {
+        if let Some(iteration) = self.top.iteration_on(alloc, path)? {
             let child = OpenInstance::begin(iteration, Begun::Iterated, self.top.before);
             self.push(child)?;
         }
@@ -69,7 +69,7 @@ impl Walk {
 
     /// Ends the current instance, whose parent this is.
     fn end_in(&mut self, parent: OpenInstance)
-        ensures top { self.new.top ≡ joined parent self.old.top.begun self.old.top.within }
+        ensures top { self.new.top ≡ after_child_end parent self.old.top.begun self.old.top.within }
         ensures below { self.new.below ≡ self.old.below }
     {
         let child = mem::replace(&mut self.top, parent);
@@ -86,7 +86,7 @@ impl Walk {
 
     /// Ends all instances. The length of the longest chain of all.
     pub(crate) fn longest(mut self) -> u64
-        ensures { result ≡ (ended self.top (reverse self.below.items)).within }
+        ensures { result ≡ (after_ends self.top (reverse self.below.items)).within }
     {
         while let Some(parent) = self.below.pop() {
             self.end_in(parent);

@@ -4,7 +4,7 @@ use mathlib.Core.Option.{some, some-injective, some-ne-none}
 use lib.ListN.{get_elem?}
 use Rattle.crossbeam_deque.proofs.Lists.{at_longer}
 use Rattle.steal_deck.specs.declared.rule.Party.{Party}
-use Rattle.steal_deck.specs.Accounts.{one_if, AreOf}
+use Rattle.steal_deck.specs.Accounts.{one_if, AreEntriesOf}
 use Rattle.steal_deck.proofs.Weights.{below, weigh, taken_by, thieves, AllAreOf, Above, Rising, Idle}
 
 module _ {T : Type 0} where
@@ -32,7 +32,7 @@ module _ {T : Type 0} where
   tasks_more [] e = refl
   tasks_more (y ∷ ys) e = ap (λ l. y.1 ∷ l) (tasks_more ys e)
 
-  pub named_longer : (p q : List T) (es : List (ℕ × T)) → AreOf p es → AreOf (p ++ q) es
+  pub named_longer : (p q : List T) (es : List (ℕ × T)) → AreEntriesOf p es → AreEntriesOf (p ++ q) es
   named_longer p q [] h = tt
   named_longer p q (e ∷ es) h = (at_longer p q e.0 e.1 h.0, named_longer p q es h.1)
 
@@ -40,15 +40,15 @@ module _ {T : Type 0} where
   all_named_longer p q [] h = tt
   all_named_longer p q (v ∷ vs) h = (named_longer p q v.taken h.0, all_named_longer p q vs h.1)
 
-  pub named_more : (p : List T) (es : List (ℕ × T)) (e : ℕ × T) → AreOf p es → get_elem? p e.0 ≡ some e.1 → AreOf p (es ++ e ∷ [])
+  pub named_more : (p : List T) (es : List (ℕ × T)) (e : ℕ × T) → AreEntriesOf p es → get_elem? p e.0 ≡ some e.1 → AreEntriesOf p (es ++ e ∷ [])
   named_more p [] e h at = (at, tt)
   named_more p (y ∷ ys) e h at = (h.0, named_more p ys e h.1 at)
 
-  pub named_both : (p : List T) (es fs : List (ℕ × T)) → AreOf p es → AreOf p fs → AreOf p (es ++ fs)
+  pub named_both : (p : List T) (es fs : List (ℕ × T)) → AreEntriesOf p es → AreEntriesOf p fs → AreEntriesOf p (es ++ fs)
   named_both p [] fs h k = k
   named_both p (y ∷ ys) fs h k = (h.0, named_both p ys fs h.1 k)
 
-  pub named_front : (p : List T) (es : List (ℕ × T)) (e : ℕ × T) → AreOf p (es ++ e ∷ []) → AreOf p es × (get_elem? p e.0 ≡ some e.1)
+  pub named_front : (p : List T) (es : List (ℕ × T)) (e : ℕ × T) → AreEntriesOf p (es ++ e ∷ []) → AreEntriesOf p es × (get_elem? p e.0 ≡ some e.1)
   named_front p [] e h = (tt, h.0)
   named_front p (y ∷ ys) e h = let t = named_front p ys e h.1 in ((h.0, t.0), t.1)
 
@@ -60,7 +60,7 @@ module _ {T : Type 0} where
   above_front n [] e h = tt
   above_front n (y ∷ ys) e h = (h.0, above_front n ys e h.1)
 
-  pub rising_more : (p : List T) (es : List (ℕ × T)) (x : T) → Rising es → AreOf p es → Rising (es ++ (length p, x) ∷ [])
+  pub rising_more : (p : List T) (es : List (ℕ × T)) (x : T) → Rising es → AreEntriesOf p es → Rising (es ++ (length p, x) ∷ [])
   rising_more p [] x r h = (tt, tt)
   rising_more p (y ∷ ys) x r h = (above_more y.0 ys (length p, x) r.0 (in_range p y.0 y.1 h.0), rising_more p ys x r.1 h.1)
 
@@ -93,12 +93,12 @@ module _ {T : Type 0} where
   thieves_set (x ∷ xs) zero v w at = let e : one_if x.is_thief ≡ one_if v.is_thief = ap (λ (y : Party T). one_if y.is_thief) (some-injective x v at) in omega arith
   thieves_set (x ∷ xs) (suc k) v w at = omega (arith, thieves_set xs k v w at)
 
-  pub named_at : (p : List T) (vs : List (Party T)) (k : ℕ) (v : Party T) → get_elem? vs k ≡ some v → AllAreOf p vs → AreOf p v.taken
+  pub named_at : (p : List T) (vs : List (Party T)) (k : ℕ) (v : Party T) → get_elem? vs k ≡ some v → AllAreOf p vs → AreEntriesOf p v.taken
   named_at p [] k v at h = absurd (some-ne-none v (sym at))
-  named_at p (x ∷ xs) zero v at h = subst (λ (y : Party T). AreOf p y.taken) (some-injective x v at) h.0
+  named_at p (x ∷ xs) zero v at h = subst (λ (y : Party T). AreEntriesOf p y.taken) (some-injective x v at) h.0
   named_at p (x ∷ xs) (suc k) v at h = named_at p xs k v at h.1
 
-  pub named_set : (p : List T) (vs : List (Party T)) (k : ℕ) (w : Party T) → AllAreOf p vs → AreOf p w.taken → AllAreOf p (set vs k w)
+  pub named_set : (p : List T) (vs : List (Party T)) (k : ℕ) (w : Party T) → AllAreOf p vs → AreEntriesOf p w.taken → AllAreOf p (set vs k w)
   named_set p [] k w h n = tt
   named_set p (x ∷ xs) zero w h n = (n, h.1)
   named_set p (x ∷ xs) (suc k) w h n = (h.0, named_set p xs k w h.1 n)
@@ -116,7 +116,7 @@ module _ {T : Type 0} where
   thieves_more [] w = omega arith
   thieves_more (x ∷ xs) w = omega (arith, thieves_more xs w)
 
-  pub all_named_more : (p : List T) (vs : List (Party T)) (w : Party T) → AllAreOf p vs → AreOf p w.taken → AllAreOf p (vs ++ w ∷ [])
+  pub all_named_more : (p : List T) (vs : List (Party T)) (w : Party T) → AllAreOf p vs → AreEntriesOf p w.taken → AllAreOf p (vs ++ w ∷ [])
   all_named_more p [] w h n = (n, tt)
   all_named_more p (x ∷ xs) w h n = (h.0, all_named_more p xs w h.1 n)
 

@@ -4,7 +4,7 @@ use mathlib.Core.Option.{some}
 use lib.ListN.{get_elem?}
 use Rattle.crossbeam_deque.proofs.Lists.{at_last}
 use Rattle.steal_deck.specs.declared.rule.Party.{Party}
-use Rattle.steal_deck.specs.Accounts.{one_if, AreOf}
+use Rattle.steal_deck.specs.Accounts.{one_if, AreEntriesOf}
 use Rattle.steal_deck.specs.History.{DeckEvent, DeckState, push, pop, steal, make_thief, take_back, owner, thief, retired, with_push, with_entry, with_thief, with_back, Leads, IsHistory}
 use Rattle.steal_deck.proofs.Weights.{weigh, Rising, IsLawful, Lawful}
 use Rattle.steal_deck.proofs.Entries.{below_more, weigh_more, weigh_both, named_longer, all_named_longer, named_more, named_both, named_front, rising_more, rising_front, taken_set, thieves_set, named_at, named_set, idle_set, taken_more, thieves_more, all_named_more, idle_more}
@@ -31,7 +31,7 @@ module _ {T : Type 0} where
   popped_off : (r : DeckState T) (left : List (ℕ × T)) (e : ℕ × T) → r.left ≡ left ++ e ∷ [] → Lawful r → IsLawful left (with_entry r.owner e) r.others
   popped_off r left e q d =
       let v = r.owner in
-      let named = named_front v.pushed left e (subst (AreOf v.pushed) q d.named.0) in record {
+      let named = named_front v.pushed left e (subst (AreEntriesOf v.pushed) q d.named.0) in record {
         rising = rising_front left e (subst Rising q d.rising);
         named = (named.0, named_more v.pushed v.taken e d.named.1 named.1, d.named.2, d.named.3);
         once = λ h. let o = d.once h in omega (arith, ap (weigh h) q, weigh_more h left e, weigh_more h v.taken e);
@@ -45,7 +45,7 @@ module _ {T : Type 0} where
   stolen_off r left k e v at o q d =
       let boss = r.owner in
       let w : Party T = with_entry v e in
-      let named = subst (AreOf boss.pushed) q d.named.0 in record {
+      let named = subst (AreEntriesOf boss.pushed) q d.named.0 in record {
         rising = (subst Rising q d.rising).1;
         named = (named.1, d.named.1, d.named.2, named_set boss.pushed r.others k w d.named.3 (named_more boss.pushed v.taken e (named_at boss.pushed r.others k v at d.named.3) named.0));
         once = λ h. let a = d.once h in omega (arith, ap (weigh h) q, taken_set h r.others k v w at, weigh_more h v.taken e);

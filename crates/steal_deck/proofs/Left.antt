@@ -4,7 +4,7 @@ use mathlib.Core.Option.{some, some-injective}
 use mathlib.Core.Logic.{dite}
 use native.Mathlib.Decide.{ℕ_discrete}
 use lib.ListN.{get_elem?}
-use Rattle.steal_deck.specs.Accounts.{one_if, times, EachOnce, AreOf, unless, left_from, left_of}
+use Rattle.steal_deck.specs.Accounts.{one_if, times, EachOnce, AreEntriesOf, unless, left_from, left_of}
 use Rattle.steal_deck.specs.History.{DeckState}
 use Rattle.steal_deck.specs.Steps.{party_taken}
 use Rattle.steal_deck.proofs.Weights.{only, below, weigh, thieves, Above, Rising, Lawful}
@@ -47,7 +47,7 @@ module _ {T : Type 0} where
   from_zero (e ∷ es) = (omega arith, from_zero es)
 
   -- rising entries of the pushes p, from the number n on, are what `left_from` gives where each number is in them or in `gone`
-  left_is : (p : List T) (gone : List (ℕ × T)) (xs : List T) (n : ℕ) (es : List (ℕ × T)) → Rising es → From n es → AreOf p es → n + length xs ≡ length p
+  left_is : (p : List T) (gone : List (ℕ × T)) (xs : List T) (n : ℕ) (es : List (ℕ × T)) → Rising es → From n es → AreEntriesOf p es → n + length xs ≡ length p
       → ((k : ℕ) → get_elem? xs k ≡ get_elem? p (n + k)) → ((k : ℕ) → n ≤ k → k < length p → times k es + times k gone ≡ 1) → es ≡ left_from n xs gone
   left_is p gone [] n [] r f m len at once = refl
   left_is p gone [] n (e ∷ es) r f m len at once = let b = in_range p e.0 e.1 m.0 in let c = f.0 in absurd (omega arith)
@@ -96,7 +96,7 @@ module _ {T : Type 0} where
   pub each_home : (s : DeckState T) → Lawful s → s.owner.made ≡ s.owner.came → EachOnce (length s.owner.pushed) (s.left ++ party_taken s.owner)
   each_home s d home = λ n lt. omega (arith, times_both n s.left (party_taken s.owner), once_home s d home n lt)
 
-  pub all_are : (s : DeckState T) → Lawful s → AreOf s.owner.pushed (s.left ++ party_taken s.owner)
+  pub all_are : (s : DeckState T) → Lawful s → AreEntriesOf s.owner.pushed (s.left ++ party_taken s.owner)
   all_are s d = let v = s.owner in named_both v.pushed s.left (party_taken v) d.named.0 (named_both v.pushed v.taken v.back d.named.1 d.named.2)
 
   -- the last entry left is a push that the owner doesn't know to be taken

@@ -5,7 +5,7 @@ use lib.ListN.{get_elem?}
 use Rattle.std.proofs.lemmas.List.{length-map}
 use Rattle.crossbeam_deque.specs.Tasks.{Pushes, Takes, Pops, Finds, FindsFew, Forks, Merges, Learns}
 use Rattle.steal_deck.specs.declared.rule.Party.{Party}
-use Rattle.steal_deck.specs.Accounts.{EachOnce, AreOf}
+use Rattle.steal_deck.specs.Accounts.{EachOnce, AreEntriesOf}
 use Rattle.steal_deck.specs.History.{DeckEvent, DeckState, push, pop, steal, make_thief, take_back, state, owner, thief, retired, with_push, with_entry, with_thief, with_back, IsHistory, HasHistory, ThiefFindsFew}
 use Rattle.steal_deck.specs.Steps.{One, Pushed, Popped, FoundNone, Stole, Accounted, party_taken}
 use Rattle.steal_deck.proofs.Weights.{Lawful}
@@ -67,7 +67,7 @@ module _ {T : Type 0} where
       let s : DeckState T = state left w r.others in
       let hist : IsHistory (pop e ∷ events) s = (r, h, (q, refl)) in
       let d = lawful events r h in
-      let at = (named_front r.owner.pushed left e (subst (AreOf r.owner.pushed) q d.named.0)).1 in (
+      let at = (named_front r.owner.pushed left e (subst (AreEntriesOf r.owner.pushed) q d.named.0)).1 in (
         w,
         (pop e ∷ events, s, hist, is, refl),
         (
@@ -158,7 +158,7 @@ module _ {T : Type 0} where
       let d = lawful events r h in
       let l = all_home r d home in (
         subst (λ es. EachOnce (length r.owner.pushed) (es ++ party_taken r.owner)) l (each_home r d home),
-        subst (λ es. AreOf r.owner.pushed (es ++ party_taken r.owner)) l (all_are r d),
+        subst (λ es. AreEntriesOf r.owner.pushed (es ++ party_taken r.owner)) l (all_are r d),
       )
 
   pub learns : (v : Party T) → Learns HasHistory 0 v (λ items. Accounted v)

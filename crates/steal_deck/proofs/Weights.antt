@@ -1,7 +1,7 @@
 -- What the entries of a deck weigh, where each number has a weight, and what holds of each list of them.
 use Rattle.std.proofs.Common.{◌≡◌, ℕ, zero, suc, ◌+◌, ◌<◌, false, List, [], ◌∷◌, length, nat_eq}
 use Rattle.steal_deck.specs.declared.rule.Party.{Party}
-use Rattle.steal_deck.specs.Accounts.{one_if, AreOf}
+use Rattle.steal_deck.specs.Accounts.{one_if, AreEntriesOf}
 use Rattle.steal_deck.specs.History.{DeckState}
 
 -- the weights of the numbers below this one
@@ -29,7 +29,7 @@ module _ {T : Type 0} where
 
   abbrev pub AllAreOf : List T → List (Party T) → Type 0
   AllAreOf pushed [] = Unit {0}
-  AllAreOf pushed (v ∷ vs) = AreOf pushed v.taken × AllAreOf pushed vs
+  AllAreOf pushed (v ∷ vs) = AreEntriesOf pushed v.taken × AllAreOf pushed vs
 
   -- the numbers of the entries are above n
   abbrev pub Above : ℕ → List (ℕ × T) → Type 0
@@ -48,7 +48,7 @@ module _ {T : Type 0} where
   -- what holds in each state of a history: each number pushed is left or taken, once
   pub record IsLawful (left : List (ℕ × T)) (boss : Party T) (others : List (Party T)) : Type 0 where
     pub rising : Rising left
-    pub named : AreOf boss.pushed left × AreOf boss.pushed boss.taken × AreOf boss.pushed boss.back × AllAreOf boss.pushed others
+    pub named : AreEntriesOf boss.pushed left × AreEntriesOf boss.pushed boss.taken × AreEntriesOf boss.pushed boss.back × AllAreOf boss.pushed others
     pub once : (h : ℕ → ℕ) → (weigh h left + weigh h boss.taken) + (weigh h boss.back + taken_by h others) ≡ below h (length boss.pushed)
     pub parties : thieves others + boss.came ≡ boss.made
     pub idle : Idle others

@@ -18,9 +18,9 @@ module _ {T : Type 0} where
   EachOnce count entries = (n : ℕ) → n < count → times n entries ≡ 1
 
   -- each entry has the task that was pushed with its number
-  abbrev pub AreOf : List T → List (ℕ × T) → Type 0
-  AreOf pushed [] = Unit {0}
-  AreOf pushed (e ∷ es) = (get_elem? pushed e.0 ≡ some e.1) × AreOf pushed es
+  abbrev pub AreEntriesOf : List T → List (ℕ × T) → Type 0
+  AreEntriesOf pushed [] = Unit {0}
+  AreEntriesOf pushed (e ∷ es) = (get_elem? pushed e.0 ≡ some e.1) × AreEntriesOf pushed es
 
   -- the entry before the others, unless it was taken so many times
   abbrev pub unless : ℕ → ℕ × T → List (ℕ × T) → List (ℕ × T)

@@ -4,7 +4,7 @@ use mathlib.Core.Option.{some}
 use lib.ListN.{get_elem?}
 use Rattle.steal_deck.specs.declared.rule.Party.{Party}
 use Rattle.steal_deck.specs.History.{with_push, with_entry, push, pop, OwnerDoes, ThiefTakes, OwnerFindsNone}
-use Rattle.steal_deck.specs.Accounts.{times, EachOnce, AreOf, left_of}
+use Rattle.steal_deck.specs.Accounts.{times, EachOnce, AreEntriesOf, left_of}
 
 module _ {T : Type 0} where
   -- the list has one task, of which this holds
@@ -34,4 +34,4 @@ module _ {T : Type 0} where
   -- where all thieves came back, each push is in the owner's lists or left, once
   abbrev pub Accounted : Party T → Type 0
   Accounted v = v.made ≡ v.came
-      → EachOnce (length v.pushed) (left_of v.pushed (party_taken v) ++ party_taken v) × AreOf v.pushed (left_of v.pushed (party_taken v) ++ party_taken v)
+      → EachOnce (length v.pushed) (left_of v.pushed (party_taken v) ++ party_taken v) × AreEntriesOf v.pushed (left_of v.pushed (party_taken v) ++ party_taken v)

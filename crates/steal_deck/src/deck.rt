@@ -1,5 +1,5 @@
 ghost use Rattle.std.specs.Prelude.{◌≡◌, ◌+◌, ◌≤◌, ◌↔◌, ◌++◌, IfOk, IfErr, OnOk, OnErr, IfSome, IfNone, IsNone, length};
-ghost use Rattle.steal_deck.specs.Accounts.{AreOf, EachOnce, left_of};
+ghost use Rattle.steal_deck.specs.Accounts.{AreEntriesOf, EachOnce, left_of};
 ghost use Rattle.steal_deck.specs.Ends.{new_owner, new_thief, known_taken, AllCameBack, Pushes, Pops, FindsNone};
 
 use crate::memory::Memory;
@@ -118,7 +118,7 @@ impl<T> Deck<T> {
         requires { AllCameBack self }
         ensures left { result ≡ left_of self.pushed (known_taken self) }
         ensures once { EachOnce (length self.pushed) (result ++ known_taken self) }
-        ensures tasks { AreOf self.pushed (result ++ known_taken self) }
+        ensures tasks { AreEntriesOf self.pushed (result ++ known_taken self) }
     {
         // The owner's lists don't tell by themselves that no number is in them twice: a look at the deck does.
         self.worker.len_as::<Account>();

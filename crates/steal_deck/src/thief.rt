@@ -1,5 +1,5 @@
 ghost use Rattle.std.specs.Prelude.{◌≡◌};
-ghost use Rattle.steal_deck.specs.Answers.{Answers};
+ghost use Rattle.steal_deck.specs.Answers.{StealAnswers};
 
 use crate::rule::{OneHistory, Party, StealStep};
 use crossbeam_deque::{Pass, Stealer};
@@ -47,7 +47,7 @@ impl<T> Thief<T> {
     /// Each `Nothing` and each `Lost` is counted, up to the last value of the count.
     pub fn steal(&mut self) -> Steal<T>
         ensures kept { self.new ≡ record self.old { taken = self.new.taken; misses = self.new.misses } }
-        ensures answer { Answers self.old result self.new }
+        ensures answer { StealAnswers self.old result self.new }
     {
         let miss = match self.stealer.steal_as::<StealStep>(&mut self.pass) {
             crossbeam_deque::Steal::Success(task) => return Steal::Took(task),

@@ -1,7 +1,7 @@
 -- Tags of children.
 use Rattle.std.proofs.Common.{◌≡◌, ℕ, zero, suc, List, [], ◌∷◌, ◌++◌, Some, length, refl, sym, ap, ◌∙◌}
 use Rattle.std.specs.Prelude.{slice_get}
-use Rattle.meet_block.specs.Joined.{Joined, Answers}
+use Rattle.meet_block.specs.Joined.{Joined, LookAnswers}
 use Rattle.meet_block.specs.declared.join.Look.{Look}
 use Rattle.meet_block.specs.declared.join.Look.TheVariants.{Ready, NotYet}
 use Rattle.serial_meaning.specs.Answer.{AnswerTag}
@@ -45,6 +45,6 @@ plan_at plan ts i t h g = plan_of plan (origins ts) i t (ap (λ (l : List Answer
 abbrev seen : PlanView → Origin → Joined AnswerTag → FamilyView
 seen plan o j = record { plan = plan; origin = o; children = origins j.tags; taken = j.taken; ready = j.ready; loads = j.loads }
 
-pub looked : (plan : PlanView) (o : Origin) (before after : Joined AnswerTag) (result : Look) → Answers before after result → Looked (seen plan o before) (seen plan o after) result
+pub looked : (plan : PlanView) (o : Origin) (before after : Joined AnswerTag) (result : Look) → LookAnswers before after result → Looked (seen plan o before) (seen plan o after) result
 looked plan o before after Ready h = ((h.0, ap (λ (j : Joined AnswerTag). j.loads) h.1), rw h.1 refl)
 looked plan o before after (NotYet n) h = ((h.2.0, n, h.0, ap (λ (j : Joined AnswerTag). j.loads) h.2.1), rw h.2.1 refl)

@@ -25,7 +25,7 @@ fn compare_iteration(at: &Pedigree, path: &Ped, k: u64) -> Ordering
 {
     let count = path.len() + 1;
     for i in 0..at.len().min(count) {
-        let order = rank_of(at, i).cmp(&iteration_rank(path, k, i));
+        let order = first_rank(at, i).cmp(&iteration_rank(path, k, i));
         if order != Ordering::Equal {
             return order;
         }
@@ -33,7 +33,7 @@ fn compare_iteration(at: &Pedigree, path: &Ped, k: u64) -> Ordering
     at.len().cmp(&count)
 }
 
-fn rank_of(at: &Pedigree, i: u64) -> u64
+fn first_rank(at: &Pedigree, i: u64) -> u64
     requires { i < length at.now }
     ensures { result ≡ slice_index at.now i }
 {

@@ -1,11 +1,11 @@
-pub mod Bodies
+pub mod TaskStates
 pub mod Eyes
 pub mod Family
 pub mod Faults
 pub mod Merge
 pub mod Made
 pub mod Observed
-pub mod Parts
+pub mod AwaitedChildren
 pub mod Effects
 pub mod Stops
 pub mod Tasks

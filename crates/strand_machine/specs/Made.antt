@@ -9,7 +9,7 @@ use Rattle.strand_meaning.specs.Task.{IsNext}
 use Rattle.strand_machine.specs.Family.{tag}
 use Rattle.strand_machine.specs.Stops.{IsStep, IsStop}
 use Rattle.strand_machine.specs.Tasks.{TaskView, IsSound, ended_by, view_of}
-use Rattle.strand_machine.specs.declared.body.Body.{Body}
+use Rattle.strand_machine.specs.declared.task_state.TaskState.{TaskState}
 use Rattle.strand_machine.specs.declared.parts.Parts.{Parts}
 use Rattle.strand_machine.specs.declared.stop.Passed.{Passed}
 use Rattle.strand_machine.specs.declared.stop.Passed.TheVariants as passed
@@ -39,54 +39,54 @@ pub record IsRun (t : TaskView) (s : MoveOrStop) : Type 0 where
   pub step : IsStep before s
 
 -- An instance that goes on makes moves in a row. Else it is one move or stop.
-abbrev pub stage_goes_on : meaning.InstanceState → TaskView → MoveOrStop → Type 0
+abbrev pub stage_goes_on : meaning.Stage → TaskView → MoveOrStop → Type 0
 stage_goes_on (meaning.Running m) = IsRun
 stage_goes_on _ = IsStep
 
-abbrev pub work_goes_on : meaning.Work → TaskView → MoveOrStop → Type 0
-work_goes_on (meaning.Runs stage) = stage_goes_on stage
-work_goes_on _ = IsStep
+abbrev pub remaining_goes_on : meaning.Remaining → TaskView → MoveOrStop → Type 0
+remaining_goes_on (meaning.Runs stage) = stage_goes_on stage
+remaining_goes_on _ = IsStep
 
-abbrev pub GoesOn : TaskView → MoveOrStop → Type 0
-GoesOn t = work_goes_on t.task.work t
+abbrev pub StepsOn : TaskView → MoveOrStop → Type 0
+StepsOn t = remaining_goes_on t.task.remaining t
 
 -- that a task may end so, and its end: by the fault in its trace, or else so
-abbrev pub CanEnd : Body → Outcome → Type 0
+abbrev pub CanEnd : TaskState → Outcome → Type 0
 CanEnd b o = IsAnswer b.family.plan b.family.origin b.trace.prefix (ended_by b.trace.fault o)
 
-abbrev pub ended : Body → Outcome → MoveOrStop
-ended b o =
+abbrev pub ended_move : TaskState → Outcome → MoveOrStop
+ended_move b o =
     step.Stops
     (stop.Done (record { plan = b.family.plan; origin = b.family.origin; out = b.trace.prefix; outcome = ended_by b.trace.fault o })
     (tag b.family.plan b.family.origin))
 
 -- The move or stop that left the task's parts so.
 abbrev pub made : Parts → Passed → MoveOrStop
-made p passed.Goes = step.Passes (view_of p.body p.work)
-made p passed.Waits = step.Stops (stop.Wait (view_of p.body p.work))
-made p (passed.Spawned child) = step.Stops (stop.Spawn child (view_of p.body p.work))
-made p (passed.Ends outcome) = ended p.body outcome
+made p passed.Continues = step.Passes (view_of p.state p.remaining)
+made p passed.Waits = step.Stops (stop.Wait (view_of p.state p.remaining))
+made p (passed.Spawned child) = step.Stops (stop.Spawn child (view_of p.state p.remaining))
+made p (passed.Ends outcome) = ended_move p.state outcome
 
 -- What holds of the parts then: what remains is sound, or the task may end so.
 abbrev pub IsSoundMade : Parts → Passed → Type 0
-IsSoundMade p passed.Goes = IsSound p.body p.work
-IsSoundMade p passed.Waits = IsSound p.body p.work
-IsSoundMade p (passed.Spawned child) = IsSound p.body p.work
-IsSoundMade p (passed.Ends outcome) = CanEnd p.body outcome
+IsSoundMade p passed.Continues = IsSound p.state p.remaining
+IsSoundMade p passed.Waits = IsSound p.state p.remaining
+IsSoundMade p (passed.Spawned child) = IsSound p.state p.remaining
+IsSoundMade p (passed.Ends outcome) = CanEnd p.state outcome
 
 -- The task doesn't go on by itself.
 abbrev pub IsStopped : Passed → Type 0
-IsStopped passed.Goes = ⊥
+IsStopped passed.Continues = ⊥
 IsStopped passed.Waits = Unit {0}
 IsStopped (passed.Spawned child) = Unit {0}
 IsStopped (passed.Ends outcome) = Unit {0}
 
 -- A fault by which the task ended is one of its plan's.
 abbrev pub KnowsEnd : Parts → Passed → Type 0
-KnowsEnd p passed.Goes = Unit {0}
+KnowsEnd p passed.Continues = Unit {0}
 KnowsEnd p passed.Waits = Unit {0}
 KnowsEnd p (passed.Spawned child) = Unit {0}
-KnowsEnd p (passed.Ends outcome) = IsByFaultOf p.body.family.plan (ended_by p.body.trace.fault outcome)
+KnowsEnd p (passed.Ends outcome) = IsByFaultOf p.state.family.plan (ended_by p.state.trace.fault outcome)
 
 -- The task has ended, and still has this answer.
 abbrev pub KeepsAnswer : AnswerView → Paused → Type 0

@@ -11,22 +11,22 @@ use Rattle.serial_meaning.specs.declared.origin.Origin.{Origin}
 use Rattle.serial_meaning.specs.declared.value.Value.{Value}
 use Rattle.strand_meaning.specs.Answers.{answer_evaluations}
 use Rattle.strand_meaning.specs.Cuts.{IsByFaultOf, ended_after}
-use Rattle.strand_meaning.specs.Trace.{AwaitedChild, Trace, heard_all}
+use Rattle.strand_meaning.specs.Trace.{AwaitedChild, Trace, merged_answers}
 use Rattle.strand_meaning.specs.Machine as machine
 use Rattle.strand_meaning.specs.Found.{FindsDestination, functions_at, functions_left}
 use Rattle.strand_meaning.specs.Sound.{IsTask}
 use Rattle.strand_meaning.specs.Task as meaning
 use Rattle.strand_meaning.specs.Task.{Splits, Runs, Finished, takes_all, all_values}
 use Rattle.strand_machine.specs.Family.{FamilyView}
-use Rattle.strand_machine.specs.Parts.{destination_of}
+use Rattle.strand_machine.specs.AwaitedChildren.{destination_of}
 use Rattle.strand_machine.specs.Stops.{any_cut}
-use Rattle.strand_machine.specs.Tasks.{TaskView, stage_of, work_of, task_of, StandsAt, WorksAt}
-use Rattle.strand_machine.specs.declared.body.Body.{Body}
-use Rattle.strand_machine.specs.declared.merge.Heard.{Heard}
+use Rattle.strand_machine.specs.Tasks.{TaskView, stage_of, remaining_of, task_of, StandsAt, RemainsAt}
+use Rattle.strand_machine.specs.declared.task_state.TaskState.{TaskState}
+use Rattle.strand_machine.specs.declared.merge.Merging.{Merging}
 use Rattle.strand_machine.specs.declared.parts.Parts.{Parts}
 use Rattle.strand_machine.specs.declared.trace.AfterChild.{AfterChild}
-use Rattle.strand_machine.specs.declared.work.InstanceState.{InstanceState}
-use Rattle.strand_machine.specs.declared.work.Work.{Work}
+use Rattle.strand_machine.specs.declared.remaining.Stage.{Stage}
+use Rattle.strand_machine.specs.declared.remaining.Remaining.{Remaining}
 
 -- the values of an outcome, or its fault
 abbrev pub result_of_outcome : Outcome → Result (List Value) Fault
@@ -36,38 +36,38 @@ result_of_outcome (outcome.Fault f) = Err f
 result_of_outcome (outcome.Cut f) = Err f
 
 -- what remains, with the instance's stage changed where an instance remains
-abbrev pub with_stage : (meaning.InstanceState → meaning.InstanceState) → meaning.Work → meaning.Work
+abbrev pub with_stage : (meaning.Stage → meaning.Stage) → meaning.Remaining → meaning.Remaining
 with_stage change (Splits left) = Splits left
 with_stage change (Runs stage) = Runs (change stage)
 with_stage change (Finished v gone_on) = Finished v gone_on
 
 -- An instance in a stage, or in what remains of a task, is one of the plan.
-abbrev pub Stands : PlanView → InstanceState → Type 0
-Stands plan stage = (path : List ℕ) × StandsAt plan path stage
+abbrev pub IsStageOfPlan : PlanView → Stage → Type 0
+IsStageOfPlan plan stage = (path : List ℕ) × StandsAt plan path stage
 
-abbrev pub Works : PlanView → Work → Type 0
-Works plan work = (o : Origin) × WorksAt plan o work
+abbrev pub IsRemainingOfPlan : PlanView → Remaining → Type 0
+IsRemainingOfPlan plan remaining = (o : Origin) × RemainsAt plan o remaining
 
--- The variable into which the value of a child at this place goes is found, in the instance of a stage and in that of what remains of a task.
-abbrev pub StageFinds : PlanView → machine.Destination → meaning.InstanceState → Type 0
+-- The variable into which the value of a child with this destination goes is found, in the instance of a stage and in that of what remains of a task.
+abbrev pub StageFinds : PlanView → machine.Destination → meaning.Stage → Type 0
 StageFinds plan destination stage = FindsDestination plan (functions_at stage) destination
 
-abbrev pub WorkFinds : PlanView → machine.Destination → meaning.Work → Type 0
-WorkFinds plan destination w = FindsDestination plan (functions_left w) destination
+abbrev pub RemainingFinds : PlanView → machine.Destination → meaning.Remaining → Type 0
+RemainingFinds plan destination w = FindsDestination plan (functions_left w) destination
 
-abbrev pub WorkFindsAll : PlanView → List AfterChild → meaning.Work → Type 0
-WorkFindsAll plan [] w = Unit {0}
-WorkFindsAll plan (b ∷ bs) w = WorkFinds plan (destination_of b.destination) w × WorkFindsAll plan bs w
+abbrev pub RemainingFindsAll : PlanView → List AfterChild → meaning.Remaining → Type 0
+RemainingFindsAll plan [] w = Unit {0}
+RemainingFindsAll plan (b ∷ bs) w = RemainingFinds plan (destination_of b.destination) w × RemainingFindsAll plan bs w
 
 -- By its meaning the stage after it is the one before it, changed so, and an instance in it is still one of the plan.
-pub record BecomesStage (change : meaning.InstanceState → meaning.InstanceState) (before after : InstanceState) : Type 0 where
+pub record BecomesStage (change : meaning.Stage → meaning.Stage) (before after : Stage) : Type 0 where
   pub is : (plan : PlanView) → stage_of plan after ≡ change (stage_of plan before)
   pub stands : (plan : PlanView) (path : List ℕ) → StandsAt plan path before → StandsAt plan path after
 
 -- The same of what remains of a task.
-pub record BecomesWork (change : meaning.Work → meaning.Work) (before after : Work) : Type 0 where
-  pub is : (plan : PlanView) → work_of plan after ≡ change (work_of plan before)
-  pub works : (plan : PlanView) (o : Origin) → WorksAt plan o before → WorksAt plan o after
+pub record BecomesRemaining (change : meaning.Remaining → meaning.Remaining) (before after : Remaining) : Type 0 where
+  pub is : (plan : PlanView) → remaining_of plan after ≡ change (remaining_of plan before)
+  pub of_plan : (plan : PlanView) (o : Origin) → RemainsAt plan o before → RemainsAt plan o after
 
 -- A task that takes its children's answers: its own events, its values, what remains, and of the answers whether one is a cut, and whether the
 -- fault is one by which a child was cut.
@@ -75,26 +75,26 @@ pub record Merge : Type 0 where
   pub prefix : List Event
   pub fault : Option Fault
   pub values : List Value
-  pub work : Work
+  pub remaining : Remaining
   pub cut : Bool
   pub by_cut : Bool
 
-abbrev pub merge_of : Parts → Heard → Merge
-merge_of p h = record { prefix = p.body.trace.prefix; fault = p.body.trace.fault; values = p.body.values; work = p.work; cut = h.cut; by_cut = h.by_cut }
+abbrev pub merge_of : Parts → Merging → Merge
+merge_of p h = record { prefix = p.state.trace.prefix; fault = p.state.trace.fault; values = p.state.values; remaining = p.remaining; cut = h.cut; by_cut = h.by_cut }
 
 -- An answer changes nothing else, and none is awaited.
 pub record KeepsRest (before after : Parts) : Type 0 where
-  pub body : after.body ≡ record before.body { trace = after.body.trace; values = after.body.values }
-  pub handed : after.body.trace.handed ≡ []
+  pub state : after.state ≡ record before.state { trace = after.state.trace; values = after.state.values }
+  pub handed : after.state.trace.handed ≡ []
 
 abbrev pub trace_of : Merge → Trace
 trace_of g = record { prefix = g.prefix; fault = g.fault; handed = [] }
 
 -- A task took the answers of these children.
-pub record Takes (parts : List AwaitedChild) (answers : List Evaluation) (before after : Merge) : Type 0 where
-  pub trace : trace_of after ≡ heard_all parts answers (trace_of before)
+pub record IsMergeOf (parts : List AwaitedChild) (answers : List Evaluation) (before after : Merge) : Type 0 where
+  pub trace : trace_of after ≡ merged_answers parts answers (trace_of before)
   pub values : after.values ≡ all_values parts answers before.values
-  pub work : BecomesWork (with_stage (takes_all parts answers)) before.work after.work
+  pub remaining : BecomesRemaining (with_stage (takes_all parts answers)) before.remaining after.remaining
 
 -- the first fault or cut among the answers so far
 abbrev pub end_of : Option Fault → Bool → Option Outcome
@@ -112,7 +112,7 @@ AreSaid (a ∷ answers) = IsAnswer a.plan a.origin a.out a.outcome × AreSaid an
 
 -- A task took these answers of these children.
 pub record TakesAnswers (parts : List AwaitedChild) (answers : List AnswerView) (before after : Merge) : Type 0 where
-  pub takes : Takes parts (answer_evaluations answers) before after
+  pub takes : IsMergeOf parts (answer_evaluations answers) before after
   pub ended : ended_of after ≡ ended_after (ended_of before) answers
   pub cut : after.cut ≡ (before.cut || any_cut answers)
   pub said : AreSaid answers
@@ -142,7 +142,7 @@ meanings [] = []
 meanings (t ∷ ts) = eval t.plan t.origin ∷ meanings ts
 
 -- What holds of a task whose children's answers are at hand: those of all children that it handed out were taken from its join.
-pub record HasTakenAnswers (b : Body) (w : Work) : Type 0 where
+pub record HasTakenAnswers (b : TaskState) (w : Remaining) : Type 0 where
   pub task : IsTask (task_of b w)
   pub taken : length b.family.taken ≡ length b.family.children
-  pub works : WorksAt b.family.plan b.family.origin w
+  pub of_plan : RemainsAt b.family.plan b.family.origin w

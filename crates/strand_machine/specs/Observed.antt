@@ -5,7 +5,7 @@ use Rattle.strand_meaning.specs.Observation.{Shows, effect_items, newest, no_obs
 use Rattle.strand_meaning.specs.Strands.{own_events, events_at}
 use Rattle.strand_moves.specs.Moves.{effects_of}
 use Rattle.strand_moves.specs.declared.effects.MoveResult.{MoveResult}
-use Rattle.strand_moves.specs.declared.effects.MoveResult.TheVariants as moved
+use Rattle.strand_moves.specs.declared.effects.MoveResult.TheVariants as move_result
 use Rattle.strand_machine.specs.Eyes.{eye_after}
 use Rattle.strand_machine.specs.Stops.{IsStop, stop_of}
 use Rattle.strand_machine.specs.Tasks.{TaskView}
@@ -33,7 +33,7 @@ with_step j step observation = record {
 }
 
 -- what a move of an instance shows
-abbrev pub moved_observation : MoveResult → meaning.Observation
-moved_observation (moved.Went s) = record { items = effect_items (effects_of s); fault = None; child_fault = None }
-moved_observation (moved.Returned v) = no_observation
-moved_observation (moved.Faulted f) = record { items = []; fault = Some f; child_fault = None }
+abbrev pub result_observation : MoveResult → meaning.Observation
+result_observation (move_result.Went s) = record { items = effect_items (effects_of s); fault = None; child_fault = None }
+result_observation (move_result.Returned v) = no_observation
+result_observation (move_result.Faulted f) = record { items = []; fault = Some f; child_fault = None }

@@ -1,12 +1,12 @@
 -- What a call on a task gives, by the meaning of tasks.
-use Rattle.std.specs.Prelude.{◌≡◌, Bool, true, false, ◌||◌, List, [], ◌∷◌, ◌++◌, Option, Some, None}
+use Rattle.std.specs.Prelude.{◌≡◌, ℕ, Bool, true, false, ◌||◌, List, [], ◌∷◌, ◌++◌, Option, Some, None}
 use Rattle.serial_meaning.specs.Answer.{AnswerView, AnswerTag}
 use Rattle.serial_meaning.specs.Eval.{eval}
 use Rattle.serial_meaning.specs.Laws.{IsOriginOf}
 use Rattle.strand_meaning.specs.Laws.{IsFaultOf}
 use Rattle.strand_meaning.specs.Answers.{answer_evaluations}
 use Rattle.strand_meaning.specs.Cuts.{AreAnswersOf, IsByFaultOf, by_fault, ended_after}
-use Rattle.strand_meaning.specs.Trace.{heard_all}
+use Rattle.strand_meaning.specs.Trace.{merged_answers}
 use Rattle.strand_meaning.specs.Rest.{evaluations}
 use Rattle.strand_meaning.specs.Task as meaning
 use Rattle.strand_meaning.specs.Task.{IsNext, on}
@@ -35,20 +35,20 @@ step_of (step.Stops stop) = meaning.Stops (stop_of stop)
 
 -- A child is a fresh task of the plan, and its origin is the last of those that the rest handed out. An answer is the origin's, and so is
 -- the give.
-abbrev pub Keeps : TaskView → Stop → Type 0
-Keeps t (stop.Spawn child rest) =
+abbrev pub KeepsFamily : TaskView → Stop → Type 0
+KeepsFamily t (stop.Spawn child rest) =
     (child ≡ fresh t.task.plan child.task.origin) × (rest.children ≡ t.children ++ child.task.origin ∷ []) × (rest.loads ≡ t.loads) × (rest.cut ≡ None)
-Keeps t (stop.Wait rest) = (rest.children ≡ t.children) × (rest.loads ≡ t.loads) × (rest.cut ≡ None)
-Keeps t (stop.Done answer give) = (answer.plan ≡ t.task.plan) × (answer.origin ≡ t.task.origin) × (give ≡ tag t.task.plan t.task.origin)
+KeepsFamily t (stop.Wait rest) = (rest.children ≡ t.children) × (rest.loads ≡ t.loads) × (rest.cut ≡ None)
+KeepsFamily t (stop.Done answer give) = (answer.plan ≡ t.task.plan) × (answer.origin ≡ t.task.origin) × (give ≡ tag t.task.plan t.task.origin)
 
-abbrev pub KeepsStep : TaskView → MoveOrStop → Type 0
-KeepsStep t (step.Passes next) = (next.children ≡ t.children) × (next.loads ≡ t.loads) × (next.cut ≡ None)
-KeepsStep t (step.Stops stop) = Keeps t stop
+abbrev pub KeepsFamilyInStep : TaskView → MoveOrStop → Type 0
+KeepsFamilyInStep t (step.Passes next) = (next.children ≡ t.children) × (next.loads ≡ t.loads) × (next.cut ≡ None)
+KeepsFamilyInStep t (step.Stops stop) = KeepsFamily t stop
 
 -- The next move or stop of a task.
 pub record IsStep (t : TaskView) (s : MoveOrStop) : Type 0 where
   pub is : meaning.step t.task ≡ step_of s
-  pub keeps : KeepsStep t s
+  pub keeps : KeepsFamilyInStep t s
 
 -- a child is of an origin of the plan, and a fault by which the task ended is one of the plan's
 abbrev pub IsKnownStop : TaskView → Stop → Type 0
@@ -59,7 +59,7 @@ IsKnownStop t (stop.Done answer give) = IsFaultOf t.task.plan answer.outcome
 -- The next stop of a task.
 pub record IsStop (t : TaskView) (s : Stop) : Type 0 where
   pub next : IsNext t.task (stop_of s)
-  pub keeps : Keeps t s
+  pub keeps : KeepsFamily t s
   pub known : IsKnownStop t s
 
 -- The end of a task that took a cut, or that has ended and still has its answer.
@@ -99,9 +99,9 @@ abbrev pub any_cut : List AnswerView → Bool
 any_cut [] = false
 any_cut (a ∷ answers) = is_cut a.outcome || any_cut answers
 
--- the events of a task once it heard these answers
+-- the events of a task once these answers are merged
 abbrev pub prefix_with : List AnswerView → meaning.Task → List Event
-prefix_with answers t = (heard_all t.trace.handed (answer_evaluations answers) (record t.trace { handed = [] })).prefix
+prefix_with answers t = (merged_answers t.trace.handed (answer_evaluations answers) (record t.trace { handed = [] })).prefix
 
 -- A task that took these answers, of which one is a cut. It ends by the first fault or cut in the order of its trace.
 pub record IsCutOn (answers : List AnswerView) (t next : TaskView) : Type 0 where
@@ -114,32 +114,25 @@ pub record IsCutOn (answers : List AnswerView) (t next : TaskView) : Type 0 wher
   pub cut : next.cut ≡ ended_after (by_fault t.task.trace.fault) answers
   pub children : next.children ≡ t.children
 
--- A task that took these answers, of which none is a cut, goes on with the evaluations.
-pub record IsOn (t next : TaskView) : Type 0 where
-  pub task : next.task ≡ with_evaluations t
-  pub children : next.children ≡ t.children
-  pub cut : next.cut ≡ None
+-- the task once it went on with its children's answers
+abbrev pub view_on : TaskView → TaskView
+view_on t = record t { task = with_evaluations t }
 
--- A task that took these answers.
-pub record ResumesBy (answers : List AnswerView) (t next : TaskView) : Type 0 where
-  pub whole : any_cut answers ≡ false → IsOn t next
-  pub cut : any_cut answers ≡ true → IsCutOn answers t next
+-- A task that took these answers of its children: it goes on with them, or it ends by one that is a cut.
+pub record WentOn (answers : List AnswerView) (t next : TaskView) : Type 0 where
+  pub whole : any_cut answers ≡ false → next ≡ view_on t
+  pub cut : any_cut answers ≡ true → IsCutOn answers t next × (next.loads ≡ t.loads)
+
+-- the task, not ended, once its looks have loaded these numbers
+abbrev pub looked : List ℕ → TaskView → TaskView
+looked loads t = record t { loads = loads; cut = None }
 
 -- The wait is over, and the task took these answers of its children; or it is as it was, and a look has loaded a number that isn't 0.
 abbrev pub IsResumed : TaskView → Resumed → Type 0
 IsResumed t (resumed.On next) =
-    (answers : List AnswerView) × AreAnswersOf t.task.plan t.task.trace.handed answers × ResumesBy answers t next × HasPassed t.loads next.loads
+    (answers : List AnswerView) × AreAnswersOf t.task.plan t.task.trace.handed answers × WentOn answers (looked next.loads t) next × HasPassed t.loads next.loads
 IsResumed t (resumed.NotYet same) = (same.task ≡ t.task) × (same.children ≡ t.children) × HasStopped t.loads same.loads × (same.cut ≡ t.cut)
 
 abbrev pub answer_tags : List AnswerView → List AnswerTag
 answer_tags [] = []
 answer_tags (answer ∷ answers) = tag answer.plan answer.origin ∷ answer_tags answers
-
--- the task once it went on with its children's answers
-abbrev pub view_on : TaskView → TaskView
-view_on t = record t { task = with_evaluations t }
-
--- the task once it went on with these answers of its children, or ended by one that is a cut
-pub record WentOn (answers : List AnswerView) (t next : TaskView) : Type 0 where
-  pub whole : any_cut answers ≡ false → next ≡ view_on t
-  pub cut : any_cut answers ≡ true → IsCutOn answers t next × (next.loads ≡ t.loads)

@@ -19,13 +19,13 @@ use Rattle.strand_moves.specs.Machines as moves
 use Rattle.strand_moves.specs.Moves.{IsTrailOf}
 use Rattle.strand_moves.specs.declared.instance.Instance.{Instance}
 use Rattle.strand_machine.specs.Family.{FamilyView, family_with_child}
-use Rattle.strand_machine.specs.Parts.{awaited, destination_of}
-use Rattle.strand_machine.specs.declared.body.Body.{Body}
+use Rattle.strand_machine.specs.AwaitedChildren.{awaited, destination_of}
+use Rattle.strand_machine.specs.declared.task_state.TaskState.{TaskState}
 use Rattle.strand_machine.specs.declared.destination.Destination.{Destination}
-use Rattle.strand_machine.specs.declared.work.InstanceState.{InstanceState}
-use Rattle.strand_machine.specs.declared.work.InstanceState.TheVariants as stage
-use Rattle.strand_machine.specs.declared.work.Work.{Work}
-use Rattle.strand_machine.specs.declared.work.Work.TheVariants as work
+use Rattle.strand_machine.specs.declared.remaining.Stage.{Stage}
+use Rattle.strand_machine.specs.declared.remaining.Stage.TheVariants as stage
+use Rattle.strand_machine.specs.declared.remaining.Remaining.{Remaining}
+use Rattle.strand_machine.specs.declared.remaining.Remaining.TheVariants as remaining
 
 -- A task as contracts see it: what it is by its meaning, the origins of all children that it handed out, in order, and the numbers that
 -- looks at their join have loaded; and of a task that took a cut for an answer, or that has ended and still has its answer, how it ends.
@@ -40,7 +40,7 @@ pub record TaskView : Type 0 where
 abbrev pub fresh : PlanView → Origin → TaskView
 fresh plan o = record { task = start plan o; children = []; loads = []; cut = None }
 
-abbrev pub stage_of : PlanView → InstanceState → meaning.InstanceState
+abbrev pub stage_of : PlanView → Stage → meaning.Stage
 stage_of plan (stage.Running i) = meaning.Running (moves.machine_of plan i)
 stage_of plan (stage.AtSync i) = meaning.AtSync (moves.machine_of plan i)
 stage_of plan (stage.AtLoop i) = meaning.AtLoop (moves.machine_of plan i)
@@ -48,37 +48,37 @@ stage_of plan (stage.Returned v) = meaning.Ended (Ok v)
 stage_of plan (stage.Faulted f) = meaning.Ended (Err (Own f))
 stage_of plan (stage.ChildFaulted f) = meaning.Ended (Err (ChildFaulted f))
 
-abbrev pub work_of : PlanView → Work → meaning.Work
-work_of plan (work.Splits left) = meaning.Splits left.range
-work_of plan (work.Runs s) = meaning.Runs (stage_of plan s)
-work_of plan (work.Finished v gone_on) = meaning.Finished v gone_on
-work_of plan (work.Ends o) = meaning.Finished (Int (pos 0)) true
+abbrev pub remaining_of : PlanView → Remaining → meaning.Remaining
+remaining_of plan (remaining.Splits left) = meaning.Splits left.range
+remaining_of plan (remaining.Runs s) = meaning.Runs (stage_of plan s)
+remaining_of plan (remaining.Finished v gone_on) = meaning.Finished v gone_on
+remaining_of plan (remaining.Ends o) = meaning.Finished (Int (pos 0)) true
 
-abbrev pub cut_of : Work → Option Outcome
-cut_of (work.Splits left) = None
-cut_of (work.Runs s) = None
-cut_of (work.Finished v gone_on) = None
-cut_of (work.Ends o) = Some o
+abbrev pub cut_of : Remaining → Option Outcome
+cut_of (remaining.Splits left) = None
+cut_of (remaining.Runs s) = None
+cut_of (remaining.Finished v gone_on) = None
+cut_of (remaining.Ends o) = Some o
 
 abbrev pub is_cut_short : Option Outcome → Bool
 is_cut_short None = false
 is_cut_short (Some ended) = true
 
-abbrev pub task_with : Body → meaning.Work → Task
+abbrev pub task_with : TaskState → meaning.Remaining → Task
 task_with b w = record {
   plan = b.family.plan;
   origin = b.family.origin;
   trace = b.trace;
   values = b.values;
-  work = w;
+  remaining = w;
   waiting = b.waiting;
   advanced = b.advanced;
 }
 
-abbrev pub task_of : Body → Work → Task
-task_of b w = task_with b (work_of b.family.plan w)
+abbrev pub task_of : TaskState → Remaining → Task
+task_of b w = task_with b (remaining_of b.family.plan w)
 
-abbrev pub view_of : Body → Work → TaskView
+abbrev pub view_of : TaskState → Remaining → TaskView
 view_of b w = record { task = task_of b w; children = b.family.children; loads = b.family.loads; cut = cut_of w }
 
 -- The join's last tags are those of the children whose answers aren't taken.
@@ -94,7 +94,7 @@ pub record RunsAt (plan : PlanView) (path : List ℕ) (i : Instance) : Type 0 wh
   pub sound : moves.IsInstance plan i
   pub at : moves.path_of i ≡ path
 
-abbrev pub StandsAt : PlanView → List ℕ → InstanceState → Type 0
+abbrev pub StandsAt : PlanView → List ℕ → Stage → Type 0
 StandsAt plan path (stage.Running i) = RunsAt plan path i
 StandsAt plan path (stage.AtSync i) = RunsAt plan path i
 StandsAt plan path (stage.AtLoop i) = RunsAt plan path i
@@ -103,39 +103,39 @@ StandsAt plan path (stage.Faulted f) = Unit {0}
 StandsAt plan path (stage.ChildFaulted f) = Unit {0}
 
 -- the same of what remains of a task of this origin; a loop that is split has the trail of its strand
-abbrev pub WorksAt : PlanView → Origin → Work → Type 0
-WorksAt plan o (work.Splits left) = IsTrailOf plan o left.trail
-WorksAt plan o (work.Runs s) = StandsAt plan (path_of (own_instance o)) s
-WorksAt plan o (work.Finished v gone_on) = Unit {0}
-WorksAt plan o (work.Ends ended) = ⊥
+abbrev pub RemainsAt : PlanView → Origin → Remaining → Type 0
+RemainsAt plan o (remaining.Splits left) = IsTrailOf plan o left.trail
+RemainsAt plan o (remaining.Runs s) = StandsAt plan (path_of (own_instance o)) s
+RemainsAt plan o (remaining.Finished v gone_on) = Unit {0}
+RemainsAt plan o (remaining.Ends ended) = ⊥
 
 -- What holds of a task that goes on: it hasn't ended, and took no cut.
-pub record IsSound (b : Body) (w : Work) : Type 0 where
+pub record IsSound (b : TaskState) (w : Remaining) : Type 0 where
   pub task : IsTask (task_of b w)
   pub family : AwaitsLast b.family b.trace.handed
-  pub works : WorksAt b.family.plan b.family.origin w
+  pub of_plan : RemainsAt b.family.plan b.family.origin w
 
 -- What holds of a task that has ended, or that took a cut: it ends so.
-pub record IsCutShort (b : Body) (ended : Outcome) : Type 0 where
+pub record IsCutShort (b : TaskState) (ended : Outcome) : Type 0 where
   pub answers : IsAnswer b.family.plan b.family.origin b.trace.prefix ended
   pub known : IsByFaultOf b.family.plan ended
   pub waits : b.waiting ≡ false
 
 -- What holds of a task at all times.
-abbrev pub Holds : Body → Work → Type 0
-Holds b (work.Splits left) = IsSound b (work.Splits left)
-Holds b (work.Runs s) = IsSound b (work.Runs s)
-Holds b (work.Finished v gone_on) = IsSound b (work.Finished v gone_on)
-Holds b (work.Ends ended) = IsCutShort b ended
+abbrev pub HoldsOfTask : TaskState → Remaining → Type 0
+HoldsOfTask b (remaining.Splits left) = IsSound b (remaining.Splits left)
+HoldsOfTask b (remaining.Runs s) = IsSound b (remaining.Runs s)
+HoldsOfTask b (remaining.Finished v gone_on) = IsSound b (remaining.Finished v gone_on)
+HoldsOfTask b (remaining.Ends ended) = IsCutShort b ended
 
 -- after a step; where it waits; where it handed out a child
-abbrev pub gone : Body → Body
+abbrev pub gone : TaskState → TaskState
 gone b = record b { advanced = true }
 
-abbrev pub waiting : Body → Body
+abbrev pub waiting : TaskState → TaskState
 waiting b = record b { waiting = true; advanced = true }
 
-abbrev pub with_child : Body → Origin → Destination → Body
+abbrev pub with_child : TaskState → Origin → Destination → TaskState
 with_child b o p = record b { family = family_with_child b.family o; trace = add_child o (destination_of p) b.trace; advanced = true }
 
 -- the fault in the trace, or else so

@@ -3,18 +3,18 @@ ghost use Rattle.std.specs.Prelude.{◌≡◌, IfOk, None, true};
 ghost use Rattle.strand_meaning.specs.Cuts.{IsByFaultOf};
 ghost use Rattle.strand_machine.specs.Made.{CanEnd, IsSoundMade, IsStopped, KnowsEnd, PausesAs, made};
 ghost use Rattle.strand_machine.specs.Stops.{Advances, Pauses};
-ghost use Rattle.strand_machine.specs.Tasks.{Holds, ended_by, is_cut_short};
+ghost use Rattle.strand_machine.specs.Tasks.{HoldsOfTask, ended_by, is_cut_short};
 ghost use Rattle.strand_machine.specs.declared.stop.Stop.TheVariants as stop;
-ghost use Rattle.strand_machine.specs.declared.work.Work.TheVariants as work;
+ghost use Rattle.strand_machine.specs.declared.remaining.Remaining.TheVariants as remaining;
 
-use crate::body::Body;
 use crate::memory::Memory;
 use crate::parts::Parts;
-use crate::replace::set_work;
+use crate::remaining::Remaining;
+use crate::replace::set_remaining;
 use crate::step::run_on;
 use crate::stop::{Passed, Paused, Stop};
 use crate::task::Task;
-use crate::work::Work;
+use crate::task_state::TaskState;
 use meet_block::Give;
 use serial_meaning::{Answer, Outcome};
 use std::alloc::Global;
@@ -22,16 +22,16 @@ use std::alloc::Global;
 /// The task has ended so, but for a fault in its trace.
 #[inline(always)]
 fn keep_end(parts: &mut Parts, outcome: Outcome)
-    requires can { CanEnd parts.old.body outcome }
-    requires known { IsByFaultOf parts.old.body.family.plan (ended_by parts.old.body.trace.fault outcome) }
-    ensures work { parts.new.work ≡ work.Ends (ended_by parts.old.body.trace.fault outcome) }
-    ensures family { parts.new.body.family ≡ parts.old.body.family }
-    ensures prefix { parts.new.body.trace.prefix ≡ parts.old.body.trace.prefix }
-    ensures holds { Holds parts.new.body parts.new.work }
+    requires can { CanEnd parts.old.state outcome }
+    requires known { IsByFaultOf parts.old.state.family.plan (ended_by parts.old.state.trace.fault outcome) }
+    ensures remaining { parts.new.remaining ≡ remaining.Ends (ended_by parts.old.state.trace.fault outcome) }
+    ensures family { parts.new.state.family ≡ parts.old.state.family }
+    ensures prefix { parts.new.state.trace.prefix ≡ parts.old.state.trace.prefix }
+    ensures holds { HoldsOfTask parts.new.state parts.new.remaining }
 {
-    let ended = parts.body.trace.end(outcome);
-    parts.body.waiting = false;
-    set_work(&mut parts.work, Work::Ends(ended));
+    let ended = parts.state.trace.end(outcome);
+    parts.state.waiting = false;
+    set_remaining(&mut parts.remaining, Remaining::Ends(ended));
 }
 
 /// The task that came to a stop.
@@ -43,7 +43,7 @@ fn paused(mut parts: Box<Parts>, passed: Passed) -> Paused
     ensures { PausesAs (made parts.value passed) result }
 {
     match passed {
-        Passed::Goes => unreachable!(),
+        Passed::Continues => unreachable!(),
         Passed::Waits => Paused::Wait {
             rest: Task { parts },
         },
@@ -65,7 +65,7 @@ impl Task {
     pub fn is_cut_short(&self) -> bool
         ensures { result ≡ is_cut_short self.now.cut }
     {
-        matches!(self.parts.work, Work::Ends(_))
+        matches!(self.parts.remaining, Remaining::Ends(_))
     }
 
     /// What it answers, of a task that has ended or took an answer that is a cut, and the give for it.
@@ -75,11 +75,11 @@ impl Task {
         ensures { Advances self (stop.Done result.0 result.1) }
     {
         let Task { parts } = self;
-        let Parts { body, work } = Box::into_inner(parts);
-        let Work::Ends(ended) = work else {
+        let Parts { state, remaining } = Box::into_inner(parts);
+        let Remaining::Ends(ended) = remaining else {
             unreachable!()
         };
-        let Body { family, trace, .. } = body;
+        let TaskState { family, trace, .. } = state;
         let (prefix, _) = trace.prefix();
         family.answer(prefix, ended)
     }
@@ -102,19 +102,19 @@ impl Task {
         ensures { IfOk result (Advances self) }
     {
         if self.is_cut_short() {
-            return Ok(done(self));
+            return Ok(stop_done(self));
         }
         let paused = self.run(alloc)?;
         match paused {
             Paused::Spawn { child, rest } => Ok(Stop::Spawn { child, rest }),
             Paused::Wait { rest } => Ok(Stop::Wait { rest }),
-            Paused::Ended { rest } => Ok(done(rest)),
+            Paused::Ended { rest } => Ok(stop_done(rest)),
         }
     }
 }
 
 /// The end of a task that has ended or took an answer that is a cut.
-fn done(task: Task) -> Stop
+fn stop_done(task: Task) -> Stop
     requires { is_cut_short task.cut ≡ true }
     ensures { Advances task result }
 {

@@ -42,7 +42,7 @@ fn is_past(strand: &Pedigree, at: &Pedigree) -> bool
 
 impl Eye {
     /// An instance with this path, of which nothing was shown yet.
-    pub fn start(path: &Ped, at: &Pedigree) -> Eye
+    pub fn new(path: &Ped, at: &Pedigree) -> Eye
         ensures { result ≡ new_eye path.now at.now }
     {
         Eye {
@@ -104,7 +104,7 @@ impl Eye {
     pub(crate) fn leave_scope(&mut self, at: &Pedigree, scope: &Pedigree)
         ensures { self.new ≡ eye_after at.now self.old (Closed scope.now ∷ []) }
     {
-        self.go_to(after(scope, at));
+        self.go_to(is_next(scope, at));
     }
 }
 
@@ -120,7 +120,7 @@ fn rises_to_first(path: &Ped, at: &Pedigree) -> Option<u64>
 }
 
 /// By how many rises the strand after this one comes to a pedigree.
-fn after(strand: &Pedigree, at: &Pedigree) -> Option<u64>
+fn is_next(strand: &Pedigree, at: &Pedigree) -> Option<u64>
     ensures { result ≡ ahead_of (raised strand.now) at.now }
 {
     if strand.rank < at.rank && at.path.same(&strand.path) {

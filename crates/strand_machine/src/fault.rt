@@ -2,7 +2,7 @@
 ghost use Rattle.std.specs.Prelude.{◌≡◌, ◌∷◌, ◌++◌, [], true, false, None, IfOk};
 ghost use Rattle.strand_machine.specs.Family.{tag, tags};
 ghost use Rattle.strand_machine.specs.Faults.{is_fault, EndsByFault};
-ghost use Rattle.strand_machine.specs.Parts.{awaited};
+ghost use Rattle.strand_machine.specs.AwaitedChildren.{awaited};
 ghost use Rattle.strand_machine.specs.Stops.{answer_tags, any_cut};
 
 use crate::memory::Memory;

@@ -8,18 +8,18 @@ ghost use Rattle.strand_machine.specs.Stops.{IsStep};
 ghost use Rattle.strand_machine.specs.Tasks.{IsSound, view_of, fresh, gone, waiting, with_child};
 ghost use Rattle.strand_machine.specs.declared.stop.MoveOrStop.TheVariants as step;
 ghost use Rattle.strand_machine.specs.declared.stop.Stop.TheVariants as stop;
-ghost use Rattle.strand_machine.specs.declared.work.InstanceState.TheVariants as stage;
-ghost use Rattle.strand_machine.specs.declared.work.Work.TheVariants as work;
+ghost use Rattle.strand_machine.specs.declared.remaining.Stage.TheVariants as stage;
+ghost use Rattle.strand_machine.specs.declared.remaining.Remaining.TheVariants as remaining;
 
-use crate::body::Body;
 use crate::destination::Destination;
 use crate::memory::Memory;
 use crate::origin::share_origin;
 use crate::parts::Parts;
-use crate::replace::set_work;
+use crate::remaining::{Remaining, Stage};
+use crate::replace::set_remaining;
 use crate::stop::Passed;
 use crate::task::Task;
-use crate::work::{InstanceState, Work};
+use crate::task_state::TaskState;
 use serial_meaning::{AnswerKey, Fault, Origin, Outcome, Value};
 use std::alloc::Global;
 use strand_family::Family;
@@ -27,25 +27,25 @@ use strand_meaning::laws;
 use strand_moves::Child;
 
 /// The task goes on with this.
-pub(crate) fn pass(parts: &mut Parts, work: Work) -> Passed
-    requires { IsSound (gone parts.old.body) work }
-    ensures made { made parts.new result ≡ step.Passes (view_of (gone parts.old.body) work) }
+pub(crate) fn pass(parts: &mut Parts, remaining: Remaining) -> Passed
+    requires { IsSound (gone parts.old.state) remaining }
+    ensures made { made parts.new result ≡ step.Passes (view_of (gone parts.old.state) remaining) }
     ensures sound { IsSoundMade parts.new result }
 {
-    parts.body.advanced = true;
-    set_work(&mut parts.work, work);
-    Passed::Goes
+    parts.state.advanced = true;
+    set_remaining(&mut parts.remaining, remaining);
+    Passed::Continues
 }
 
 /// The task waits, and this remains.
-pub(crate) fn wait(parts: &mut Parts, work: Work) -> Passed
-    requires { IsSound (waiting parts.old.body) work }
-    ensures made { made parts.new result ≡ step.Stops (stop.Wait (view_of (waiting parts.old.body) work)) }
+pub(crate) fn wait(parts: &mut Parts, remaining: Remaining) -> Passed
+    requires { IsSound (waiting parts.old.state) remaining }
+    ensures made { made parts.new result ≡ step.Stops (stop.Wait (view_of (waiting parts.old.state) remaining)) }
     ensures sound { IsSoundMade parts.new result }
 {
-    parts.body.waiting = true;
-    parts.body.advanced = true;
-    set_work(&mut parts.work, work);
+    parts.state.waiting = true;
+    parts.state.advanced = true;
+    set_remaining(&mut parts.remaining, remaining);
     Passed::Waits
 }
 
@@ -76,17 +76,17 @@ fn begin_child(family: &mut Family, alloc: Global, child: Child) -> Result<Task,
     Task::begin(alloc, plan, Child { origin, trail }, give)
 }
 
-/// Begins a child whose value goes to this place.
+/// Begins a child whose value goes to this destination.
 fn hand_out(
-    body: &mut Body,
+    state: &mut TaskState,
     alloc: Global,
     child: Child,
     destination: Destination,
 ) -> Result<Task, Memory>
-    requires known { IsOriginOf body.old.family.plan child.origin }
-    requires trail { IsTrailOf body.old.family.plan child.origin child.trail }
-    ensures child { IfOk result (λ task. task ≡ fresh body.old.family.plan child.origin) }
-    ensures body { OnOk result (body.new ≡ with_child body.old child.origin destination) }
+    requires known { IsOriginOf state.old.family.plan child.origin }
+    requires trail { IsTrailOf state.old.family.plan child.origin child.trail }
+    ensures child { IfOk result (λ task. task ≡ fresh state.old.family.plan child.origin) }
+    ensures state { OnOk result (state.new ≡ with_child state.old child.origin destination) }
 {
     let shared = match share_origin(alloc, &child.origin) {
         Ok(shared) => shared,
@@ -95,10 +95,10 @@ fn hand_out(
             return Err(memory);
         }
     };
-    match body.trace.add_child(shared, destination) {
+    match state.trace.add_child(shared, destination) {
         Ok(()) => {
-            body.advanced = true;
-            begin_child(&mut body.family, alloc, child)
+            state.advanced = true;
+            begin_child(&mut state.family, alloc, child)
         }
         Err(memory) => {
             drop(child);
@@ -114,22 +114,22 @@ pub(crate) fn spawn(
     alloc: Global,
     child: Child,
     destination: Destination,
-    work: Work,
+    remaining: Remaining,
 ) -> Result<Passed, Memory>
-    requires known { IsOriginOf parts.old.body.family.plan child.origin }
-    requires trail { IsTrailOf parts.old.body.family.plan child.origin child.trail }
-    requires sound { IsSound (with_child parts.old.body child.origin destination) work }
-    ensures made { let b = parts.old.body in IfOk result (λ passed. made parts.new passed
-        ≡ step.Stops (stop.Spawn (fresh b.family.plan child.origin) (view_of (with_child b child.origin destination) work))) }
+    requires known { IsOriginOf parts.old.state.family.plan child.origin }
+    requires trail { IsTrailOf parts.old.state.family.plan child.origin child.trail }
+    requires sound { IsSound (with_child parts.old.state child.origin destination) remaining }
+    ensures made { let b = parts.old.state in IfOk result (λ passed. made parts.new passed
+        ≡ step.Stops (stop.Spawn (fresh b.family.plan child.origin) (view_of (with_child b child.origin destination) remaining))) }
     ensures sound { IfOk result (IsSoundMade parts.new) }
 {
-    match hand_out(&mut parts.body, alloc, child, destination) {
+    match hand_out(&mut parts.state, alloc, child, destination) {
         Ok(child) => {
-            set_work(&mut parts.work, work);
+            set_remaining(&mut parts.remaining, remaining);
             Ok(Passed::Spawned(child))
         }
         Err(memory) => {
-            drop(work);
+            drop(remaining);
             Err(memory)
         }
     }
@@ -137,26 +137,26 @@ pub(crate) fn spawn(
 
 /// An instance that ended by a value: the task ends too, or else it was the last iteration of a loop.
 pub(crate) fn returned(parts: &mut Parts, value: Value) -> Passed
-    requires { IsSound parts.old.body (work.Runs (stage.Returned value)) }
-    ensures step { IsStep (view_of parts.old.body (work.Runs (stage.Returned value))) (made parts.new result) }
+    requires { IsSound parts.old.state (remaining.Runs (stage.Returned value)) }
+    ensures step { IsStep (view_of parts.old.state (remaining.Runs (stage.Returned value))) (made parts.new result) }
     ensures sound { IsSoundMade parts.new result }
 {
     laws::steps_are_sound();
-    match parts.body.family.origin() {
+    match parts.state.family.origin() {
         Origin::Instance { .. } => Passed::Ends(Outcome::Value(value)),
-        Origin::Loop { .. } => pass(parts, Work::Finished(value, false)),
+        Origin::Loop { .. } => pass(parts, Remaining::Finished(value, false)),
     }
 }
 
 /// An instance that ended by a fault of its own. The task waits for the children that it handed out, and then ends by it.
 pub(crate) fn faulted(parts: &mut Parts, fault: Fault) -> Passed
-    requires { IsSound parts.old.body (work.Runs (stage.Faulted fault)) }
-    ensures step { IsStep (view_of parts.old.body (work.Runs (stage.Faulted fault))) (made parts.new result) }
+    requires { IsSound parts.old.state (remaining.Runs (stage.Faulted fault)) }
+    ensures step { IsStep (view_of parts.old.state (remaining.Runs (stage.Faulted fault))) (made parts.new result) }
     ensures sound { IsSoundMade parts.new result }
 {
     laws::steps_are_sound();
-    if parts.body.trace.is_alone() {
+    if parts.state.trace.awaits_none() {
         return Passed::Ends(Outcome::Fault(fault));
     }
-    wait(parts, Work::Runs(InstanceState::Faulted(fault)))
+    wait(parts, Remaining::Runs(Stage::Faulted(fault)))
 }

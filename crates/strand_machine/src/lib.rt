@@ -4,7 +4,6 @@
 #![tactic(auto)]
 
 mod advance;
-mod body;
 mod destination;
 mod eye;
 mod fault;
@@ -14,14 +13,15 @@ mod merge;
 mod observe;
 mod origin;
 mod parts;
+mod remaining;
 mod replace;
 mod resume;
 mod run;
 mod step;
 mod stop;
 mod task;
+mod task_state;
 mod trace;
-mod work;
 
 pub use eye::Eye;
 pub use fault::is_fault;

@@ -5,29 +5,29 @@ ghost use Rattle.serial_meaning.specs.Plan.{PlanView};
 ghost use Rattle.strand_meaning.specs.Cuts.{or_ends};
 ghost use Rattle.strand_meaning.specs.Found.{FindsAt, functions_in};
 ghost use Rattle.strand_meaning.specs.Machine.{Spawned, Looped, Half};
-ghost use Rattle.strand_meaning.specs.Trace.{AwaitedChild, heard};
+ghost use Rattle.strand_meaning.specs.Trace.{AwaitedChild, merged_answer};
 ghost use Rattle.strand_meaning.specs.Task.{takes, changed, frame_with_answer, more_values};
 ghost use Rattle.strand_moves.specs.Machines.{IsInstance, machine_of, path_of};
-ghost use Rattle.strand_machine.specs.Merge.{BecomesStage, BecomesWork, KeepsRest, StageFinds, Stands, TakesAnswers, WorkFinds, Works, end_of, result_of_outcome, merge_of, with_stage};
-ghost use Rattle.strand_machine.specs.Parts.{destination_of, awaited_child};
+ghost use Rattle.strand_machine.specs.Merge.{BecomesStage, BecomesRemaining, KeepsRest, StageFinds, IsStageOfPlan, TakesAnswers, RemainingFinds, IsRemainingOfPlan, end_of, result_of_outcome, merge_of, with_stage};
+ghost use Rattle.strand_machine.specs.AwaitedChildren.{destination_of, awaited_child};
 ghost use Rattle.strand_machine.specs.Stops.{is_cut};
-ghost use Rattle.strand_machine.specs.Tasks.{stage_of, work_of};
+ghost use Rattle.strand_machine.specs.Tasks.{stage_of, remaining_of};
 
 use crate::destination::Destination;
 use crate::memory::Memory;
 use crate::parts::Parts;
+use crate::remaining::{Remaining, Stage};
 use crate::replace::set;
 use crate::trace::{AfterChild, Trace};
-use crate::work::{InstanceState, Work};
 use script_grammar::Items;
 use serial_meaning::{Answer, Fault, Out, Outcome, Plan, Value};
 use std::alloc::Global;
 use strand_moves::Instance;
 use strand_values::Target;
 
-/// What is known of the answers that a task took so far.
+/// What is known of the answers that were merged into a task so far.
 #[derive(Drop)]
-pub(crate) struct Heard {
+pub(crate) struct Merging {
     /// Whether one of them is a cut.
     pub cut: bool,
     /// Whether the fault in the trace is one by which a child was cut.
@@ -79,92 +79,92 @@ fn merge_spawned(
     ensures sound { (p : PlanView) → IsInstance p instance.old → IsInstance p instance.new }
 {
     match outcome {
-        Outcome::Value(value) => instance.take_value(plan, height, target.as_ref(), value),
-        Outcome::Values(values) => instance.take_value(
+        Outcome::Value(value) => instance.receive_value(plan, height, target.as_ref(), value),
+        Outcome::Values(values) => instance.receive_value(
             plan,
             height,
             target.as_ref(),
             first_value(values),
         ),
-        Outcome::Fault(fault) => instance.take_fault(height, fault),
-        Outcome::Cut { by } => instance.take_fault(height, by),
+        Outcome::Fault(fault) => instance.receive_fault(height, fault),
+        Outcome::Cut { by } => instance.receive_fault(height, by),
     }
 }
 
 /// The stage after the answer of a child that an instance spawned.
 fn spawned_stage(
-    stage: &mut InstanceState,
+    stage: &mut Stage,
     plan: &Plan,
     height: usize,
     target: &Option<Target>,
     outcome: Outcome,
 )
-    requires stands { Stands plan.now stage.old }
+    requires stands { IsStageOfPlan plan.now stage.old }
     requires found { StageFinds plan.now (Spawned height target.now) (stage_of plan.now stage.old) }
     ensures { BecomesStage (takes (Spawned height target.now) (result_of_outcome outcome)) stage.old stage.new }
 {
     match stage {
-        InstanceState::Running(instance) => merge_spawned(instance, plan, height, target, outcome),
-        InstanceState::AtSync(instance) => merge_spawned(instance, plan, height, target, outcome),
-        InstanceState::AtLoop(instance) => merge_spawned(instance, plan, height, target, outcome),
-        InstanceState::Returned(_) => drop(outcome),
-        InstanceState::Faulted(_) => drop(outcome),
-        InstanceState::ChildFaulted(_) => drop(outcome),
+        Stage::Running(instance) => merge_spawned(instance, plan, height, target, outcome),
+        Stage::AtSync(instance) => merge_spawned(instance, plan, height, target, outcome),
+        Stage::AtLoop(instance) => merge_spawned(instance, plan, height, target, outcome),
+        Stage::Returned(_) => drop(outcome),
+        Stage::Faulted(_) => drop(outcome),
+        Stage::ChildFaulted(_) => drop(outcome),
     }
 }
 
 /// The stage after the values of a loop of an instance.
 fn fill_stage(
-    stage: &mut InstanceState,
+    stage: &mut Stage,
     alloc: Global,
     plan: &Plan,
     target: &Option<Target>,
     values: &Items<Value>,
 )
-    requires stands { Stands plan.now stage.old }
+    requires stands { IsStageOfPlan plan.now stage.old }
     requires found { StageFinds plan.now (Looped target.now) (stage_of plan.now stage.old) }
     ensures { BecomesStage (takes (Looped target.now) (Ok values.now)) stage.old stage.new }
 {
     let into = target.as_ref();
     let given = values.as_slice();
     match stage {
-        InstanceState::Running(instance) => instance.take_values(alloc, plan, into, given),
-        InstanceState::AtSync(instance) => instance.take_values(alloc, plan, into, given),
-        InstanceState::AtLoop(instance) => instance.take_values(alloc, plan, into, given),
-        InstanceState::Returned(_) => {}
-        InstanceState::Faulted(_) => {}
-        InstanceState::ChildFaulted(_) => {}
+        Stage::Running(instance) => instance.receive_values(alloc, plan, into, given),
+        Stage::AtSync(instance) => instance.receive_values(alloc, plan, into, given),
+        Stage::AtLoop(instance) => instance.receive_values(alloc, plan, into, given),
+        Stage::Returned(_) => {}
+        Stage::Faulted(_) => {}
+        Stage::ChildFaulted(_) => {}
     }
 }
 
 /// The stage after the answer of a loop of an instance.
-fn looped(
-    stage: &mut InstanceState,
+fn looped_stage(
+    stage: &mut Stage,
     alloc: Global,
     plan: &Plan,
     target: &Option<Target>,
     outcome: Outcome,
 ) -> Result<(), Memory>
-    requires stands { Stands plan.now stage.old }
+    requires stands { IsStageOfPlan plan.now stage.old }
     requires found { StageFinds plan.now (Looped target.now) (stage_of plan.now stage.old) }
     ensures { OnOk result (BecomesStage (takes (Looped target.now) (result_of_outcome outcome)) stage.old stage.new) }
 {
     match result_of_outcome(alloc, outcome)? {
         Ok(values) => fill_stage(stage, alloc, plan, target, &values),
-        Err(fault) => set(stage, InstanceState::ChildFaulted(fault)),
+        Err(fault) => set(stage, Stage::ChildFaulted(fault)),
     }
     Ok(())
 }
 
 /// The stage after the answer of a child.
 fn merge_stage(
-    stage: &mut InstanceState,
+    stage: &mut Stage,
     alloc: Global,
     plan: &Plan,
     destination: Destination,
     outcome: Outcome,
 ) -> Result<(), Memory>
-    requires stands { Stands plan.now stage.old }
+    requires stands { IsStageOfPlan plan.now stage.old }
     requires found { StageFinds plan.now (destination_of destination) (stage_of plan.now stage.old) }
     ensures { OnOk result (BecomesStage (takes (destination_of destination) (result_of_outcome outcome)) stage.old stage.new) }
 {
@@ -173,7 +173,7 @@ fn merge_stage(
             spawned_stage(stage, plan, height as usize, &target, outcome);
             Ok(())
         }
-        Destination::Looped(target) => { looped(stage, alloc, plan, &target, outcome) }
+        Destination::Looped(target) => { looped_stage(stage, alloc, plan, &target, outcome) }
         Destination::Half => {
             drop(outcome);
             Ok(())
@@ -182,40 +182,40 @@ fn merge_stage(
 }
 
 /// What remains after the answer of a child.
-fn merge_work(
-    work: &mut Work,
+fn merge_remaining(
+    remaining: &mut Remaining,
     alloc: Global,
     plan: &Plan,
     destination: Destination,
     outcome: Outcome,
 ) -> Result<(), Memory>
-    requires works { Works plan.now work.old }
-    requires found { WorkFinds plan.now (destination_of destination) (work_of plan.now work.old) }
-    ensures { OnOk result (BecomesWork (with_stage (takes (destination_of destination) (result_of_outcome outcome))) work.old work.new) }
+    requires of_plan { IsRemainingOfPlan plan.now remaining.old }
+    requires found { RemainingFinds plan.now (destination_of destination) (remaining_of plan.now remaining.old) }
+    ensures { OnOk result (BecomesRemaining (with_stage (takes (destination_of destination) (result_of_outcome outcome))) remaining.old remaining.new) }
 {
-    match work {
-        Work::Runs(stage) => {
+    match remaining {
+        Remaining::Runs(stage) => {
             merge_stage(stage, alloc, plan, destination, outcome)?;
             Ok(())
         }
-        Work::Splits(_) => {
+        Remaining::Splits(_) => {
             drop((destination, outcome));
             Ok(())
         }
-        Work::Finished(_, _) => {
+        Remaining::Finished(_, _) => {
             drop((destination, outcome));
             Ok(())
         }
-        Work::Ends(_) => {
+        Remaining::Ends(_) => {
             drop((destination, outcome));
             Ok(())
         }
     }
 }
 
-impl Heard {
+impl Merging {
     /// The events of an answer join the trace, and where it is neither a fault nor a cut then those after the child.
-    fn hear(
+    fn merge_events(
         &mut self,
         trace: &mut Trace,
         events: Out,
@@ -224,7 +224,7 @@ impl Heard {
     ) -> Result<(), Memory>
         requires { trace.old.handed ≡ [] }
         ensures trace { OnOk result ((p : AwaitedChild) → p.after ≡ after
-            → trace.new ≡ heard p (record { items = events; ending = result_of_outcome outcome.now }) trace.old) }
+            → trace.new ≡ merged_answer p (record { items = events; ending = result_of_outcome outcome.now }) trace.old) }
         ensures ended { OnOk result (end_of trace.new.fault self.new.by_cut ≡ or_ends (end_of trace.old.fault self.old.by_cut) outcome.now) }
         ensures cut { OnOk result (self.new.cut ≡ (self.old.cut || is_cut outcome.now)) }
     {
@@ -266,8 +266,8 @@ fn add_values(values: &mut Items<Value>, more: Items<Value>) -> Result<(), Memor
     Ok(())
 }
 
-/// The values of a part of a loop.
-fn add(values: &mut Items<Value>, outcome: Outcome) -> Result<(), Memory>
+/// The values of a half of a loop.
+fn add_half(values: &mut Items<Value>, outcome: Outcome) -> Result<(), Memory>
     ensures { OnOk result (values.new ≡ more_values Half (result_of_outcome outcome) values.old) }
 {
     match outcome {
@@ -284,38 +284,38 @@ fn add(values: &mut Items<Value>, outcome: Outcome) -> Result<(), Memory>
     }
 }
 
-/// What an answer that was heard changes of the values, or of what remains.
+/// What an answer that is merged changes of the values, or of what remains.
 fn merge_value(
     values: &mut Items<Value>,
-    work: &mut Work,
+    remaining: &mut Remaining,
     alloc: Global,
     plan: &Plan,
     destination: Destination,
     outcome: Outcome,
 ) -> Result<(), Memory>
-    requires works { Works plan.now work.old }
-    requires found { WorkFinds plan.now (destination_of destination) (work_of plan.now work.old) }
+    requires of_plan { IsRemainingOfPlan plan.now remaining.old }
+    requires found { RemainingFinds plan.now (destination_of destination) (remaining_of plan.now remaining.old) }
     ensures values { OnOk result (values.new ≡ more_values (destination_of destination) (result_of_outcome outcome) values.old) }
-    ensures work { OnOk result (BecomesWork (with_stage (takes (destination_of destination) (result_of_outcome outcome))) work.old work.new) }
+    ensures remaining { OnOk result (BecomesRemaining (with_stage (takes (destination_of destination) (result_of_outcome outcome))) remaining.old remaining.new) }
 {
     if let Destination::Half = destination {
-        return add(values, outcome);
+        return add_half(values, outcome);
     }
-    merge_work(work, alloc, plan, destination, outcome)
+    merge_remaining(remaining, alloc, plan, destination, outcome)
 }
 
 /// A task that awaits no child any more takes a child's answer.
 pub(crate) fn merge_answer(
     parts: &mut Parts,
-    heard: &mut Heard,
+    merging: &mut Merging,
     alloc: Global,
     after: AfterChild,
     answer: Answer,
 ) -> Result<(), Memory>
-    requires handed { parts.old.body.trace.handed ≡ [] }
-    requires works { Works parts.old.body.family.plan parts.old.work }
-    requires found { WorkFinds parts.old.body.family.plan (destination_of after.destination) (work_of parts.old.body.family.plan parts.old.work) }
-    ensures takes { OnOk result (TakesAnswers (awaited_child answer.origin after ∷ []) (answer ∷ []) (merge_of parts.old heard.old) (merge_of parts.new heard.new)) }
+    requires handed { parts.old.state.trace.handed ≡ [] }
+    requires of_plan { IsRemainingOfPlan parts.old.state.family.plan parts.old.remaining }
+    requires found { RemainingFinds parts.old.state.family.plan (destination_of after.destination) (remaining_of parts.old.state.family.plan parts.old.remaining) }
+    ensures takes { OnOk result (TakesAnswers (awaited_child answer.origin after ∷ []) (answer ∷ []) (merge_of parts.old merging.old) (merge_of parts.new merging.new)) }
     ensures rest { OnOk result (KeepsRest parts.old parts.new) }
 {
     let Answer {
@@ -329,13 +329,13 @@ pub(crate) fn merge_answer(
         destination,
         events,
     } = after;
-    let Parts { body, work } = parts;
-    match heard.hear(&mut body.trace, out, events, &outcome) {
+    let Parts { state, remaining } = parts;
+    match merging.merge_events(&mut state.trace, out, events, &outcome) {
         Ok(()) => merge_value(
-            &mut body.values,
-            work,
+            &mut state.values,
+            remaining,
             alloc,
-            body.family.plan(),
+            state.family.plan(),
             destination,
             outcome,
         ),

@@ -5,22 +5,22 @@ ghost use Rattle.strand_meaning.specs.Observation.{step_observation};
 ghost use Rattle.strand_meaning.specs.Strands.{events_at};
 ghost use Rattle.strand_machine.specs.Eyes.{eye_after};
 ghost use Rattle.strand_machine.specs.Made.{IsSoundMade, made};
-ghost use Rattle.strand_machine.specs.Observed.{moved_observation, with_step};
+ghost use Rattle.strand_machine.specs.Observed.{result_observation, with_step};
 ghost use Rattle.strand_machine.specs.Stops.{IsStep};
 ghost use Rattle.strand_machine.specs.Tasks.{IsSound, view_of, task_of};
-ghost use Rattle.strand_machine.specs.declared.work.InstanceState.TheVariants as stage;
-ghost use Rattle.strand_machine.specs.declared.work.Work.TheVariants as work;
+ghost use Rattle.strand_machine.specs.declared.remaining.Stage.TheVariants as stage;
+ghost use Rattle.strand_machine.specs.declared.remaining.Remaining.TheVariants as remaining;
 
 use crate::eye::{Eye, pedigree};
 use crate::leave::pass;
 use crate::memory::Memory;
 use crate::parts::Parts;
+use crate::remaining::{Remaining, Stage};
 use crate::replace::set;
-use crate::run::show;
+use crate::run::apply_effects;
 use crate::step::{pass_with, run, stepped};
 use crate::stop::{MoveOrStop, Passed, Stop};
 use crate::task::Task;
-use crate::work::{InstanceState, Work};
 use ped_path::Pedigree;
 use serial_meaning::{Event, Fault, Out};
 use std::alloc::Global;
@@ -91,10 +91,15 @@ impl Observed {
     }
 
     /// One more move of the task's instance.
-    fn observe(&mut self, alloc: Global, at: &Pedigree, moved: &MoveResult) -> Result<(), Memory>
-        ensures { OnOk result (self.new ≡ with_step at.now (moved_observation moved.now) self.old) }
+    fn observe(
+        &mut self,
+        alloc: Global,
+        at: &Pedigree,
+        move_result: &MoveResult,
+    ) -> Result<(), Memory>
+        ensures { OnOk result (self.new ≡ with_step at.now (result_observation move_result.now) self.old) }
     {
-        match moved {
+        match move_result {
             MoveResult::Went(Effects::Nothing) => {}
             MoveResult::Went(Effects::Opened(path)) => self.eye.enter_scope(at, path),
             MoveResult::Went(Effects::Closed(scope)) => self.eye.leave_scope(at, scope),
@@ -117,35 +122,35 @@ fn go_observed(
     mut instance: Instance,
     observation: &mut Observed,
 ) -> Result<Passed, Memory>
-    requires { IsSound parts.old.body (work.Runs (stage.Running instance)) }
-    ensures step { IfOk result (λ passed. IsStep (view_of parts.old.body (work.Runs (stage.Running instance))) (made parts.new passed)) }
+    requires { IsSound parts.old.state (remaining.Runs (stage.Running instance)) }
+    ensures step { IfOk result (λ passed. IsStep (view_of parts.old.state (remaining.Runs (stage.Running instance))) (made parts.new passed)) }
     ensures sound { IfOk result (IsSoundMade parts.new) }
-    ensures observation { OnOk result (observation.new ≡ with_step at.now (step_observation (task_of parts.old.body (work.Runs (stage.Running instance)))) observation.old) }
+    ensures observation { OnOk result (observation.new ≡ with_step at.now (step_observation (task_of parts.old.state (remaining.Runs (stage.Running instance)))) observation.old) }
 {
     laws::steps_are_sound();
-    let moved = match instance.make_move(alloc, parts.body.family.plan()) {
-        Ok(moved) => moved,
+    let move_result = match instance.make_move(alloc, parts.state.family.plan()) {
+        Ok(move_result) => move_result,
         Err(memory) => {
             drop(instance);
             return Err(memory.into());
         }
     };
-    match observation.observe(alloc, at, &moved) {
+    match observation.observe(alloc, at, &move_result) {
         Ok(()) => {}
         Err(memory) => {
-            drop((moved, instance));
+            drop((move_result, instance));
             return Err(memory);
         }
     }
-    match moved {
-        MoveResult::Went(shown) => show(parts, alloc, instance, shown),
+    match move_result {
+        MoveResult::Went(effects) => apply_effects(parts, alloc, instance, effects),
         MoveResult::Returned(value) => {
             drop(instance);
-            Ok(pass(parts, Work::Runs(InstanceState::Returned(value))))
+            Ok(pass(parts, Remaining::Runs(Stage::Returned(value))))
         }
         MoveResult::Faulted(fault) => {
             drop(instance);
-            Ok(pass(parts, Work::Runs(InstanceState::Faulted(fault))))
+            Ok(pass(parts, Remaining::Runs(Stage::Faulted(fault))))
         }
     }
 }
@@ -155,40 +160,40 @@ fn run_observed(
     parts: &mut Parts,
     alloc: Global,
     at: &Pedigree,
-    stage: InstanceState,
+    stage: Stage,
     observation: &mut Observed,
 ) -> Result<Passed, Memory>
-    requires { IsSound parts.old.body (work.Runs stage) }
-    ensures step { IfOk result (λ passed. IsStep (view_of parts.old.body (work.Runs stage)) (made parts.new passed)) }
+    requires { IsSound parts.old.state (remaining.Runs stage) }
+    ensures step { IfOk result (λ passed. IsStep (view_of parts.old.state (remaining.Runs stage)) (made parts.new passed)) }
     ensures sound { IfOk result (IsSoundMade parts.new) }
-    ensures observation { OnOk result (observation.new ≡ with_step at.now (step_observation (task_of parts.old.body (work.Runs stage))) observation.old) }
+    ensures observation { OnOk result (observation.new ≡ with_step at.now (step_observation (task_of parts.old.state (remaining.Runs stage))) observation.old) }
 {
     match stage {
-        InstanceState::Running(instance) => go_observed(parts, alloc, at, instance, observation),
-        InstanceState::ChildFaulted(fault) => {
+        Stage::Running(instance) => go_observed(parts, alloc, at, instance, observation),
+        Stage::ChildFaulted(fault) => {
             set(&mut observation.child_fault, Some(fault.share()?));
-            run(parts, alloc, InstanceState::ChildFaulted(fault))
+            run(parts, alloc, Stage::ChildFaulted(fault))
         }
         stage => run(parts, alloc, stage),
     }
 }
 
 /// A move of the task in place, or its stop, by what remains, which is observed.
-fn work_observed(
+fn remaining_observed(
     parts: &mut Parts,
     alloc: Global,
     at: &Pedigree,
-    work: Work,
+    remaining: Remaining,
     observation: &mut Observed,
 ) -> Result<Passed, Memory>
-    requires { IsSound parts.old.body work }
-    ensures step { IfOk result (λ passed. IsStep (view_of parts.old.body work) (made parts.new passed)) }
+    requires { IsSound parts.old.state remaining }
+    ensures step { IfOk result (λ passed. IsStep (view_of parts.old.state remaining) (made parts.new passed)) }
     ensures sound { IfOk result (IsSoundMade parts.new) }
-    ensures observation { OnOk result (observation.new ≡ with_step at.now (step_observation (task_of parts.old.body work)) observation.old) }
+    ensures observation { OnOk result (observation.new ≡ with_step at.now (step_observation (task_of parts.old.state remaining)) observation.old) }
 {
-    match work {
-        Work::Runs(stage) => run_observed(parts, alloc, at, stage, observation),
-        work => pass_with(parts, alloc, work),
+    match remaining {
+        Remaining::Runs(stage) => run_observed(parts, alloc, at, stage, observation),
+        remaining => pass_with(parts, alloc, remaining),
     }
 }
 
@@ -199,13 +204,13 @@ fn pass_observed(
     at: &Pedigree,
     observation: &mut Observed,
 ) -> Result<Passed, Memory>
-    requires { IsSound parts.old.body parts.old.work }
-    ensures step { IfOk result (λ passed. IsStep (view_of parts.old.body parts.old.work) (made parts.new passed)) }
+    requires { IsSound parts.old.state parts.old.remaining }
+    ensures step { IfOk result (λ passed. IsStep (view_of parts.old.state parts.old.remaining) (made parts.new passed)) }
     ensures sound { IfOk result (IsSoundMade parts.new) }
-    ensures observation { OnOk result (observation.new ≡ with_step at.now (step_observation (task_of parts.old.body parts.old.work)) observation.old) }
+    ensures observation { OnOk result (observation.new ≡ with_step at.now (step_observation (task_of parts.old.state parts.old.remaining)) observation.old) }
 {
-    let work = mem::replace(&mut parts.work, Work::nothing());
-    work_observed(parts, alloc, at, work, observation)
+    let remaining = mem::replace(&mut parts.remaining, Remaining::nothing());
+    remaining_observed(parts, alloc, at, remaining, observation)
 }
 
 /// A move of the task, or its stop, which is observed.
@@ -243,7 +248,7 @@ impl Task {
         laws::moves_fall();
         laws::stops_are_sound();
         // Read for the proof: a task keeps by its type that finishing it gives the evaluation of its origin.
-        let _work = &self.parts.work;
+        let _remaining = &self.parts.remaining;
         let mut observation = Observed::new(eye);
         let mut task = self;
         loop {

@@ -1,10 +1,10 @@
 ghost use Rattle.std.specs.Prelude.{◌≡◌, IfOk};
-ghost use Rattle.strand_machine.specs.Tasks.{Holds, view_of};
+ghost use Rattle.strand_machine.specs.Tasks.{HoldsOfTask, view_of};
 
-use crate::body::Body;
 use crate::memory::Memory;
+use crate::remaining::Remaining;
 use crate::task::Task;
-use crate::work::Work;
+use crate::task_state::TaskState;
 use serial_meaning::{Fault, Out};
 use std::alloc::Global;
 use strand_family::Family;
@@ -12,16 +12,16 @@ use strand_family::Family;
 /// What stands in a task's box, where its moves change it in place.
 #[derive(Drop)]
 pub(crate) struct Parts {
-    pub body: Body,
-    pub work: Work,
+    pub state: TaskState,
+    pub remaining: Remaining,
 }
 
 impl Parts {
     /// The task of these.
     #[inline(always)]
     pub fn boxed(alloc: Global, parts: Parts) -> Result<Task, Memory>
-        requires { Holds parts.body parts.work }
-        ensures { IfOk result (λ task. task ≡ view_of parts.body parts.work) }
+        requires { HoldsOfTask parts.state parts.remaining }
+        ensures { IfOk result (λ task. task ≡ view_of parts.state parts.remaining) }
     {
         match Box::new(alloc, parts) {
             Ok(parts) => Ok(Task { parts }),
@@ -36,18 +36,18 @@ impl Parts {
     /// box is given back.
     #[inline(always)]
     pub fn end(parts: Box<Parts>) -> (Family, Out, Option<Fault>)
-        ensures family { result.0 ≡ parts.value.body.family }
-        ensures prefix { result.1 ≡ parts.value.body.trace.prefix }
-        ensures fault { result.2 ≡ parts.value.body.trace.fault }
+        ensures family { result.0 ≡ parts.value.state.family }
+        ensures prefix { result.1 ≡ parts.value.state.trace.prefix }
+        ensures fault { result.2 ≡ parts.value.state.trace.fault }
     {
-        let Parts { body, work } = Box::into_inner(parts);
-        let Body {
+        let Parts { state, remaining } = Box::into_inner(parts);
+        let TaskState {
             family,
             trace,
             values,
             ..
-        } = body;
-        drop((work, values));
+        } = state;
+        drop((remaining, values));
         let (prefix, fault) = trace.prefix();
         (family, prefix, fault)
     }

@@ -1,23 +1,23 @@
 // How a task goes on from a wait.
 ghost use Rattle.std.specs.Prelude.{◌≡◌, ◌-◌, [], true, false, length, drop, IfOk, OnOk};
-ghost use Rattle.strand_meaning.specs.Task.{resumed, resumed_work};
+ghost use Rattle.strand_meaning.specs.Task.{resumed, resumed_remaining};
 ghost use Rattle.strand_machine.specs.Family.{tags, origins, AwaitsCount};
-ghost use Rattle.strand_machine.specs.Merge.{BecomesStage, BecomesWork, EndsShort, HasTakenAnswers, IsShort, KeepsRest, TakesAnswers, WorkFindsAll, Works, end_of, merge_of};
-ghost use Rattle.strand_machine.specs.Parts.{awaited, awaited_children};
+ghost use Rattle.strand_machine.specs.Merge.{BecomesStage, BecomesRemaining, EndsShort, HasTakenAnswers, IsShort, KeepsRest, TakesAnswers, RemainingFindsAll, IsRemainingOfPlan, end_of, merge_of};
+ghost use Rattle.strand_machine.specs.AwaitedChildren.{awaited, awaited_children};
 ghost use Rattle.strand_meaning.specs.Cuts.{AreAnswersOf};
 ghost use Rattle.strand_machine.specs.Made.{resumed_as};
 ghost use Rattle.strand_machine.specs.Stops.{IsResumed, WentOn, answer_tags};
-ghost use Rattle.strand_machine.specs.Tasks.{Holds, IsSound, view_of, work_of};
-ghost use Rattle.strand_machine.specs.declared.work.InstanceState.TheVariants as stage;
+ghost use Rattle.strand_machine.specs.Tasks.{HoldsOfTask, IsSound, view_of, remaining_of};
+ghost use Rattle.strand_machine.specs.declared.remaining.Stage.TheVariants as stage;
 
 use crate::memory::Memory;
-use crate::merge::{Heard, merge_answer};
+use crate::merge::{Merging, merge_answer};
 use crate::parts::Parts;
-use crate::replace::{set, set_work};
+use crate::remaining::{Remaining, Stage};
+use crate::replace::{set, set_remaining};
 use crate::stop::Resumed;
 use crate::task::Task;
 use crate::trace::AfterChild;
-use crate::work::{InstanceState, Work};
 use meet_block::Look;
 use script_grammar::Items;
 use serial_meaning::{Answer, Fault, Outcome, Value};
@@ -49,39 +49,39 @@ fn take_answers(
 }
 
 /// An instance at a sync goes on, or ends by the least fault of the children for which it waited.
-fn pass_sync(instance: Instance) -> Result<InstanceState, Memory>
+fn pass_sync(instance: Instance) -> Result<Stage, Memory>
     ensures { IfOk result (BecomesStage resumed (stage.AtSync instance)) }
 {
-    let fault = match instance.faulted() {
+    let fault = match instance.childs_fault() {
         Some(fault) => fault.share()?,
-        None => return Ok(InstanceState::Running(instance)),
+        None => return Ok(Stage::Running(instance)),
     };
-    Ok(InstanceState::ChildFaulted(fault))
+    Ok(Stage::ChildFaulted(fault))
 }
 
 /// A stage once a wait is over.
-fn go_on_stage(stage: InstanceState) -> Result<InstanceState, Memory>
+fn go_on_stage(stage: Stage) -> Result<Stage, Memory>
     ensures { IfOk result (BecomesStage resumed stage) }
 {
     match stage {
-        InstanceState::AtSync(instance) => pass_sync(instance),
-        InstanceState::AtLoop(instance) => Ok(InstanceState::Running(instance)),
+        Stage::AtSync(instance) => pass_sync(instance),
+        Stage::AtLoop(instance) => Ok(Stage::Running(instance)),
         stage => Ok(stage),
     }
 }
 
 /// What remains once a wait is over.
-fn go_on_work(work: &mut Work) -> Result<(), Memory>
-    ensures { OnOk result (BecomesWork (resumed_work [] []) work.old work.new) }
+fn go_on_remaining(remaining: &mut Remaining) -> Result<(), Memory>
+    ensures { OnOk result (BecomesRemaining (resumed_remaining [] []) remaining.old remaining.new) }
 {
-    match work {
-        Work::Splits(_) | Work::Ends(_) => Ok(()),
-        Work::Runs(stage) => {
-            let was = mem::replace(stage, InstanceState::Returned(Value::Int(0)));
+    match remaining {
+        Remaining::Splits(_) | Remaining::Ends(_) => Ok(()),
+        Remaining::Runs(stage) => {
+            let was = mem::replace(stage, Stage::Returned(Value::Int(0)));
             set(stage, go_on_stage(was)?);
             Ok(())
         }
-        Work::Finished(_, gone_on) => {
+        Remaining::Finished(_, gone_on) => {
             *gone_on = true;
             Ok(())
         }
@@ -91,16 +91,16 @@ fn go_on_work(work: &mut Work) -> Result<(), Memory>
 /// Takes the answers of all awaited children, in order. Their list comes back, and keeps its room.
 fn merge_all(
     parts: &mut Parts,
-    heard: &mut Heard,
+    merging: &mut Merging,
     alloc: Global,
     after: Vec<AfterChild>,
     answers: Items<Answer>,
 ) -> Result<Items<Answer>, Memory>
     requires many { length answers ≡ length after.items }
-    requires handed { parts.old.body.trace.handed ≡ [] }
-    requires works { Works parts.old.body.family.plan parts.old.work }
-    requires found { WorkFindsAll parts.old.body.family.plan after.items (work_of parts.old.body.family.plan parts.old.work) }
-    ensures takes { OnOk result (TakesAnswers (awaited_children (origins (answer_tags answers)) after.items) answers (merge_of parts.old heard.old) (merge_of parts.new heard.new)) }
+    requires handed { parts.old.state.trace.handed ≡ [] }
+    requires of_plan { IsRemainingOfPlan parts.old.state.family.plan parts.old.remaining }
+    requires found { RemainingFindsAll parts.old.state.family.plan after.items (remaining_of parts.old.state.family.plan parts.old.remaining) }
+    ensures takes { OnOk result (TakesAnswers (awaited_children (origins (answer_tags answers)) after.items) answers (merge_of parts.old merging.old) (merge_of parts.new merging.new)) }
     ensures rest { OnOk result (KeepsRest parts.old parts.new) }
     ensures none { IfOk result (λ left. left ≡ []) }
 {
@@ -110,7 +110,7 @@ fn merge_all(
         let Some(answer) = left.pop() else {
             unreachable!()
         };
-        merge_answer(parts, heard, alloc, part, answer)?;
+        merge_answer(parts, merging, alloc, part, answer)?;
     }
     Ok(Items(left))
 }
@@ -127,26 +127,26 @@ fn end_of(fault: Option<Fault>, by_cut: bool) -> Option<Outcome>
 }
 
 /// What is left of a task that took a cut: it ends by the first fault or cut.
-fn cut_short(parts: &mut Parts, heard: &Heard)
-    requires ends { EndsShort parts.old.body.family (merge_of parts.old heard.now) }
-    requires handed { parts.old.body.trace.handed ≡ [] }
-    ensures short { IsShort parts.old.body.family (merge_of parts.old heard.now) parts.old.body.advanced (view_of parts.new.body parts.new.work) }
-    ensures holds { Holds parts.new.body parts.new.work }
+fn cut_short(parts: &mut Parts, merging: &Merging)
+    requires ends { EndsShort parts.old.state.family (merge_of parts.old merging.now) }
+    requires handed { parts.old.state.trace.handed ≡ [] }
+    ensures short { IsShort parts.old.state.family (merge_of parts.old merging.now) parts.old.state.advanced (view_of parts.new.state parts.new.remaining) }
+    ensures holds { HoldsOfTask parts.new.state parts.new.remaining }
 {
-    let Some(outcome) = end_of(parts.body.trace.take_fault(), heard.by_cut) else {
+    let Some(outcome) = end_of(parts.state.trace.take_fault(), merging.by_cut) else {
         unreachable!()
     };
-    parts.body.waiting = false;
-    set_work(&mut parts.work, Work::Ends(outcome));
+    parts.state.waiting = false;
+    set_remaining(&mut parts.remaining, Remaining::Ends(outcome));
 }
 
 /// What is left of a task that took answers, none of them a cut: it goes on.
-fn goes_on(parts: &mut Parts) -> Result<(), Memory>
-    ensures body { OnOk result (parts.new.body ≡ record parts.old.body { waiting = false }) }
-    ensures work { OnOk result (BecomesWork (resumed_work [] []) parts.old.work parts.new.work) }
+fn end_wait(parts: &mut Parts) -> Result<(), Memory>
+    ensures state { OnOk result (parts.new.state ≡ record parts.old.state { waiting = false }) }
+    ensures remaining { OnOk result (BecomesRemaining (resumed_remaining [] []) parts.old.remaining parts.new.remaining) }
 {
-    parts.body.waiting = false;
-    go_on_work(&mut parts.work)
+    parts.state.waiting = false;
+    go_on_remaining(&mut parts.remaining)
 }
 
 /// The task with its children's answers, whose list comes back.
@@ -155,29 +155,29 @@ pub(crate) fn go_on(
     alloc: Global,
     answers: Items<Answer>,
 ) -> Result<Items<Answer>, Memory>
-    requires sound { HasTakenAnswers parts.old.body parts.old.work }
-    requires tags { answer_tags answers ≡ tags parts.old.body.family.plan (awaited parts.old.body.trace.handed) }
-    ensures went { OnOk result (WentOn answers (view_of parts.old.body parts.old.work) (view_of parts.new.body parts.new.work)) }
-    ensures answers { OnOk result (AreAnswersOf parts.old.body.family.plan parts.old.body.trace.handed answers) }
+    requires sound { HasTakenAnswers parts.old.state parts.old.remaining }
+    requires tags { answer_tags answers ≡ tags parts.old.state.family.plan (awaited parts.old.state.trace.handed) }
+    ensures went { OnOk result (WentOn answers (view_of parts.old.state parts.old.remaining) (view_of parts.new.state parts.new.remaining)) }
+    ensures answers { OnOk result (AreAnswersOf parts.old.state.family.plan parts.old.state.trace.handed answers) }
     ensures none { IfOk result (λ left. left ≡ []) }
-    ensures holds { OnOk result (Holds parts.new.body parts.new.work) }
+    ensures holds { OnOk result (HoldsOfTask parts.new.state parts.new.remaining) }
 {
     laws::answers_keep_tasks();
     laws::answers_are_evaluations();
     laws::answers_end();
     // Read for the proof: the plan's table has the place of each variable that its functions name.
-    let _places = parts.body.family.plan().places();
-    let after = parts.body.trace.take_children(alloc);
-    let mut heard = Heard {
+    let _places = parts.state.family.plan().places();
+    let after = parts.state.trace.take_children(alloc);
+    let mut merging = Merging {
         cut: false,
         by_cut: false,
     };
-    let left = merge_all(parts, &mut heard, alloc, after, answers)?;
-    if heard.cut {
-        cut_short(parts, &heard);
+    let left = merge_all(parts, &mut merging, alloc, after, answers)?;
+    if merging.cut {
+        cut_short(parts, &merging);
         return Ok(left);
     }
-    goes_on(parts)?;
+    end_wait(parts)?;
     Ok(left)
 }
 
@@ -188,17 +188,17 @@ fn look_on(
     alloc: Global,
     room: Items<Answer>,
 ) -> Result<(bool, Items<Answer>), Memory>
-    requires sound { IsSound parts.old.body parts.old.work }
+    requires sound { IsSound parts.old.state parts.old.remaining }
     requires room { room ≡ [] }
-    ensures resumed { IfOk result (λ looked. IsResumed (view_of parts.old.body parts.old.work) (resumed_as looked.0 (view_of parts.new.body parts.new.work))) }
+    ensures resumed { IfOk result (λ looked. IsResumed (view_of parts.old.state parts.old.remaining) (resumed_as looked.0 (view_of parts.new.state parts.new.remaining))) }
     ensures none { IfOk result (λ looked. looked.1 ≡ []) }
-    ensures holds { OnOk result (Holds parts.new.body parts.new.work) }
+    ensures holds { OnOk result (HoldsOfTask parts.new.state parts.new.remaining) }
 {
-    match parts.body.family.look() {
+    match parts.state.family.look() {
         Look::NotYet(_) => Ok((false, room)),
         Look::Ready => {
-            let awaited = parts.body.trace.awaited().as_slice().len() as u64;
-            let answers = take_answers(&mut parts.body.family, awaited, room)?;
+            let awaited = parts.state.trace.awaited().as_slice().len() as u64;
+            let answers = take_answers(&mut parts.state.family, awaited, room)?;
             let left = go_on(parts, alloc, answers)?;
             Ok((true, left))
         }

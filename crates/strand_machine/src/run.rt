@@ -5,17 +5,17 @@ ghost use Rattle.strand_moves.specs.Moves.{effects_of};
 ghost use Rattle.strand_moves.specs.declared.effects.Effects.TheVariants as effect;
 ghost use Rattle.strand_machine.specs.Made.{IsSoundMade, made, IsRun};
 ghost use Rattle.strand_machine.specs.Effects.{task_after_effects, HasSoundEffects};
-ghost use Rattle.strand_machine.specs.Stops.{KeepsStep, step_of};
+ghost use Rattle.strand_machine.specs.Stops.{KeepsFamilyInStep, step_of};
 ghost use Rattle.strand_machine.specs.Tasks.{IsSound, view_of};
-ghost use Rattle.strand_machine.specs.declared.work.InstanceState.TheVariants as stage;
-ghost use Rattle.strand_machine.specs.declared.work.Work.TheVariants as work;
+ghost use Rattle.strand_machine.specs.declared.remaining.Stage.TheVariants as stage;
+ghost use Rattle.strand_machine.specs.declared.remaining.Remaining.TheVariants as remaining;
 
 use crate::destination::Destination;
 use crate::leave::{faulted, pass, returned, spawn, wait};
 use crate::memory::Memory;
 use crate::parts::Parts;
+use crate::remaining::{Remaining, Stage};
 use crate::stop::Passed;
-use crate::work::{InstanceState, Work};
 use script_grammar::Boxed;
 use std::alloc::Global;
 use strand_meaning::laws;
@@ -36,57 +36,57 @@ fn show_spawn(
     instance: Instance,
     spawning: Spawning,
 ) -> Result<Passed, Memory>
-    requires { HasSoundEffects parts.old.body instance (effect.Spawned spawning.event spawning.spawned) }
+    requires { HasSoundEffects parts.old.state instance (effect.Spawned spawning.event spawning.spawned) }
     ensures step { let s = effect.Spawned spawning.event spawning.spawned in
-        IfOk result (λ passed. step_of (made parts.new passed) ≡ stops_at (child_in (effects_of s)) (task_after_effects parts.old.body instance s)) }
-    ensures keeps { IfOk result (λ passed. KeepsStep (view_of parts.old.body (work.Runs (stage.Running instance))) (made parts.new passed)) }
+        IfOk result (λ passed. step_of (made parts.new passed) ≡ stops_at (child_in (effects_of s)) (task_after_effects parts.old.state instance s)) }
+    ensures keeps { IfOk result (λ passed. KeepsFamilyInStep (view_of parts.old.state (remaining.Runs (stage.Running instance))) (made parts.new passed)) }
     ensures sound { IfOk result (IsSoundMade parts.new) }
 {
     let Spawning { event, spawned } = spawning;
-    parts.body.trace.emit(alloc, event)?;
+    parts.state.trace.emit(alloc, event)?;
     let SpawnedChild {
         child,
         height,
         target,
     } = spawned;
     let destination = Destination::Spawned(height, target);
-    let next = Work::Runs(InstanceState::Running(instance));
+    let next = Remaining::Runs(Stage::Running(instance));
     spawn(parts, alloc, child, destination, next)
 }
 
 /// What a move showed joins the trace; a child is handed out.
-pub(crate) fn show(
+pub(crate) fn apply_effects(
     parts: &mut Parts,
     alloc: Global,
     instance: Instance,
     effects: Effects,
 ) -> Result<Passed, Memory>
-    requires { HasSoundEffects parts.old.body instance effects }
-    ensures step { IfOk result (λ passed. step_of (made parts.new passed) ≡ stops_at (child_in (effects_of effects)) (task_after_effects parts.old.body instance effects)) }
-    ensures keeps { IfOk result (λ passed. KeepsStep (view_of parts.old.body (work.Runs (stage.Running instance))) (made parts.new passed)) }
+    requires { HasSoundEffects parts.old.state instance effects }
+    ensures step { IfOk result (λ passed. step_of (made parts.new passed) ≡ stops_at (child_in (effects_of effects)) (task_after_effects parts.old.state instance effects)) }
+    ensures keeps { IfOk result (λ passed. KeepsFamilyInStep (view_of parts.old.state (remaining.Runs (stage.Running instance))) (made parts.new passed)) }
     ensures sound { IfOk result (IsSoundMade parts.new) }
 {
     match effects {
         Effects::Nothing | Effects::Opened(_) | Effects::Closed(_) => {
-            Ok(pass(parts, Work::Runs(InstanceState::Running(instance))))
+            Ok(pass(parts, Remaining::Runs(Stage::Running(instance))))
         }
         Effects::Emitted(event) => {
-            parts.body.trace.emit(alloc, event)?;
-            Ok(pass(parts, Work::Runs(InstanceState::Running(instance))))
+            parts.state.trace.emit(alloc, event)?;
+            Ok(pass(parts, Remaining::Runs(Stage::Running(instance))))
         }
         Effects::Synced(event) => {
-            parts.body.trace.emit(alloc, event)?;
-            Ok(pass(parts, Work::Runs(InstanceState::AtSync(instance))))
+            parts.state.trace.emit(alloc, event)?;
+            Ok(pass(parts, Remaining::Runs(Stage::AtSync(instance))))
         }
         Effects::Spawned { event, spawned } => {
             let spawned = unboxed(spawned);
             show_spawn(parts, alloc, instance, Spawning { event, spawned })
         }
         Effects::Looped { event, looped } => {
-            parts.body.trace.emit(alloc, event)?;
+            parts.state.trace.emit(alloc, event)?;
             let LoopedChild { child, target } = unboxed(looped);
             let destination = Destination::Looped(target);
-            let next = Work::Runs(InstanceState::AtLoop(instance));
+            let next = Remaining::Runs(Stage::AtLoop(instance));
             spawn(parts, alloc, child, destination, next)
         }
     }
@@ -94,16 +94,16 @@ pub(crate) fn show(
 
 /// Moves of the instance in a row, up to the first that shows more than an event, with the wait or the end that comes of it.
 pub(crate) fn go(parts: &mut Parts, alloc: Global, mut instance: Instance) -> Result<Passed, Memory>
-    requires { IsSound parts.old.body (work.Runs (stage.Running instance)) }
-    ensures step { IfOk result (λ passed. IsRun (view_of parts.old.body (work.Runs (stage.Running instance))) (made parts.new passed)) }
+    requires { IsSound parts.old.state (remaining.Runs (stage.Running instance)) }
+    ensures step { IfOk result (λ passed. IsRun (view_of parts.old.state (remaining.Runs (stage.Running instance))) (made parts.new passed)) }
     ensures sound { IfOk result (IsSoundMade parts.new) }
 {
     laws::steps_are_sound();
     laws::moves_fall();
     loop {
-        parts.body.advanced = true;
-        let plan = parts.body.family.plan();
-        let next = match instance.row(alloc, plan, &mut parts.body.trace) {
+        parts.state.advanced = true;
+        let plan = parts.state.family.plan();
+        let next = match instance.row(alloc, plan, &mut parts.state.trace) {
             Ok(next) => next,
             Err(memory) => return Err(memory.into()),
         };
@@ -116,12 +116,12 @@ pub(crate) fn go(parts: &mut Parts, alloc: Global, mut instance: Instance) -> Re
         }
         match instance.make(alloc, plan, next) {
             Ok(MoveResult::Went(Effects::Nothing)) => {}
-            Ok(MoveResult::Went(Effects::Emitted(event))) => parts.body.trace.emit(alloc, event)?,
+            Ok(MoveResult::Went(Effects::Emitted(event))) => parts.state.trace.emit(alloc, event)?,
             Ok(MoveResult::Went(Effects::Synced(event))) => {
-                parts.body.trace.emit(alloc, event)?;
-                return Ok(wait(parts, Work::Runs(InstanceState::AtSync(instance))));
+                parts.state.trace.emit(alloc, event)?;
+                return Ok(wait(parts, Remaining::Runs(Stage::AtSync(instance))));
             }
-            Ok(MoveResult::Went(effects)) => return show(parts, alloc, instance, effects),
+            Ok(MoveResult::Went(effects)) => return apply_effects(parts, alloc, instance, effects),
             Ok(MoveResult::Returned(value)) => {
                 instance.discard();
                 return Ok(returned(parts, value));

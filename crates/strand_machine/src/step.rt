@@ -1,20 +1,20 @@
 // Moves of a task, or its stop.
 ghost use Rattle.std.specs.Prelude.{◌≡◌, ◌++◌, ◌∷◌, [], IfOk, OnOk};
 ghost use Rattle.serial_meaning.specs.declared.answer.Outcome.TheVariants as outcome;
-ghost use Rattle.strand_machine.specs.Made.{IsSoundMade, IsStopped, StopsSo, made, GoesOn, CanEnd, ended};
+ghost use Rattle.strand_machine.specs.Made.{IsSoundMade, IsStopped, StopsSo, made, StepsOn, CanEnd, ended_move};
 ghost use Rattle.strand_machine.specs.Stops.{IsStep};
 ghost use Rattle.strand_machine.specs.Tasks.{IsSound, view_of};
-ghost use Rattle.strand_machine.specs.declared.work.Work.TheVariants as work;
+ghost use Rattle.strand_machine.specs.declared.remaining.Remaining.TheVariants as remaining;
 
-use crate::body::Body;
 use crate::destination::Destination;
 use crate::leave::{faulted, pass, returned, spawn, wait};
 use crate::memory::Memory;
 use crate::parts::Parts;
+use crate::remaining::{Left, Remaining, Stage, begun_last};
 use crate::run::go;
 use crate::stop::{MoveOrStop, Passed, Stop};
 use crate::task::Task;
-use crate::work::{InstanceState, Left, Work, begun_last};
+use crate::task_state::TaskState;
 use serial_meaning::{Outcome, Value};
 use std::alloc::Global;
 use std::mem;
@@ -23,114 +23,112 @@ use strand_meaning::laws;
 use strand_moves::Child;
 
 /// A loop of which these iterations are left: their lower half is handed out, and the last one is begun.
-fn split(parts: &mut Parts, alloc: Global, left: Left) -> Result<Passed, Memory>
-    requires { IsSound parts.old.body (work.Splits left) }
-    ensures step { IfOk result (λ passed. IsStep (view_of parts.old.body (work.Splits left)) (made parts.new passed)) }
+fn split_loop(parts: &mut Parts, alloc: Global, left: Left) -> Result<Passed, Memory>
+    requires { IsSound parts.old.state (remaining.Splits left) }
+    ensures step { IfOk result (λ passed. IsStep (view_of parts.old.state (remaining.Splits left)) (made parts.new passed)) }
     ensures sound { IfOk result (IsSoundMade parts.new) }
 {
     laws::steps_are_sound();
     let Left { range, trail } = left;
     if let Some(halves) = range.split() {
-        let origin = part_of(alloc, parts.body.family.origin(), halves.0)?;
+        let origin = part_of(alloc, parts.state.family.origin(), halves.0)?;
         let shared = trail.share()?;
         let child = Child {
             origin,
             trail: shared,
         };
         let range = halves.1;
-        let work = Work::Splits(Left { range, trail });
-        return spawn(parts, alloc, child, Destination::Half, work);
+        let remaining = Remaining::Splits(Left { range, trail });
+        return spawn(parts, alloc, child, Destination::Half, remaining);
     }
     if range.len() == 0 {
-        let values = parts.body.take_values(alloc);
+        let values = parts.state.take_values(alloc);
         return Ok(Passed::Ends(Outcome::Values(values)));
     }
-    let body = &parts.body;
-    let work = begun_last(alloc, body.family.plan(), body.family.origin(), trail)?;
-    Ok(pass(parts, work))
+    let state = &parts.state;
+    let remaining = begun_last(alloc, state.family.plan(), state.family.origin(), trail)?;
+    Ok(pass(parts, remaining))
 }
 
 /// A loop that ends with this value after those that were taken.
-fn end_loop_with(body: &mut Body, alloc: Global, value: Value) -> Result<Passed, Memory>
-    ensures ends { IfOk result (λ passed. passed ≡ Passed.Ends (outcome.Values (body.old.values ++ value ∷ []))) }
-    ensures body { OnOk result (body.new ≡ record body.old { values = [] }) }
+fn end_loop_with(state: &mut TaskState, alloc: Global, value: Value) -> Result<Passed, Memory>
+    ensures ends { IfOk result (λ passed. passed ≡ Passed.Ends (outcome.Values (state.old.values ++ value ∷ []))) }
+    ensures state { OnOk result (state.new ≡ record state.old { values = [] }) }
 {
-    let mut values = body.take_values(alloc);
+    let mut values = state.take_values(alloc);
     values.0.push(value)?;
     Ok(Passed::Ends(Outcome::Values(values)))
 }
 
 /// A loop whose last iteration gave this value. Where it handed out a part it waits for it first.
 fn end_loop(parts: &mut Parts, alloc: Global, value: Value, gone_on: bool) -> Result<Passed, Memory>
-    requires { IsSound parts.old.body (work.Finished value gone_on) }
-    ensures step { IfOk result (λ passed. IsStep (view_of parts.old.body (work.Finished value gone_on)) (made parts.new passed)) }
+    requires { IsSound parts.old.state (remaining.Finished value gone_on) }
+    ensures step { IfOk result (λ passed. IsStep (view_of parts.old.state (remaining.Finished value gone_on)) (made parts.new passed)) }
     ensures sound { IfOk result (IsSoundMade parts.new) }
 {
     laws::steps_are_sound();
     if gone_on {
-        return end_loop_with(&mut parts.body, alloc, value);
+        return end_loop_with(&mut parts.state, alloc, value);
     }
-    if parts.body.is_long() {
-        return Ok(wait(parts, Work::Finished(value, false)));
+    if parts.state.is_long() {
+        return Ok(wait(parts, Remaining::Finished(value, false)));
     }
-    end_loop_with(&mut parts.body, alloc, value)
+    end_loop_with(&mut parts.state, alloc, value)
 }
 
 /// An instance, by where it stands.
-pub(crate) fn run(parts: &mut Parts, alloc: Global, stage: InstanceState) -> Result<Passed, Memory>
-    requires { IsSound parts.old.body (work.Runs stage) }
-    ensures step { IfOk result (λ passed. GoesOn (view_of parts.old.body (work.Runs stage)) (made parts.new passed)) }
+pub(crate) fn run(parts: &mut Parts, alloc: Global, stage: Stage) -> Result<Passed, Memory>
+    requires { IsSound parts.old.state (remaining.Runs stage) }
+    ensures step { IfOk result (λ passed. StepsOn (view_of parts.old.state (remaining.Runs stage)) (made parts.new passed)) }
     ensures sound { IfOk result (IsSoundMade parts.new) }
 {
     laws::steps_are_sound();
     match stage {
-        InstanceState::Running(instance) => go(parts, alloc, instance),
-        InstanceState::AtSync(instance) => Ok(wait(
-            parts,
-            Work::Runs(InstanceState::AtSync(instance)),
-        )),
-        InstanceState::AtLoop(instance) => Ok(wait(
-            parts,
-            Work::Runs(InstanceState::AtLoop(instance)),
-        )),
-        InstanceState::Returned(value) => Ok(returned(parts, value)),
-        InstanceState::Faulted(own) => Ok(faulted(parts, own)),
-        InstanceState::ChildFaulted(fault) => Ok(Passed::Ends(Outcome::Fault(fault))),
+        Stage::Running(instance) => go(parts, alloc, instance),
+        Stage::AtSync(instance) => Ok(wait(parts, Remaining::Runs(Stage::AtSync(instance)))),
+        Stage::AtLoop(instance) => Ok(wait(parts, Remaining::Runs(Stage::AtLoop(instance)))),
+        Stage::Returned(value) => Ok(returned(parts, value)),
+        Stage::Faulted(own) => Ok(faulted(parts, own)),
+        Stage::ChildFaulted(fault) => Ok(Passed::Ends(Outcome::Fault(fault))),
     }
 }
 
 /// A move of the task in place, or its stop, by what remains.
-pub(crate) fn pass_with(parts: &mut Parts, alloc: Global, work: Work) -> Result<Passed, Memory>
-    requires { IsSound parts.old.body work }
-    ensures step { IfOk result (λ passed. GoesOn (view_of parts.old.body work) (made parts.new passed)) }
+pub(crate) fn pass_with(
+    parts: &mut Parts,
+    alloc: Global,
+    remaining: Remaining,
+) -> Result<Passed, Memory>
+    requires { IsSound parts.old.state remaining }
+    ensures step { IfOk result (λ passed. StepsOn (view_of parts.old.state remaining) (made parts.new passed)) }
     ensures sound { IfOk result (IsSoundMade parts.new) }
 {
-    match work {
-        Work::Splits(left) => split(parts, alloc, left),
-        Work::Runs(stage) => run(parts, alloc, stage),
-        Work::Finished(value, gone_on) => end_loop(parts, alloc, value, gone_on),
-        Work::Ends(_) => unreachable!(),
+    match remaining {
+        Remaining::Splits(left) => split_loop(parts, alloc, left),
+        Remaining::Runs(stage) => run(parts, alloc, stage),
+        Remaining::Finished(value, gone_on) => end_loop(parts, alloc, value, gone_on),
+        Remaining::Ends(_) => unreachable!(),
     }
 }
 
 /// A move of the task in place, or its stop.
 fn pass_on(parts: &mut Parts, alloc: Global) -> Result<Passed, Memory>
-    requires { IsSound parts.old.body parts.old.work }
-    ensures step { IfOk result (λ passed. GoesOn (view_of parts.old.body parts.old.work) (made parts.new passed)) }
+    requires { IsSound parts.old.state parts.old.remaining }
+    ensures step { IfOk result (λ passed. StepsOn (view_of parts.old.state parts.old.remaining) (made parts.new passed)) }
     ensures sound { IfOk result (IsSoundMade parts.new) }
 {
     // most moves are those of an instance
-    if let Some(instance) = parts.work.take_running() {
+    if let Some(instance) = parts.remaining.take_running() {
         return go(parts, alloc, instance);
     }
-    let work = mem::replace(&mut parts.work, Work::nothing());
-    pass_with(parts, alloc, work)
+    let remaining = mem::replace(&mut parts.remaining, Remaining::nothing());
+    pass_with(parts, alloc, remaining)
 }
 
 /// The end of a task: by the fault in its trace, or else so. Its box is given back.
 fn end(parts: Box<Parts>, outcome: Outcome) -> Stop
-    requires { CanEnd parts.value.body outcome }
-    ensures { MoveOrStop.Stops result ≡ ended parts.value.body outcome }
+    requires { CanEnd parts.value.state outcome }
+    ensures { MoveOrStop.Stops result ≡ ended_move parts.value.state outcome }
 {
     let (family, prefix, fault) = Parts::end(parts);
     let outcome = match fault {
@@ -150,7 +148,7 @@ pub(crate) fn stepped(parts: Box<Parts>, passed: Passed) -> MoveOrStop
     ensures { result ≡ made parts.value passed }
 {
     match passed {
-        Passed::Goes => MoveOrStop::Passes(Task { parts }),
+        Passed::Continues => MoveOrStop::Passes(Task { parts }),
         passed => MoveOrStop::Stops(to_stop(parts, passed)),
     }
 }
@@ -158,16 +156,16 @@ pub(crate) fn stepped(parts: Box<Parts>, passed: Passed) -> MoveOrStop
 /// Moves of the task in place, up to its next stop.
 #[inline(always)]
 pub(crate) fn run_on(parts: &mut Parts, alloc: Global) -> Result<Passed, Memory>
-    requires { IsSound parts.old.body parts.old.work }
+    requires { IsSound parts.old.state parts.old.remaining }
     ensures stopped { IfOk result IsStopped }
-    ensures stop { IfOk result (λ passed. StopsSo (view_of parts.old.body parts.old.work) (made parts.new passed)) }
+    ensures stop { IfOk result (λ passed. StopsSo (view_of parts.old.state parts.old.remaining) (made parts.new passed)) }
     ensures sound { IfOk result (IsSoundMade parts.new) }
 {
     laws::moves_fall();
     laws::stops_are_sound();
     loop {
         match pass_on(parts, alloc)? {
-            Passed::Goes => {}
+            Passed::Continues => {}
             passed => return Ok(passed),
         }
     }
@@ -181,7 +179,7 @@ pub(crate) fn to_stop(parts: Box<Parts>, passed: Passed) -> Stop
     ensures { MoveOrStop.Stops result ≡ made parts.value passed }
 {
     match passed {
-        Passed::Goes => unreachable!(),
+        Passed::Continues => unreachable!(),
         Passed::Waits => Stop::Wait {
             rest: Task { parts },
         },

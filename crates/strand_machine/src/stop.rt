@@ -35,7 +35,7 @@ pub(crate) enum MoveOrStop {
 #[derive(Drop)]
 pub(crate) enum Passed {
     /// It goes on.
-    Goes,
+    Continues,
     /// It waits for its children.
     Waits,
     /// It handed out a child.

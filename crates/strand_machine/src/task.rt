@@ -3,16 +3,16 @@ ghost use Rattle.std.specs.Arc.{arc_value};
 ghost use Rattle.serial_meaning.specs.Laws.{IsOriginOf};
 ghost use Rattle.strand_moves.specs.Moves.{IsTrailOf};
 ghost use Rattle.strand_machine.specs.Family.{tag};
-ghost use Rattle.strand_machine.specs.Parts.{awaited};
+ghost use Rattle.strand_machine.specs.AwaitedChildren.{awaited};
 
-use crate::body::Body;
 use crate::memory::Memory;
 use crate::origin::{share_origin, trail_of};
 use crate::parts::Parts;
-use crate::work::begun_work;
+use crate::remaining::begun_remaining;
+use crate::task_state::TaskState;
 use meet_block::Give;
 use script_grammar::Items;
-use serial_meaning::{Answer, Fault, Origin, Out, Outcome, Plan};
+use serial_meaning::{Answer, AnswerKey, Fault, Origin, Out, Outcome, Plan};
 use std::alloc::Global;
 use std::marker::Model;
 use std::sync::Arc;
@@ -31,15 +31,15 @@ impl Model for Task {
     ghost use Rattle.std.specs.Coded.{codes};
     ghost use Rattle.script_grammar.specs.contracts.tree.Stmt as statement_type;
     ghost use Rattle.serial_meaning.specs.contracts.plan.Plan as plan_type;
-    ghost use Rattle.strand_machine.specs.Tasks.{TaskView, view_of, Holds};
+    ghost use Rattle.strand_machine.specs.Tasks.{TaskView, view_of, HoldsOfTask};
 
     ghost Value = { TaskView };
 
     ghost coded = { Prim.hlevel (codes, statement_type.the_row.coded, plan_type.the_row.coded) };
 
-    ghost view = { λ t. view_of t.parts.value.body t.parts.value.work };
+    ghost view = { λ t. view_of t.parts.value.state t.parts.value.remaining };
 
-    ghost invariant = { λ t. Holds t.parts.value.body t.parts.value.work };
+    ghost invariant = { λ t. HoldsOfTask t.parts.value.state t.parts.value.remaining };
 }
 
 impl Task {
@@ -63,7 +63,21 @@ impl Task {
         Task::begin(alloc, plan, Child { origin, trail }, give)
     }
 
-    /// The same, where the trail of the origin's path is at hand.
+    /// The same for a task for whose answer nobody looks, nor for those of the tasks below it: they are taken as they come.
+    pub fn alone(alloc: Global, plan: &Arc<Plan>, origin: Origin) -> Result<Task, Memory>
+        requires { IsOriginOf (arc_value plan.now) origin }
+        ensures { IfOk result (λ task. task ≡ fresh (arc_value plan.now) origin) }
+    {
+        let key = AnswerKey {
+            plan: Arc::try_clone(plan)?,
+            origin,
+        };
+        let give = Give::alone(&key);
+        let AnswerKey { plan, origin } = key;
+        Task::start(alloc, plan, origin, give)
+    }
+
+    /// The same as `start`, where the trail of the origin's path is at hand.
     #[inline(always)]
     pub(crate) fn begin(
         alloc: Global,
@@ -81,8 +95,8 @@ impl Task {
         // Read for the proof: a checked script is valid.
         let _script = plan.checked.script();
         let Child { origin, trail } = child;
-        let work = match begun_work(alloc, &plan, &origin, trail) {
-            Ok(work) => work,
+        let remaining = match begun_remaining(alloc, &plan, &origin, trail) {
+            Ok(remaining) => remaining,
             Err(memory) => {
                 drop((plan, origin, give));
                 return Err(memory);
@@ -91,26 +105,26 @@ impl Task {
         let family = match Family::new(alloc, plan, origin, give) {
             Ok(family) => family,
             Err(memory) => {
-                drop(work);
+                drop(remaining);
                 return Err(memory.into());
             }
         };
-        let body = Body::new(alloc, family);
-        Parts::boxed(alloc, Parts { body, work })
+        let state = TaskState::new(alloc, family);
+        Parts::boxed(alloc, Parts { state, remaining })
     }
 
     /// What the task was begun as.
     pub fn origin(&self) -> &Origin
         ensures { result.now ≡ self.now.task.origin }
     {
-        self.parts.body.family.origin()
+        self.parts.state.family.origin()
     }
 
     /// The task's plan.
     pub fn plan(&self) -> &Arc<Plan>
         ensures { arc_value result.now ≡ self.now.task.plan }
     {
-        self.parts.body.family.shared_plan()
+        self.parts.state.family.shared_plan()
     }
 
     /// The task reaches its plan by this handle from now on, and so do the children that it hands out.
@@ -118,7 +132,7 @@ impl Task {
         requires { arc_value plan ≡ self.old.task.plan }
         ensures { self.new ≡ self.old }
     {
-        self.parts.body.family.set_plan(plan);
+        self.parts.state.family.set_plan(plan);
     }
 
     /// A copy of what the task was begun as. Its path shares its memory.
@@ -132,14 +146,14 @@ impl Task {
     pub fn is_fresh(&self) -> bool
         ensures { result ≡ not self.now.task.advanced }
     {
-        !self.parts.body.advanced
+        !self.parts.state.advanced
     }
 
     /// Whether the fault stands before all that the task could do: before an instance's path, or before the path of a loop's first iteration.
     pub fn may_cut(&self, by: &Fault) -> bool
         ensures { IsTrue result ↔ IsBefore by.now.at (start_of self.now.task.origin) }
     {
-        self.parts.body.family.stands_after(by)
+        self.parts.state.family.stands_after(by)
     }
 
     /// Answers without having run: a fault of the plan stands before all that the task could do.
@@ -159,6 +173,6 @@ impl Task {
     pub fn awaited(&self) -> &Items<Origin>
         ensures { result.now ≡ awaited self.now.task.trace.handed }
     {
-        self.parts.body.trace.awaited()
+        self.parts.state.trace.awaited()
     }
 }

@@ -31,7 +31,7 @@ pub(crate) struct Trace {
 impl Model for Trace {
     ghost use Rattle.std.specs.Prelude.{◌≡◌, length};
     ghost use Rattle.strand_meaning.specs.Trace.{Trace as TraceView};
-    ghost use Rattle.strand_machine.specs.Parts.{awaited_children};
+    ghost use Rattle.strand_machine.specs.AwaitedChildren.{awaited_children};
 
     ghost Value = { TraceView };
 
@@ -41,7 +41,7 @@ impl Model for Trace {
 }
 
 impl Trace {
-    ghost use Rattle.strand_machine.specs.Parts.{IsParted, awaited, destination_of};
+    ghost use Rattle.strand_machine.specs.AwaitedChildren.{IsParted, awaited, destination_of};
     ghost use Rattle.strand_machine.specs.Tasks.{ended_by};
 
     /// Nothing yet.
@@ -129,7 +129,7 @@ impl Trace {
     }
 
     /// Whether no answer is awaited.
-    pub fn is_alone(&self) -> bool
+    pub fn awaits_none(&self) -> bool
         ensures { IsTrue result ↔ (self.now.handed ≡ []) }
     {
         self.after.is_empty()

@@ -8,16 +8,16 @@ use Rattle.serial_meaning.specs.declared.event.Fault.{Fault}
 use Rattle.serial_meaning.specs.declared.answer.Outcome.{Outcome}
 use Rattle.serial_meaning.specs.declared.answer.Outcome.TheVariants as outcome
 use Rattle.strand_meaning.specs.Answers.{answer_evaluations}
-use Rattle.strand_meaning.specs.Trace.{AwaitedChild, Trace, heard_all}
+use Rattle.strand_meaning.specs.Trace.{AwaitedChild, Trace, merged_answers}
 use Rattle.strand_meaning.specs.Sound.{IsTask}
 use Rattle.strand_meaning.specs.Task.{Task}
 use Rattle.strand_meaning.specs.Rest.{GaveValues, evaluations}
 
 -- One child
 
--- what a task has heard once these children have answered by their evaluations
-abbrev pub heard_of : Task → List AwaitedChild → Trace
-heard_of t ps = heard_all ps (evaluations (eval t.plan) ps) (record t.trace { handed = [] })
+-- the trace of a task once these children's evaluations are merged into it
+abbrev pub merged_of : Task → List AwaitedChild → Trace
+merged_of t ps = merged_answers ps (evaluations (eval t.plan) ps) (record t.trace { handed = [] })
 
 -- A child's cut is one of its parent, where the children before it gave values.
 abbrev pub CutsPass : Type 0
@@ -25,12 +25,12 @@ CutsPass =
     (t : Task) (front : List AwaitedChild) (p : AwaitedChild) (later : List AwaitedChild) (by : Fault) → IsTask t → t.trace.fault ≡ None → t.trace.handed ≡ front ++ p ∷ later →
     GaveValues (eval t.plan) front → IsCut t.plan p.child by → IsCut t.plan t.origin by
 
--- A child's fault is its parent's, where the children before it gave values: what was heard up to it is the parent's evaluation,
+-- A child's fault is its parent's, where the children before it gave values: what was merged up to it is the parent's evaluation,
 -- whatever the later children gave.
 abbrev pub FaultsPass : Type 0
 FaultsPass =
     (t : Task) (front : List AwaitedChild) (p : AwaitedChild) (later : List AwaitedChild) (f : Fault) → IsTask t → t.trace.fault ≡ None → t.trace.handed ≡ front ++ p ∷ later →
-    GaveValues (eval t.plan) front → (eval t.plan p.child).ending ≡ Err f → IsEval t.plan t.origin (heard_of t (front ++ p ∷ [])).prefix (outcome.Fault f) × Contains (faults t.plan) f
+    GaveValues (eval t.plan) front → (eval t.plan p.child).ending ≡ Err f → IsEval t.plan t.origin (merged_of t (front ++ p ∷ [])).prefix (outcome.Fault f) × Contains (faults t.plan) f
 
 -- All children
 
@@ -64,9 +64,9 @@ IsByFaultOf plan (outcome.Values vs) = Unit {0}
 IsByFaultOf plan (outcome.Fault f) = Contains (faults plan) f
 IsByFaultOf plan (outcome.Cut f) = Contains (faults plan) f
 
--- Once a task has heard all its children's answers, the first fault or cut in the order of its trace is its own answer, with what it
--- heard up to there. Where that is a fault, the answers after it may be cuts.
+-- Once all its children's answers are merged, the first fault or cut in the order of a task's trace is its own answer, with what was
+-- merged up to there. Where that is a fault, the answers after it may be cuts.
 abbrev pub AnswersEnd : Type 0
 AnswersEnd =
     (t : Task) (answers : List AnswerView) (ended : Outcome) → IsTask t → AreAnswersOf t.plan t.trace.handed answers → ended_after (by_fault t.trace.fault) answers ≡ Some ended →
-    IsAnswer t.plan t.origin (heard_all t.trace.handed (answer_evaluations answers) (record t.trace { handed = [] })).prefix ended × IsByFaultOf t.plan ended
+    IsAnswer t.plan t.origin (merged_answers t.trace.handed (answer_evaluations answers) (record t.trace { handed = [] })).prefix ended × IsByFaultOf t.plan ended

@@ -6,21 +6,21 @@ use Rattle.script_grammar.specs.declared.tree.Name.{Name}
 use Rattle.serial_meaning.specs.Functions.{function_at}
 use Rattle.serial_meaning.specs.Plan.{PlanView, functions_of}
 use Rattle.strand_meaning.specs.Machine.{Destination, Spawned, Looped, Half, Machine}
-use Rattle.strand_meaning.specs.Task.{InstanceState, Running, AtSync, AtLoop, Ended, Work, Splits, Runs, Finished}
+use Rattle.strand_meaning.specs.Task.{Stage, Running, AtSync, AtLoop, Ended, Remaining, Splits, Runs, Finished}
 use Rattle.strand_meaning.specs.Trace.{AwaitedChild}
 
 -- the numbers of the functions of a machine's frames, the innermost first
 abbrev pub functions_in : Machine → List ℕ
 functions_in m = map (λ a. a.function) (m.top ∷ m.below)
 
-abbrev pub functions_at : InstanceState → List ℕ
+abbrev pub functions_at : Stage → List ℕ
 functions_at (Running m) = functions_in m
 functions_at (AtSync m) = functions_in m
 functions_at (AtLoop m) = functions_in m
 functions_at (Ended ended) = []
 
 -- of the frames that remain of a task
-abbrev pub functions_left : Work → List ℕ
+abbrev pub functions_left : Remaining → List ℕ
 functions_left (Splits left) = []
 functions_left (Runs stage) = functions_at stage
 functions_left (Finished v gone_on) = []

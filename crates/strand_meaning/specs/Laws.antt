@@ -73,22 +73,22 @@ changed_run change r = record { items = r.items; ending = on_reached change r.en
 -- variable.
 abbrev pub MovesLeaveUnfilledAlone : Type 0
 MovesLeaveUnfilledAlone =
-    (plan : PlanView) (path : List ℕ) (parts : List AwaitedChild) (m : Machine) (p : AwaitedChild) (owner : ℕ) (target : Option Name) (ended : Result (List Value) Fault) →
-    IsSoundStage plan parts (Running m) → Contains parts p → p.destination ≡ Spawned owner target →
+    (plan : PlanView) (path : List ℕ) (awaiting : List AwaitedChild) (m : Machine) (p : AwaitedChild) (owner : ℕ) (target : Option Name) (ended : Result (List Value) Fault) →
+    IsSoundStage plan awaiting (Running m) → Contains awaiting p → p.destination ≡ Spawned owner target →
     move plan path (changed owner (frame_with_answer target ended) m) ≡ changed_run (changed owner (frame_with_answer target ended)) (move plan path m)
 
 -- The unfilled variables of each frame of a task are in the set by which validity judges the statement at which it stands; at an implied sync,
 -- and at the `return` that brings one, in the set that validity has at the end of the statements before it.
 abbrev pub UnfilledIsPending : Type 0
-UnfilledIsPending = (t : Task) → IsTask t → UnfilledArePendingIn t.plan t.trace.handed t.work
+UnfilledIsPending = (t : Task) → IsTask t → UnfilledArePendingIn t.plan t.trace.handed t.remaining
 
 -- a task of the same plan and origin
-abbrev pub IsOf : Task → Task → Type 0
-IsOf t other = (other.plan ≡ t.plan) × (other.origin ≡ t.origin)
+abbrev pub IsSameTask : Task → Task → Type 0
+IsSameTask t other = (other.plan ≡ t.plan) × (other.origin ≡ t.origin)
 
 abbrev pub KeepsOrigin : Task → Stop → Type 0
-KeepsOrigin t (Spawn child rest) = IsOf t rest
-KeepsOrigin t (Wait rest) = IsOf t rest
+KeepsOrigin t (Spawn child rest) = IsSameTask t rest
+KeepsOrigin t (Wait rest) = IsSameTask t rest
 KeepsOrigin t (End out ended) = Unit {0}
 
 -- fewer stops are left after one
@@ -125,13 +125,13 @@ abbrev pub MovesFall : Type 0
 MovesFall = (t next : Task) → step t ≡ Passes next → moves_left next < moves_left t
 
 -- an instance leaves room for a rank of its own, and a loop for its iterations' too
-abbrev pub Fits : PlanView → Origin → Type 0
-Fits plan (Instance function args path) = length path + 1 ≤ plan.limits.depth
-Fits plan (Loop function rest first path range) = length path + 2 ≤ plan.limits.depth
+abbrev pub FitsDepth : PlanView → Origin → Type 0
+FitsDepth plan (Instance function args path) = length path + 1 ≤ plan.limits.depth
+FitsDepth plan (Loop function rest first path range) = length path + 2 ≤ plan.limits.depth
 
 -- An origin of the plan is within its depth.
 abbrev pub OriginsFit : Type 0
-OriginsFit = (plan : PlanView) (o : Origin) → 1 ≤ plan.limits.depth → IsOriginOf plan o → Fits plan o
+OriginsFit = (plan : PlanView) (o : Origin) → 1 ≤ plan.limits.depth → IsOriginOf plan o → FitsDepth plan o
 
 -- Of a task that wasn't advanced nothing is to be observed.
 abbrev pub ObservationBegins : Type 0

@@ -9,7 +9,7 @@ use Rattle.serial_meaning.specs.declared.event.Event.TheVariants as event
 use Rattle.serial_meaning.specs.declared.origin.Origin.{Origin}
 use Rattle.strand_meaning.specs.Machine.{Frame, Machine}
 use Rattle.strand_meaning.specs.Trace.{AwaitedChild}
-use Rattle.strand_meaning.specs.Task.{InstanceState, Running, AtSync, AtLoop, Ended, Work, Splits, Runs, Finished, Task, begins_last, own_instance}
+use Rattle.strand_meaning.specs.Task.{Stage, Running, AtSync, AtLoop, Ended, Remaining, Splits, Runs, Finished, Task, begins_last, own_instance}
 use Rattle.strand_meaning.specs.Rest.{children_of, rest_open}
 
 abbrev pub event_stops : Event → ℕ
@@ -34,31 +34,31 @@ at_wait false = 1
 
 -- an end, or a wait before it
 abbrev pub at_end : Bool → List AwaitedChild → ℕ
-at_end true parts = 1
+at_end true awaiting = 1
 at_end false [] = 1
 at_end false (p ∷ ps) = 2
 
-module _ (plan : PlanView) (child : Origin → Evaluation) (path : List ℕ) (waiting : Bool) (parts : List AwaitedChild) where
-  abbrev pub stage_stops : InstanceState → ℕ
-  stage_stops (Running m) = 3 + item_stops (rest_open plan child path parts (Running m)).items
-  stage_stops (AtSync m) = at_wait waiting + (3 + item_stops (rest_open plan child path parts (AtSync m)).items)
-  stage_stops (AtLoop m) = at_wait waiting + (3 + item_stops (rest_open plan child path parts (AtLoop m)).items)
-  stage_stops (Ended e) = at_end waiting parts
+module _ (plan : PlanView) (child : Origin → Evaluation) (path : List ℕ) (waiting : Bool) (awaiting : List AwaitedChild) where
+  abbrev pub stage_stops : Stage → ℕ
+  stage_stops (Running m) = 3 + item_stops (rest_open plan child path awaiting (Running m)).items
+  stage_stops (AtSync m) = at_wait waiting + (3 + item_stops (rest_open plan child path awaiting (AtSync m)).items)
+  stage_stops (AtLoop m) = at_wait waiting + (3 + item_stops (rest_open plan child path awaiting (AtLoop m)).items)
+  stage_stops (Ended e) = at_end waiting awaiting
 
 -- what a loop's last iteration will come to
-abbrev pub work_stops : PlanView → Origin → Bool → List AwaitedChild → Work → ℕ
-work_stops plan o waiting parts (Splits left) = 1
-work_stops plan o waiting parts (Runs stage) = 2 + stage_stops plan (children_of plan (own_instance o)) (path_of (own_instance o)) waiting parts stage
-work_stops plan o waiting parts (Finished v false) = at_wait waiting + 1
-work_stops plan o waiting parts (Finished v true) = 1
+abbrev pub remaining_stops : PlanView → Origin → Bool → List AwaitedChild → Remaining → ℕ
+remaining_stops plan o waiting awaiting (Splits left) = 1
+remaining_stops plan o waiting awaiting (Runs stage) = 2 + stage_stops plan (children_of plan (own_instance o)) (path_of (own_instance o)) waiting awaiting stage
+remaining_stops plan o waiting awaiting (Finished v false) = at_wait waiting + 1
+remaining_stops plan o waiting awaiting (Finished v true) = 1
 
-abbrev pub stops_of : PlanView → Origin → Bool → List AwaitedChild → Work → ℕ
-stops_of plan o waiting parts (Splits left) = (left.hi - left.lo) + work_stops plan o false [] (begins_last plan o)
-stops_of plan o waiting parts (Runs stage) = work_stops plan o waiting parts (Runs stage)
-stops_of plan o waiting parts (Finished v gone_on) = work_stops plan o waiting parts (Finished v gone_on)
+abbrev pub stops_of : PlanView → Origin → Bool → List AwaitedChild → Remaining → ℕ
+stops_of plan o waiting awaiting (Splits left) = (left.hi - left.lo) + remaining_stops plan o false [] (begins_last plan o)
+stops_of plan o waiting awaiting (Runs stage) = remaining_stops plan o waiting awaiting (Runs stage)
+stops_of plan o waiting awaiting (Finished v gone_on) = remaining_stops plan o waiting awaiting (Finished v gone_on)
 
 abbrev pub stops_left : Task → ℕ
-stops_left t = stops_of t.plan t.origin t.waiting t.trace.handed t.work
+stops_left t = stops_of t.plan t.origin t.waiting t.trace.handed t.remaining
 
 -- Moves
 
@@ -75,16 +75,16 @@ all_ways_out (a ∷ below) = ways_out a + 1 + all_ways_out below
 abbrev pub moves_of : Machine → ℕ
 moves_of m = 3 * m.steps + ways_out m.top + all_ways_out m.below
 
-abbrev pub stage_moves : InstanceState → ℕ
+abbrev pub stage_moves : Stage → ℕ
 stage_moves (Running m) = 2 + moves_of m
 stage_moves (AtSync m) = 0
 stage_moves (AtLoop m) = 0
 stage_moves (Ended e) = 1
 
-abbrev pub work_moves : PlanView → Work → ℕ
-work_moves plan (Splits left) = 3 + 3 * plan.limits.budget
-work_moves plan (Runs stage) = stage_moves stage
-work_moves plan (Finished v gone_on) = 0
+abbrev pub remaining_moves : PlanView → Remaining → ℕ
+remaining_moves plan (Splits left) = 3 + 3 * plan.limits.budget
+remaining_moves plan (Runs stage) = stage_moves stage
+remaining_moves plan (Finished v gone_on) = 0
 
 abbrev pub moves_left : Task → ℕ
-moves_left t = work_moves t.plan t.work
+moves_left t = remaining_moves t.plan t.remaining

@@ -14,7 +14,7 @@ use Rattle.script_grammar.specs.declared.tree.Act.TheOpen.{Act-F}
 use Rattle.script_check.specs.Spawns.{spawns_in}
 use Rattle.serial_meaning.specs.Runs.{Run, done, run_ends_by, happens}
 use Rattle.serial_meaning.specs.Values.{Env, value_of}
-use Rattle.serial_meaning.specs.Functions.{number_of, function_at}
+use Rattle.serial_meaning.specs.Functions.{function_number, function_at}
 use Rattle.serial_meaning.specs.Plan.{PlanView, functions_of}
 use Rattle.serial_meaning.specs.Exec.{State, Manner, BlockMeaning, with_slot, bound, unless_fault, paid, implied, sync_at, goes_out, statement}
 use Rattle.serial_meaning.specs.Open.{filler, is_empty_loop}
@@ -76,19 +76,19 @@ handing plan destination = record {
 abbrev pub inside : BlockMeaning Effect Exit Bool
 inside here calls sts s = run_ends_by (Inside here calls sts s)
 
-abbrev pub destination_of : ℕ → Act-F Act Stmt → Destination
-destination_of height (act.Let x r) = Spawned height (Some x)
-destination_of height (act.Array x n) = Spawned height None
-destination_of height (act.Set x r) = Spawned height (Some x)
-destination_of height (act.Store x i e) = Spawned height None
-destination_of height (act.Spawn c) = Spawned height None
-destination_of height (act.Call c) = Spawned height None
-destination_of height act.Sync = Spawned height None
-destination_of height (act.Print e) = Spawned height None
-destination_of height (act.If e a b) = Spawned height None
-destination_of height (act.While e a) = Spawned height None
-destination_of height (act.Pfor x lo hi target c) = Looped target
-destination_of height (act.Scope a) = Spawned height None
+abbrev pub child_destination : ℕ → Act-F Act Stmt → Destination
+child_destination height (act.Let x r) = Spawned height (Some x)
+child_destination height (act.Array x n) = Spawned height None
+child_destination height (act.Set x r) = Spawned height (Some x)
+child_destination height (act.Store x i e) = Spawned height None
+child_destination height (act.Spawn c) = Spawned height None
+child_destination height (act.Call c) = Spawned height None
+child_destination height act.Sync = Spawned height None
+child_destination height (act.Print e) = Spawned height None
+child_destination height (act.If e a b) = Spawned height None
+child_destination height (act.While e a) = Spawned height None
+child_destination height (act.Pfor x lo hi target c) = Looped target
+child_destination height (act.Scope a) = Spawned height None
 
 -- The stack
 
@@ -172,9 +172,9 @@ with_scalar None v env = env
 with_scalar (Some x) v env = with_slot env x.bytes (Scalar v)
 
 -- the value of a frame that ended goes to the one below it, which goes on
-abbrev pub back : List Frame → Option Name → Value → ℕ → ℕ → Reached
-back [] target v rank steps = Gives v
-back (caller ∷ below) target v rank steps = Stands (record { rank = rank; steps = steps; top = record caller { env = with_scalar target v caller.env }; below = below })
+abbrev pub back_in_caller : List Frame → Option Name → Value → ℕ → ℕ → Reached
+back_in_caller [] target v rank steps = Gives v
+back_in_caller (caller ∷ below) target v rank steps = Stands (record { rank = rank; steps = steps; top = record caller { env = with_scalar target v caller.env }; below = below })
 
 module _ (plan : PlanView) where
   -- a new frame over the one that calls
@@ -182,7 +182,7 @@ module _ (plan : PlanView) where
   calling target c left m body s = record {
     rank = s.rank;
     steps = s.steps;
-    top = record { function = number_of (functions_of plan) c.name.bytes; left = body; levels = []; leaving = false; returning = false; env = s.env; spawned = s.spawned; faulted = None; target = target };
+    top = record { function = function_number (functions_of plan) c.name.bytes; left = body; levels = []; leaving = false; returning = false; env = s.env; spawned = s.spawned; faulted = None; target = target };
     below = record m.top { left = left } ∷ m.below;
   }
 
@@ -201,13 +201,13 @@ module _ (plan : PlanView) where
   reached on into (Err (Inside here calls inner s)) = Ok (Stands (into inner s))
 
   abbrev pub gives : Machine → Result (Value × State Bool) Exit → Result Reached Fault
-  gives m (Ok r) = Ok (back m.below m.top.target r.0 r.1.rank r.1.steps)
+  gives m (Ok r) = Ok (back_in_caller m.below m.top.target r.0 r.1.rank r.1.steps)
   gives m (Err (Faulted f)) = Err f
   gives m (Err (Inside here calls inner s)) = Ok (Stands m)
 
   module _ (path : List ℕ) where
     abbrev pub act_run : Machine → Stmt → Act-F Act Stmt → Run Effect Exit (State Bool)
-    act_run m st a = statement (handing plan (destination_of (length m.below) a)) plan (here_of path m) inside (length m.below) st (state_of m)
+    act_run m st a = statement (handing plan (child_destination (length m.below) a)) plan (here_of path m) inside (length m.below) st (state_of m)
 
     -- the step of a return and the sync that it implies
     abbrev pub return_run : Machine → Run Effect Exit (State Bool)
@@ -254,8 +254,8 @@ module _ (plan : PlanView) where
     move m = move_at m m.top.left
 
 -- an instance before its first move, and the value of one whose function there isn't
-abbrev pub begun : PlanView → ℕ → List Value → Reached
-begun plan function args = from (function_at (functions_of plan) function)
+abbrev pub function_begun : PlanView → ℕ → List Value → Reached
+function_begun plan function args = from (function_at (functions_of plan) function)
   where
     from : Option Function → Reached
     from (Some f) = Stands (record {

@@ -3,13 +3,13 @@ use Rattle.std.specs.Prelude.{◌≡◌, ℕ, List, [], ◌∷◌, ◌++◌, Opt
 use Rattle.serial_meaning.specs.Runs.{done, after_items, ◌then◌}
 use Rattle.serial_meaning.specs.Plan.{PlanView}
 use Rattle.serial_meaning.specs.Eval.{path_of}
-use Rattle.serial_meaning.specs.Open.{Item, Happened, Child, Opened, Closed, NodeFault, Own, ChildFaulted, Node, opened, led_to, without_last}
+use Rattle.serial_meaning.specs.Open.{Item, Happened, Child, Opened, Closed, NodeFault, Own, ChildFaulted, Node, node_of, led_to, without_last}
 use Rattle.serial_meaning.specs.declared.event.Fault.{Fault}
 use Rattle.serial_meaning.specs.declared.origin.Origin.{Origin}
 use Rattle.serial_meaning.specs.declared.origin.Origin.TheVariants.{Instance, Loop}
 use Rattle.strand_meaning.specs.Machine.{Effect, Opens, Closes, Emitted, Handed, Syncs, Loops, Reached, move}
 use Rattle.strand_meaning.specs.Trace.{AwaitedChild}
-use Rattle.strand_meaning.specs.Task.{InstanceState, Running, AtSync, AtLoop, Ended, Work, Splits, Runs, Finished, Task, own_instance, Passes, Stops, Stop, Spawn, Wait, End, step}
+use Rattle.strand_meaning.specs.Task.{Stage, Running, AtSync, AtLoop, Ended, Remaining, Splits, Runs, Finished, Task, own_instance, Passes, Stops, Stop, Spawn, Wait, End, step}
 use Rattle.strand_meaning.specs.Rest.{children_of, rest_open}
 use Rattle.strand_meaning.specs.Strands.{fault_of_child}
 
@@ -21,13 +21,13 @@ IsInstance (Instance function args path) = Unit {0}
 IsInstance (Loop function rest first path range) = ⊥
 
 -- What is left of the node of an instance's task: the open tree of what remains, with the children's evaluations as their answers.
-abbrev pub work_left : PlanView → Origin → List AwaitedChild → Work → Node
-work_left plan o parts (Splits left) = done []
-work_left plan o parts (Runs stage) = rest_open plan (children_of plan o) (path_of o) parts stage then λ v. done (v ∷ [])
-work_left plan o parts (Finished v gone_on) = done []
+abbrev pub remaining_node : PlanView → Origin → List AwaitedChild → Remaining → Node
+remaining_node plan o awaiting (Splits left) = done []
+remaining_node plan o awaiting (Runs stage) = rest_open plan (children_of plan o) (path_of o) awaiting stage then λ v. done (v ∷ [])
+remaining_node plan o awaiting (Finished v gone_on) = done []
 
 abbrev pub node_left : Task → Node
-node_left t = work_left t.plan t.origin t.trace.handed t.work
+node_left t = remaining_node t.plan t.origin t.trace.handed t.remaining
 
 -- Observations
 
@@ -63,7 +63,7 @@ move_fault (Ok reached) = None
 move_fault (Err f) = Some f
 
 -- what one move or stop shows: a move its effects and the instance's own fault, and an end the fault of a child
-abbrev pub stage_observation : PlanView → List ℕ → InstanceState → Observation
+abbrev pub stage_observation : PlanView → List ℕ → Stage → Observation
 stage_observation plan path (Running m) = let r = move plan path m in record { items = effect_items r.items; fault = move_fault r.ending; child_fault = None }
 stage_observation plan path (AtSync m) = no_observation
 stage_observation plan path (AtLoop m) = no_observation
@@ -71,13 +71,13 @@ stage_observation plan path (Ended (Ok v)) = no_observation
 stage_observation plan path (Ended (Err (Own f))) = no_observation
 stage_observation plan path (Ended (Err (ChildFaulted f))) = record { items = []; fault = None; child_fault = Some f }
 
-abbrev pub work_observation : PlanView → List ℕ → Work → Observation
-work_observation plan path (Splits left) = no_observation
-work_observation plan path (Runs stage) = stage_observation plan path stage
-work_observation plan path (Finished v gone_on) = no_observation
+abbrev pub remaining_observation : PlanView → List ℕ → Remaining → Observation
+remaining_observation plan path (Splits left) = no_observation
+remaining_observation plan path (Runs stage) = stage_observation plan path stage
+remaining_observation plan path (Finished v gone_on) = no_observation
 
 abbrev pub step_observation : Task → Observation
-step_observation t = work_observation t.plan (path_of (own_instance t.origin)) t.work
+step_observation t = remaining_observation t.plan (path_of (own_instance t.origin)) t.remaining
 
 -- the stop that a task comes to, at once or after moves, with what is observed on the way
 pub data Shows : Task → Observation → Stop → Type 0 where
@@ -103,28 +103,28 @@ own_fault_of (Ok a) = None
 own_fault_of (Err (Own f)) = Some f
 own_fault_of (Err (ChildFaulted f)) = None
 
-abbrev pub stage_fault : InstanceState → Option Fault
+abbrev pub stage_fault : Stage → Option Fault
 stage_fault (Running m) = None
 stage_fault (AtSync m) = None
 stage_fault (AtLoop m) = None
 stage_fault (Ended e) = own_fault_of e
 
-abbrev pub work_fault : Work → Option Fault
-work_fault (Splits left) = None
-work_fault (Runs stage) = stage_fault stage
-work_fault (Finished v gone_on) = None
+abbrev pub remaining_fault : Remaining → Option Fault
+remaining_fault (Splits left) = None
+remaining_fault (Runs stage) = stage_fault stage
+remaining_fault (Finished v gone_on) = None
 
 -- All that a task of an instance showed since it began is observed: its node is that, and then the node of what is left.
 pub record IsOnWay (observation : Observation) (t : Task) : Type 0 where
-  pub node : opened t.plan t.origin ≡ after_items observation.items (node_left t)
-  pub fault : observation.fault ≡ work_fault t.work
+  pub node : node_of t.plan t.origin ≡ after_items observation.items (node_left t)
+  pub fault : observation.fault ≡ remaining_fault t.remaining
   pub child_fault : observation.child_fault ≡ None
 
 -- All that an instance showed is observed: its node has these items and ends by these faults.
 pub record IsAllObserved (plan : PlanView) (o : Origin) (observation : Observation) : Type 0 where
-  pub items : (opened plan o).items ≡ observation.items
-  pub fault : own_fault_of (opened plan o).ending ≡ observation.fault
-  pub child_fault : fault_of_child (opened plan o).ending ≡ observation.child_fault
+  pub items : (node_of plan o).items ≡ observation.items
+  pub fault : own_fault_of (node_of plan o).ending ≡ observation.fault
+  pub child_fault : fault_of_child (node_of plan o).ending ≡ observation.child_fault
 
 abbrev pub OnWay : Observation → Task → Stop → Type 0
 OnWay observation t (Spawn child rest) = IsOnWay observation rest

@@ -20,7 +20,7 @@ use Rattle.loop_range.specs.Range.{Range}
 use Rattle.script_check.specs.Spawns.{spawns_in}
 use Rattle.strand_meaning.specs.Machine.{Level, Frame, Machine, inside_of, present, with_scalar}
 use Rattle.strand_meaning.specs.Trace.{AwaitedChild, Trace}
-use Rattle.strand_meaning.specs.Task.{InstanceState, Running, AtSync, AtLoop, Ended, Work, Splits, Runs, Finished, Task, own_instance, takes_all, resumed, more_values}
+use Rattle.strand_meaning.specs.Task.{Stage, Running, AtSync, AtLoop, Ended, Remaining, Splits, Runs, Finished, Task, own_instance, takes_all, resumed, more_values}
 
 -- what an origin's children give: their evaluations
 abbrev pub children_of : PlanView → Origin → Origin → Evaluation
@@ -91,14 +91,14 @@ module _ (plan : PlanView) (child : Origin → Evaluation) (path : List ℕ) whe
   abbrev pub rest_of_machine : Machine → Run Item NodeFault Value
   rest_of_machine m = remains m.top m.below (open_state m) then remains_below m.below m.top.target
 
-  abbrev pub rest_of_stage : InstanceState → Run Item NodeFault Value
+  abbrev pub rest_of_stage : Stage → Run Item NodeFault Value
   rest_of_stage (Running m) = rest_of_machine m
   rest_of_stage (AtSync m) = rest_of_machine m
   rest_of_stage (AtLoop m) = rest_of_machine m
   rest_of_stage (Ended ended) = record { items = []; ending = ended }
 
-  abbrev pub rest_open : List AwaitedChild → InstanceState → Run Item NodeFault Value
-  rest_open parts stage = rest_of_stage (resumed (takes_all parts (evaluations child parts) stage))
+  abbrev pub rest_open : List AwaitedChild → Stage → Run Item NodeFault Value
+  rest_open awaiting stage = rest_of_stage (resumed (takes_all awaiting (evaluations child awaiting) stage))
 
 -- An open run with each child's evaluation in its place, up to the first fault
 
@@ -129,9 +129,9 @@ prefix_run trace = record { items = trace.prefix; ending = prefix_end trace.faul
 
 module _ (child : Origin → Evaluation) where
   -- the children's evaluations and the events after them, with the values of a loop's parts after those that were taken
-  abbrev pub parts_run : List AwaitedChild → List Value → Run Event Fault (List Value)
-  parts_run [] values = done values
-  parts_run (p ∷ ps) values = child p.child then λ vs. after_items p.after (parts_run ps (more_values p.destination (Ok vs) values))
+  abbrev pub awaited_run : List AwaitedChild → List Value → Run Event Fault (List Value)
+  awaited_run [] values = done values
+  awaited_run (p ∷ ps) values = child p.child then λ vs. after_items p.after (awaited_run ps (more_values p.destination (Ok vs) values))
 
   -- the iterations of a loop that nobody has begun
   abbrev pub iterations_left : Origin → Range → Evaluation
@@ -144,13 +144,13 @@ all_with (Instance function args path) values v = v ∷ []
 all_with (Loop function rest first path range) values v = values ++ v ∷ []
 
 -- what remains
-abbrev pub work_run : PlanView → Origin → List AwaitedChild → Work → List Value → Evaluation
-work_run plan o parts (Splits left) values = iterations_left (eval plan) o left then λ vs. done (values ++ vs)
-work_run plan o parts (Runs stage) values =
+abbrev pub remaining_run : PlanView → Origin → List AwaitedChild → Remaining → List Value → Evaluation
+remaining_run plan o awaiting (Splits left) values = iterations_left (eval plan) o left then λ vs. done (values ++ vs)
+remaining_run plan o awaiting (Runs stage) values =
     let child = children_of plan (own_instance o) in
-    closed_run child (rest_open plan child (path_of (own_instance o)) parts stage) then λ v. done (all_with o values v)
-work_run plan o parts (Finished v gone_on) values = done (values ++ v ∷ [])
+    closed_run child (rest_open plan child (path_of (own_instance o)) awaiting stage) then λ v. done (all_with o values v)
+remaining_run plan o awaiting (Finished v gone_on) values = done (values ++ v ∷ [])
 
 -- A trace with each child's evaluation in its place, and then what remains, up to the first fault.
 abbrev pub finish : Task → Evaluation
-finish t = prefix_run t.trace then λ u. parts_run (eval t.plan) t.trace.handed t.values then work_run t.plan t.origin t.trace.handed t.work
+finish t = prefix_run t.trace then λ u. awaited_run (eval t.plan) t.trace.handed t.values then remaining_run t.plan t.origin t.trace.handed t.remaining

@@ -7,7 +7,7 @@ use Rattle.serial_meaning.specs.Names.{Names}
 use Rattle.serial_meaning.specs.Functions.{function_at, any_spawns}
 use Rattle.serial_meaning.specs.Plan.{PlanView, functions_of}
 use Rattle.serial_meaning.specs.Eval.{path_of, eval}
-use Rattle.serial_meaning.specs.Open.{Item, Own, ChildFaulted, opened}
+use Rattle.serial_meaning.specs.Open.{Item, Own, ChildFaulted, node_of}
 use Rattle.serial_meaning.specs.Laws.{IsOriginOf, raising_pedigrees}
 use Rattle.serial_meaning.specs.declared.event.Event.{Event}
 use Rattle.serial_meaning.specs.declared.event.Fault.{Fault}
@@ -19,7 +19,7 @@ use Rattle.strand_meaning.specs.Machine.{Destination, Spawned, Looped, Half, Lev
 use Rattle.strand_meaning.specs.Trace.{AwaitedChild}
 use Rattle.strand_meaning.specs.Found.{FindsTargets, IsFoundPlan, functions_left}
 use Rattle.strand_meaning.specs.Pending.{ArePending, ArePendingStill, IsCall, IsSync, IsPfor}
-use Rattle.strand_meaning.specs.Task.{InstanceState, Running, AtSync, AtLoop, Ended, Work, Splits, Runs, Finished, Task, own_instance}
+use Rattle.strand_meaning.specs.Task.{Stage, Running, AtSync, AtLoop, Ended, Remaining, Splits, Runs, Finished, Task, own_instance}
 use Rattle.strand_meaning.specs.Rest.{GaveValues, children_of, rest_open, finish}
 
 -- Unfilled variables
@@ -54,10 +54,10 @@ AreSoundLevels in_text (l ∷ ls) = ((ends : Names) × IsClear [] l.left ends) �
 
 -- The statements left touch no unfilled variable. A spawn since its own last sync, and a fault among the answers of these children, are
 -- known of a frame. A sync comes before its value where it spawned.
-pub record IsSound (plan : PlanView) (parts : List AwaitedChild) (height : ℕ) (a : Frame) : Type 0 where
-  pub clear : (ends : Names) × IsClear (unfilled height parts) a.left ends
+pub record IsSound (plan : PlanView) (awaiting : List AwaitedChild) (height : ℕ) (a : Frame) : Type 0 where
+  pub clear : (ends : Names) × IsClear (unfilled height awaiting) a.left ends
   pub levels : AreSoundLevels (spawns_in (function_at (functions_of plan) a.function) ≡ true) a.levels
-  pub spawned : any_by height parts ≡ true → a.spawned ≡ true
+  pub spawned : any_by height awaiting ≡ true → a.spawned ≡ true
   pub faulted : a.spawned ≡ false → a.faulted ≡ None
   pub in_text : a.spawned ≡ true → spawns_in (function_at (functions_of plan) a.function) ≡ true
   pub left_in_text : any_spawns a.left ≡ true → spawns_in (function_at (functions_of plan) a.function) ≡ true
@@ -66,9 +66,9 @@ pub record IsSound (plan : PlanView) (parts : List AwaitedChild) (height : ℕ) 
 
 -- the frames below the one whose value goes there
 abbrev pub AreSound : PlanView → List AwaitedChild → Option Name → List Frame → Type 0
-AreSound plan parts target [] = Unit {0}
-AreSound plan parts target (caller ∷ below) =
-    IsApart (target_names target) (unfilled (length below) parts) × IsSound plan parts (length below) caller × AreSound plan parts caller.target below
+AreSound plan awaiting target [] = Unit {0}
+AreSound plan awaiting target (caller ∷ below) =
+    IsApart (target_names target) (unfilled (length below) awaiting) × IsSound plan awaiting (length below) caller × AreSound plan awaiting caller.target below
 
 -- Stages
 
@@ -95,25 +95,25 @@ AreHalves (p ∷ ps) = IsHalf p.destination × AreHalves ps
 abbrev pub after_sync : Frame → Frame
 after_sync a = record a { faulted = None }
 
-abbrev pub IsSoundStage : PlanView → List AwaitedChild → InstanceState → Type 0
-IsSoundStage plan parts (Running m) = AreDestinations (length m.below) parts × IsSound plan parts (length m.below) m.top × AreSound plan parts m.top.target m.below
-IsSoundStage plan parts (AtSync m) = AreDestinations (length m.below) parts × IsSound plan [] (length m.below) (after_sync m.top) × AreSound plan parts m.top.target m.below
-IsSoundStage plan parts (AtLoop m) = IsSound plan parts (length m.below) m.top × AreSound plan parts m.top.target m.below
-IsSoundStage plan parts (Ended (Ok v)) = AreHalves parts
-IsSoundStage plan parts (Ended (Err (Own f))) = (height : ℕ) × AreDestinations height parts
-IsSoundStage plan parts (Ended (Err (ChildFaulted f))) = parts ≡ []
+abbrev pub IsSoundStage : PlanView → List AwaitedChild → Stage → Type 0
+IsSoundStage plan awaiting (Running m) = AreDestinations (length m.below) awaiting × IsSound plan awaiting (length m.below) m.top × AreSound plan awaiting m.top.target m.below
+IsSoundStage plan awaiting (AtSync m) = AreDestinations (length m.below) awaiting × IsSound plan [] (length m.below) (after_sync m.top) × AreSound plan awaiting m.top.target m.below
+IsSoundStage plan awaiting (AtLoop m) = IsSound plan awaiting (length m.below) m.top × AreSound plan awaiting m.top.target m.below
+IsSoundStage plan awaiting (Ended (Ok v)) = AreHalves awaiting
+IsSoundStage plan awaiting (Ended (Err (Own f))) = (height : ℕ) × AreDestinations height awaiting
+IsSoundStage plan awaiting (Ended (Err (ChildFaulted f))) = awaiting ≡ []
 
 -- What an instance passed in the open tree, and what remains of it.
-pub record IsSoFar (plan : PlanView) (o : Origin) (parts : List AwaitedChild) (stage : InstanceState) : Type 0 where
+pub record IsSoFar (plan : PlanView) (o : Origin) (awaiting : List AwaitedChild) (stage : Stage) : Type 0 where
   pub front : List Item
-  pub whole : opened plan o ≡ after_items front (rest_open plan (children_of plan o) (path_of o) parts stage then λ v. done (v ∷ []))
+  pub whole : node_of plan o ≡ after_items front (rest_open plan (children_of plan o) (path_of o) awaiting stage then λ v. done (v ∷ []))
 
 -- Pending variables
 
 -- A frame that called stands at the call.
 abbrev pub ArePendingBelow : PlanView → List AwaitedChild → List Frame → Type 0
-ArePendingBelow plan parts [] = Unit {0}
-ArePendingBelow plan parts (caller ∷ below) = ArePendingStill plan (unfilled (length below) parts) caller IsCall × ArePendingBelow plan parts below
+ArePendingBelow plan awaiting [] = Unit {0}
+ArePendingBelow plan awaiting (caller ∷ below) = ArePendingStill plan (unfilled (length below) awaiting) caller IsCall × ArePendingBelow plan awaiting below
 
 -- One that waits at a sync stands at that statement; at the sync that the end of a scope or a return implies, at the end of the statements before it.
 abbrev pub ArePendingAtSync : PlanView → Names → Frame → Bool → Type 0
@@ -121,17 +121,17 @@ ArePendingAtSync plan names a true = (a.left ≡ []) × ArePending plan names a 
 ArePendingAtSync plan names a false = ArePendingStill plan names a IsSync
 
 -- The unfilled variables of each frame are in the set that validity has where it stands.
-abbrev pub UnfilledArePending : PlanView → List AwaitedChild → InstanceState → Type 0
-UnfilledArePending plan parts (Running m) = ArePending plan (unfilled (length m.below) parts) m.top m.top.left × ArePendingBelow plan parts m.below
-UnfilledArePending plan parts (AtSync m) =
-    ArePendingAtSync plan (unfilled (length m.below) parts) m.top (m.top.leaving || m.top.returning) × ArePendingBelow plan parts m.below
-UnfilledArePending plan parts (AtLoop m) = ArePendingStill plan (unfilled (length m.below) parts) m.top IsPfor × ArePendingBelow plan parts m.below
-UnfilledArePending plan parts (Ended ended) = Unit {0}
+abbrev pub UnfilledArePending : PlanView → List AwaitedChild → Stage → Type 0
+UnfilledArePending plan awaiting (Running m) = ArePending plan (unfilled (length m.below) awaiting) m.top m.top.left × ArePendingBelow plan awaiting m.below
+UnfilledArePending plan awaiting (AtSync m) =
+    ArePendingAtSync plan (unfilled (length m.below) awaiting) m.top (m.top.leaving || m.top.returning) × ArePendingBelow plan awaiting m.below
+UnfilledArePending plan awaiting (AtLoop m) = ArePendingStill plan (unfilled (length m.below) awaiting) m.top IsPfor × ArePendingBelow plan awaiting m.below
+UnfilledArePending plan awaiting (Ended ended) = Unit {0}
 
-abbrev pub UnfilledArePendingIn : PlanView → List AwaitedChild → Work → Type 0
-UnfilledArePendingIn plan parts (Splits left) = Unit {0}
-UnfilledArePendingIn plan parts (Runs stage) = UnfilledArePending plan parts stage
-UnfilledArePendingIn plan parts (Finished v gone_on) = Unit {0}
+abbrev pub UnfilledArePendingIn : PlanView → List AwaitedChild → Remaining → Type 0
+UnfilledArePendingIn plan awaiting (Splits left) = Unit {0}
+UnfilledArePendingIn plan awaiting (Runs stage) = UnfilledArePending plan awaiting stage
+UnfilledArePendingIn plan awaiting (Finished v gone_on) = Unit {0}
 
 -- Work
 
@@ -156,24 +156,24 @@ FitsOrigin o (Looped target) = Unit {0}
 FitsOrigin o Half = IsLongLoop o
 
 -- A child is an origin of the plan. Where it is one of the instance under way, what the open tree takes of it is its evaluation.
-pub record IsPart (plan : PlanView) (o : Origin) (p : AwaitedChild) : Type 0 where
+pub record IsSoundChild (plan : PlanView) (o : Origin) (p : AwaitedChild) : Type 0 where
   pub known : IsOriginOf plan p.child
   pub fits : FitsOrigin o p.destination
   pub same : IsHalf p.destination ⊎ (children_of plan (own_instance o) p.child ≡ eval plan p.child)
 
-abbrev pub AreParts : PlanView → Origin → List AwaitedChild → Type 0
-AreParts plan o [] = Unit {0}
-AreParts plan o (p ∷ ps) = IsPart plan o p × AreParts plan o ps
+abbrev pub AreSoundChildren : PlanView → Origin → List AwaitedChild → Type 0
+AreSoundChildren plan o [] = Unit {0}
+AreSoundChildren plan o (p ∷ ps) = IsSoundChild plan o p × AreSoundChildren plan o ps
 
 abbrev pub IsInstanceOrLoop : Origin → Type 0
 IsInstanceOrLoop (Instance function args path) = Unit {0}
 IsInstanceOrLoop (Loop function rest first path range) = range.lo < range.hi
 
-abbrev pub IsSoundWork : PlanView → Origin → List AwaitedChild → Work → Type 0
-IsSoundWork plan o parts (Splits left) = IsEndOf o left × AreHalves parts
-IsSoundWork plan o parts (Runs stage) = IsInstanceOrLoop o × IsSoFar plan (own_instance o) parts stage × IsSoundStage plan parts stage
-IsSoundWork plan o parts (Finished v true) = IsLoop o × (parts ≡ [])
-IsSoundWork plan o parts (Finished v false) = IsLoop o × AreHalves parts
+abbrev pub IsSoundRemaining : PlanView → Origin → List AwaitedChild → Remaining → Type 0
+IsSoundRemaining plan o awaiting (Splits left) = IsEndOf o left × AreHalves awaiting
+IsSoundRemaining plan o awaiting (Runs stage) = IsInstanceOrLoop o × IsSoFar plan (own_instance o) awaiting stage × IsSoundStage plan awaiting stage
+IsSoundRemaining plan o awaiting (Finished v true) = IsLoop o × (awaiting ≡ [])
+IsSoundRemaining plan o awaiting (Finished v false) = IsLoop o × AreHalves awaiting
 
 -- Children as they were handed out
 
@@ -215,8 +215,8 @@ pub record IsTask (t : Task) : Type 0 where
   pub finishes : finish t ≡ eval t.plan t.origin
   pub known : IsOriginOf t.plan t.origin
   pub clear : IsClearPlan t.plan
-  pub parts : AreParts t.plan t.origin t.trace.handed
+  pub awaiting : AreSoundChildren t.plan t.origin t.trace.handed
   pub shown : t.trace.fault ≡ None → AreShownBy t.plan t.origin [] t.trace.prefix t.trace.handed
-  pub work : IsSoundWork t.plan t.origin t.trace.handed t.work
-  pub pending : UnfilledArePendingIn t.plan t.trace.handed t.work
-  pub found : IsFoundPlan t.plan → FindsTargets t.plan (functions_left t.work) t.trace.handed
+  pub remaining : IsSoundRemaining t.plan t.origin t.trace.handed t.remaining
+  pub pending : UnfilledArePendingIn t.plan t.trace.handed t.remaining
+  pub found : IsFoundPlan t.plan → FindsTargets t.plan (functions_left t.remaining) t.trace.handed

@@ -5,7 +5,7 @@ use Rattle.std.specs.Ordering.{nat_cmp, is_lt}
 use Rattle.std.specs.Cmp.Lexicographic.{slice_cmp}
 use Rattle.std.specs.Str.{bytes_eq}
 use Rattle.serial_meaning.specs.Eval.{path_of, iteration, main_origin}
-use Rattle.serial_meaning.specs.Open.{Item, Happened, Child, Opened, Closed, NodeFault, Own, ChildFaulted, Node, opened, strand_pedigrees}
+use Rattle.serial_meaning.specs.Open.{Item, Happened, Child, Opened, Closed, NodeFault, Own, ChildFaulted, Node, node_of, strand_pedigrees}
 use Rattle.serial_meaning.specs.Plan.{PlanView}
 use Rattle.serial_meaning.specs.declared.value.Value.{Value}
 use Rattle.serial_meaning.specs.declared.event.Fault.{Fault}
@@ -134,7 +134,7 @@ by_child (Some o) j here go = next_step (entered_child j o) go
 abbrev pub walk_in : PlanView → ℕ → List ℕ → Origin → Found
 walk_in plan zero j o = Missing
 walk_in plan (suc steps) j o =
-    let n = opened plan o in by_child (child_on_way j n.items) j (last_step (blocking_fault n j) (strand_of o n j)) (walk_in plan steps j)
+    let n = node_of plan o in by_child (child_on_way j n.items) j (last_step (blocking_fault n j) (strand_of o n j)) (walk_in plan steps j)
 
 abbrev pub walk : PlanView → List ℕ → Origin → Found
 walk plan j o = walk_in plan (length j) j o

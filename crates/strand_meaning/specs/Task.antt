@@ -17,23 +17,23 @@ use Rattle.serial_meaning.specs.declared.origin.Origin.{Origin}
 use Rattle.serial_meaning.specs.declared.origin.Origin.TheVariants.{Instance, Loop}
 use Rattle.serial_meaning.specs.declared.answer.Outcome.{Outcome}
 use Rattle.serial_meaning.specs.declared.answer.Outcome.TheVariants as outcome
-use Rattle.strand_meaning.specs.Machine.{Destination, Spawned, Looped, Half, Effect, Opens, Closes, Emitted, Handed, Syncs, Loops, Frame, Machine, Reached, Stands, Gives, begun, move}
-use Rattle.strand_meaning.specs.Trace.{AwaitedChild, Trace, no_trace, with_effects, add_child, heard_all}
+use Rattle.strand_meaning.specs.Machine.{Destination, Spawned, Looped, Half, Effect, Opens, Closes, Emitted, Handed, Syncs, Loops, Frame, Machine, Reached, Stands, Gives, function_begun, move}
+use Rattle.strand_meaning.specs.Trace.{AwaitedChild, Trace, no_trace, with_effects, add_child, merged_answers}
 
 -- where an instance stands: it goes on; it waits after a sync, or after a loop; it has ended, by a value or as a node of the open
 -- tree ends
-pub data InstanceState : Type 0 where
-  Running : Machine → InstanceState
-  AtSync : Machine → InstanceState
-  AtLoop : Machine → InstanceState
-  Ended : Result Value NodeFault → InstanceState
+pub data Stage : Type 0 where
+  Running : Machine → Stage
+  AtSync : Machine → Stage
+  AtLoop : Machine → Stage
+  Ended : Result Value NodeFault → Stage
 
 -- What remains: iterations of a loop that nobody has begun; an instance, which is the task's own or the loop's last iteration; or
 -- nothing of a loop whose last iteration gave this value, and whether the task has gone on from the wait at its end.
-pub data Work : Type 0 where
-  Splits : Range → Work
-  Runs : InstanceState → Work
-  Finished : Value → Bool → Work
+pub data Remaining : Type 0 where
+  Splits : Range → Remaining
+  Runs : Stage → Remaining
+  Finished : Value → Bool → Remaining
 
 -- Beside its trace and what remains: the values of those iterations of a loop whose answers were taken, in order; whether the task
 -- stands in a wait; and whether it was advanced.
@@ -42,22 +42,22 @@ pub record Task : Type 0 where
   pub origin : Origin
   pub trace : Trace
   pub values : List Value
-  pub work : Work
+  pub remaining : Remaining
   pub waiting : Bool
   pub advanced : Bool
 
 -- The beginning
 
-abbrev pub begun_stage : Reached → InstanceState
+abbrev pub begun_stage : Reached → Stage
 begun_stage (Stands m) = Running m
 begun_stage (Gives v) = Ended (Ok v)
 
-abbrev pub begun_work : PlanView → Origin → Work
-begun_work plan (Instance function args path) = Runs (begun_stage (begun plan function args))
-begun_work plan (Loop function rest first path range) = Splits range
+abbrev pub begun_remaining : PlanView → Origin → Remaining
+begun_remaining plan (Instance function args path) = Runs (begun_stage (function_begun plan function args))
+begun_remaining plan (Loop function rest first path range) = Splits range
 
 abbrev pub start : PlanView → Origin → Task
-start plan o = record { plan = plan; origin = o; trace = no_trace; values = []; work = begun_work plan o; waiting = false; advanced = false }
+start plan o = record { plan = plan; origin = o; trace = no_trace; values = []; remaining = begun_remaining plan o; waiting = false; advanced = false }
 
 -- the instance that an origin's task runs itself: for a loop its last iteration
 abbrev pub own_instance : Origin → Origin
@@ -77,7 +77,7 @@ pub data MoveOrStop : Type 0 where
   Stops : Stop → MoveOrStop
 
 -- a stage after a move that showed these
-abbrev pub stage_after : List Effect → Machine → InstanceState
+abbrev pub stage_after : List Effect → Machine → Stage
 stage_after [] m = Running m
 stage_after (Opens j ∷ ts) m = stage_after ts m
 stage_after (Closes j ∷ ts) m = stage_after ts m
@@ -99,13 +99,13 @@ abbrev pub stops_at : Option Origin → Task → MoveOrStop
 stops_at (Some o) t = Stops (Spawn o t)
 stops_at None t = Passes t
 
-abbrev pub passing : Task → List Effect → Work → Task
-passing t effects work = record t { trace = with_effects effects t.trace; work = work; advanced = true }
+abbrev pub passing : Task → List Effect → Remaining → Task
+passing t effects remaining = record t { trace = with_effects effects t.trace; remaining = remaining; advanced = true }
 
-abbrev pub moved : Task → List Effect → Result Reached Fault → MoveOrStop
-moved t effects (Ok (Stands m)) = stops_at (child_in effects) (passing t effects (Runs (stage_after effects m)))
-moved t effects (Ok (Gives v)) = Passes (passing t effects (Runs (Ended (Ok v))))
-moved t effects (Err f) = Passes (passing t effects (Runs (Ended (Err (Own f)))))
+abbrev pub step_result : Task → List Effect → Result Reached Fault → MoveOrStop
+step_result t effects (Ok (Stands m)) = stops_at (child_in effects) (passing t effects (Runs (stage_after effects m)))
+step_result t effects (Ok (Gives v)) = Passes (passing t effects (Runs (Ended (Ok v))))
+step_result t effects (Err f) = Passes (passing t effects (Runs (Ended (Err (Own f)))))
 
 abbrev pub waits : Task → MoveOrStop
 waits t = Stops (Wait (record t { waiting = true; advanced = true }))
@@ -124,15 +124,15 @@ faults_after [] t f = ends t (outcome.Fault f)
 faults_after (p ∷ ps) t f = waits t
 
 -- the instance that the task ran ended well
-abbrev pub gave : Task → Origin → Value → MoveOrStop
-gave t (Instance function args path) v = ends t (outcome.Value v)
-gave t (Loop function rest first path range) v = Passes (record t { work = Finished v false; advanced = true })
+abbrev pub returned : Task → Origin → Value → MoveOrStop
+returned t (Instance function args path) v = ends t (outcome.Value v)
+returned t (Loop function rest first path range) v = Passes (record t { remaining = Finished v false; advanced = true })
 
-abbrev pub stage_step : Task → InstanceState → MoveOrStop
-stage_step t (Running m) = let r = move t.plan (path_of (own_instance t.origin)) m in moved t r.items r.ending
+abbrev pub stage_step : Task → Stage → MoveOrStop
+stage_step t (Running m) = let r = move t.plan (path_of (own_instance t.origin)) m in step_result t r.items r.ending
 stage_step t (AtSync m) = waits t
 stage_step t (AtLoop m) = waits t
-stage_step t (Ended (Ok v)) = gave t t.origin v
+stage_step t (Ended (Ok v)) = returned t t.origin v
 stage_step t (Ended (Err (Own f))) = faults_after t.trace.handed t f
 stage_step t (Ended (Err (ChildFaulted f))) = ends t (outcome.Fault f)
 
@@ -141,14 +141,14 @@ abbrev pub first_half : Origin → Range → Origin
 first_half (Instance function args path) left = Instance function args path
 first_half (Loop function rest first path range) left = Loop function rest first path (lower_half left)
 
-abbrev pub begins_last : PlanView → Origin → Work
-begins_last plan o = begun_work plan (own_instance o)
+abbrev pub begins_last : PlanView → Origin → Remaining
+begins_last plan o = begun_remaining plan (own_instance o)
 
 abbrev pub split_step : Task → Range → ℕ → MoveOrStop
 split_step t left zero = ends t (outcome.Values t.values)
-split_step t left (suc zero) = Passes (record t { work = begins_last t.plan t.origin; advanced = true })
+split_step t left (suc zero) = Passes (record t { remaining = begins_last t.plan t.origin; advanced = true })
 split_step t left (suc (suc n)) =
-    let o = first_half t.origin left in Stops (Spawn o (record t { trace = add_child o Half t.trace; work = Splits (upper_half left); advanced = true }))
+    let o = first_half t.origin left in Stops (Spawn o (record t { trace = add_child o Half t.trace; remaining = Splits (upper_half left); advanced = true }))
 
 -- a loop of two iterations or more handed out a part
 abbrev pub over_step : Task → Value → Origin → MoveOrStop
@@ -160,15 +160,15 @@ over_step t v (Loop function rest first path range) = by_size (range.hi - range.
     by_size (suc zero) = ends t (outcome.Values (t.values ++ v ∷ []))
     by_size (suc (suc n)) = waits t
 
-abbrev pub work_step : Task → Work → MoveOrStop
-work_step t (Splits left) = split_step t left (left.hi - left.lo)
-work_step t (Runs stage) = stage_step t stage
-work_step t (Finished v true) = ends t (outcome.Values (t.values ++ v ∷ []))
-work_step t (Finished v false) = over_step t v t.origin
+abbrev pub remaining_step : Task → Remaining → MoveOrStop
+remaining_step t (Splits left) = split_step t left (left.hi - left.lo)
+remaining_step t (Runs stage) = stage_step t stage
+remaining_step t (Finished v true) = ends t (outcome.Values (t.values ++ v ∷ []))
+remaining_step t (Finished v false) = over_step t v t.origin
 
 -- One move, or a stop.
 abbrev pub step : Task → MoveOrStop
-step t = work_step t t.work
+step t = remaining_step t t.remaining
 
 -- the stop that a task comes to: at once, or after moves
 pub data IsNext : Task → Stop → Type 0 where
@@ -200,7 +200,7 @@ abbrev pub frame_with_answer : Option Name → Result (List Value) Fault → Fra
 frame_with_answer target (Ok vs) a = record a { env = with_answer target (first_value vs) a.env }
 frame_with_answer target (Err f) a = record a { faulted = Some (least a.faulted f) }
 
-abbrev pub in_machine : (Machine → Machine) → InstanceState → InstanceState
+abbrev pub in_machine : (Machine → Machine) → Stage → Stage
 in_machine change (Running m) = Running (change m)
 in_machine change (AtSync m) = AtSync (change m)
 in_machine change (AtLoop m) = AtLoop (change m)
@@ -209,32 +209,32 @@ in_machine change (Ended e) = Ended e
 abbrev pub with_values : Option Name → List Value → Machine → Machine
 with_values target vs m = record m { top = record m.top { env = with_loop_values target vs m.top.env } }
 
-abbrev pub takes : Destination → Result (List Value) Fault → InstanceState → InstanceState
+abbrev pub takes : Destination → Result (List Value) Fault → Stage → Stage
 takes (Spawned height target) ended stage = in_machine (changed height (frame_with_answer target ended)) stage
 takes (Looped target) (Ok vs) stage = in_machine (with_values target vs) stage
 takes (Looped target) (Err f) stage = Ended (Err (ChildFaulted f))
 takes Half ended stage = stage
 
-abbrev pub joins : Option Fault → Machine → InstanceState
-joins None m = Running m
-joins (Some f) m = Ended (Err (ChildFaulted f))
+abbrev pub pass_sync : Option Fault → Machine → Stage
+pass_sync None m = Running m
+pass_sync (Some f) m = Ended (Err (ChildFaulted f))
 
 -- A wait is over: the instance ends at a sync where a child of this frame faulted, and else goes on.
-abbrev pub resumed : InstanceState → InstanceState
+abbrev pub resumed : Stage → Stage
 resumed (Running m) = Running m
-resumed (AtSync m) = joins m.top.faulted m
+resumed (AtSync m) = pass_sync m.top.faulted m
 resumed (AtLoop m) = Running m
 resumed (Ended e) = Ended e
 
-abbrev pub takes_all : List AwaitedChild → List Evaluation → InstanceState → InstanceState
+abbrev pub takes_all : List AwaitedChild → List Evaluation → Stage → Stage
 takes_all [] answers stage = stage
 takes_all (p ∷ ps) [] stage = stage
 takes_all (p ∷ ps) (answer ∷ answers) stage = takes_all ps answers (takes p.destination answer.ending stage)
 
-abbrev pub resumed_work : List AwaitedChild → List Evaluation → Work → Work
-resumed_work parts answers (Splits left) = Splits left
-resumed_work parts answers (Runs stage) = Runs (resumed (takes_all parts answers stage))
-resumed_work parts answers (Finished v gone_on) = Finished v true
+abbrev pub resumed_remaining : List AwaitedChild → List Evaluation → Remaining → Remaining
+resumed_remaining awaiting answers (Splits left) = Splits left
+resumed_remaining awaiting answers (Runs stage) = Runs (resumed (takes_all awaiting answers stage))
+resumed_remaining awaiting answers (Finished v gone_on) = Finished v true
 
 abbrev pub more_values : Destination → Result (List Value) Fault → List Value → List Value
 more_values (Spawned height target) ended values = values
@@ -250,9 +250,9 @@ all_values (p ∷ ps) (answer ∷ answers) values = all_values ps answers (more_
 -- The task once its wait is over, with the answers of the children that it handed out, in order.
 abbrev pub on : List Evaluation → Task → Task
 on answers t =
-    let parts = t.trace.handed in record t {
-      trace = heard_all parts answers (record t.trace { handed = [] });
-      values = all_values parts answers t.values;
-      work = resumed_work parts answers t.work;
+    let awaiting = t.trace.handed in record t {
+      trace = merged_answers awaiting answers (record t.trace { handed = [] });
+      values = all_values awaiting answers t.values;
+      remaining = resumed_remaining awaiting answers t.remaining;
       waiting = false;
     }

@@ -58,17 +58,17 @@ with_effects (Loops ∷ ts) trace = with_effects ts trace
 -- Answers
 
 -- the answer's events, and where it is no fault then those after the child
-abbrev pub heard_unless : Option Fault → List Event → AwaitedChild → List Event → Result (List Value) Fault → Trace
-heard_unless (Some f) prefix p events ending = record { prefix = prefix; fault = Some f; handed = [] }
-heard_unless None prefix p events (Ok vs) = record { prefix = prefix ++ (events ++ p.after); fault = None; handed = [] }
-heard_unless None prefix p events (Err f) = record { prefix = prefix ++ events; fault = Some f; handed = [] }
+abbrev pub merged_answer_unless : Option Fault → List Event → AwaitedChild → List Event → Result (List Value) Fault → Trace
+merged_answer_unless (Some f) prefix p events ending = record { prefix = prefix; fault = Some f; handed = [] }
+merged_answer_unless None prefix p events (Ok vs) = record { prefix = prefix ++ (events ++ p.after); fault = None; handed = [] }
+merged_answer_unless None prefix p events (Err f) = record { prefix = prefix ++ events; fault = Some f; handed = [] }
 
 -- a trace without children, after which a child's answer was taken
-abbrev pub heard : AwaitedChild → Evaluation → Trace → Trace
-heard p answer trace = heard_unless trace.fault trace.prefix p answer.items answer.ending
+abbrev pub merged_answer : AwaitedChild → Evaluation → Trace → Trace
+merged_answer p answer trace = merged_answer_unless trace.fault trace.prefix p answer.items answer.ending
 
 -- the answers of all children, in order
-abbrev pub heard_all : List AwaitedChild → List Evaluation → Trace → Trace
-heard_all [] answers trace = trace
-heard_all (p ∷ ps) [] trace = trace
-heard_all (p ∷ ps) (answer ∷ answers) trace = heard_all ps answers (heard p answer trace)
+abbrev pub merged_answers : List AwaitedChild → List Evaluation → Trace → Trace
+merged_answers [] answers trace = trace
+merged_answers (p ∷ ps) [] trace = trace
+merged_answers (p ∷ ps) (answer ∷ answers) trace = merged_answers ps answers (merged_answer p answer trace)

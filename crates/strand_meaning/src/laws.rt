@@ -116,7 +116,7 @@ pub fn faults_pass()
     ensures { FaultsPass }
 {}
 
-/// A task that heard a fault or a cut answers by the first of them in the order of its trace.
+/// A task whose trace comes to a fault or a cut, once its children's answers are merged, answers by the first of them in its order.
 pub fn answers_end()
     ensures { AnswersEnd }
 {}

@@ -21,7 +21,7 @@ use Rattle.strand_moves.proofs.effects.Child.TheSendSync as child_shared
 use Rattle.strand_moves.proofs.frame.Level.TheSendSync as level_shared
 use Rattle.strand_moves.specs.contracts.effects.Effects as effects
 use Rattle.strand_moves.specs.contracts.effects.LoopedChild as looped
-use Rattle.strand_moves.specs.contracts.effects.MoveResult as moved
+use Rattle.strand_moves.specs.contracts.effects.MoveResult as move_result
 use Rattle.strand_moves.specs.contracts.effects.SpawnedChild as spawned
 use Rattle.strand_moves.specs.contracts.frame.Frame as frame
 use Rattle.strand_moves.specs.contracts.frame.Level as level
@@ -75,8 +75,8 @@ effects_sends = variants_send effects.enum (
   ),
 )
 
-pub moved_sends : IsSend moved.the_row
-moved_sends = variants_send moved.enum ((effects_sends, tt), ((value_shared.the_send, tt), ((fault_shared.the_send, tt), tt)))
+pub moved_sends : IsSend move_result.the_row
+moved_sends = variants_send move_result.enum ((effects_sends, tt), ((value_shared.the_send, tt), ((fault_shared.the_send, tt), tt)))
 
 frame_sends : IsSend frame.the_row
 frame_sends = declared_send frame.the_type
@@ -135,8 +135,8 @@ effects_syncs = variants_sync effects.enum (
   ),
 )
 
-pub moved_syncs : IsSync moved.the_row
-moved_syncs = variants_sync moved.enum ((effects_syncs, tt), ((value_shared.the_sync, tt), ((fault_shared.the_sync, tt), tt)))
+pub moved_syncs : IsSync move_result.the_row
+moved_syncs = variants_sync move_result.enum ((effects_syncs, tt), ((value_shared.the_sync, tt), ((fault_shared.the_sync, tt), tt)))
 
 frame_syncs : IsSync frame.the_row
 frame_syncs = declared_sync frame.the_type

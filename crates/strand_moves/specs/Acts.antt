@@ -20,7 +20,7 @@ use Rattle.strand_values.specs.declared.halt.Halt.TheVariants as halt
 use Rattle.strand_moves.specs.declared.frame.Frame.{Frame}
 use Rattle.strand_moves.specs.declared.instance_parts.InstanceParts.{InstanceParts}
 use Rattle.strand_moves.specs.declared.effects.MoveResult.{MoveResult}
-use Rattle.strand_moves.specs.Cursors.{left_of}
+use Rattle.strand_moves.specs.Cursors.{statements_left}
 use Rattle.strand_moves.specs.InstanceParts.{IsInstance, machine_of, open_scopes, path_of, present_of}
 use Rattle.strand_moves.specs.Moves.{acted, Makes, present_pedigree}
 
@@ -29,7 +29,7 @@ abbrev pub Acts : PlanView → Stmt → Act-F Act Stmt → InstanceParts → Ins
 Acts plan st a old new result =
     Makes (acted plan (present_of old) (machine_of plan old) st a) (present_pedigree (present_of old) (machine_of plan old)) (machine_of plan new) result
 
--- the step, the rank, and whether it may still be a rank
+-- the rank and the steps that are left rise by one together at most
 abbrev pub Costs : InstanceParts → InstanceParts → Type 0
 Costs old new = new.rank + new.steps < old.rank + old.steps + 2
 
@@ -46,7 +46,7 @@ pub record BeginsOne (old new : InstanceParts) : Type 0 where
 
 -- Where there was memory for it, they stay.
 abbrev pub StaysUnlessMemory : InstanceParts → InstanceParts → Result MoveResult values.Halt → Type 0
-StaysUnlessMemory old new (Ok moved) = Stays old new
+StaysUnlessMemory old new (Ok move_result) = Stays old new
 StaysUnlessMemory old new (Err (halt.Fault kind)) = Stays old new
 StaysUnlessMemory old new (Err halt.Memory) = Unit {0}
 
@@ -60,15 +60,16 @@ pub record GoesIn (plan : PlanView) (old new : InstanceParts) : Type 0 where
   pub steps : new.steps ≡ old.steps
   pub leaving : new.leaving ≡ old.leaving
 
+-- an instance still, and its path
 pub record IsKept (plan : PlanView) (old new : InstanceParts) : Type 0 where
   pub instance : IsInstance plan new
   pub path : path_of new ≡ path_of old
 
 -- A move keeps an instance and its path, and one that is a fault keeps the present path too. Want of memory keeps nothing.
-abbrev pub Keeps : PlanView → InstanceParts → InstanceParts → Result MoveResult values.Halt → Type 0
-Keeps plan old new (Ok moved) = IsKept plan old new
-Keeps plan old new (Err (halt.Fault kind)) = IsKept plan old new × (new.trail ≡ old.trail)
-Keeps plan old new (Err halt.Memory) = Unit {0}
+abbrev pub KeepsInstance : PlanView → InstanceParts → InstanceParts → Result MoveResult values.Halt → Type 0
+KeepsInstance plan old new (Ok move_result) = IsKept plan old new
+KeepsInstance plan old new (Err (halt.Fault kind)) = IsKept plan old new × (new.trail ≡ old.trail)
+KeepsInstance plan old new (Err halt.Memory) = Unit {0}
 
 -- the pedigrees in the iterations of a loop, if there are any, are within the depth
 abbrev pub loop_fits : PlanView → List ℕ → ℕ → Bool
@@ -89,7 +90,7 @@ loop_begins plan path n target env steps =
 -- a frame that a call of this function begins with these variables
 pub record IsCallee (number : ℕ) (variables : EnvironmentView) (to : Option Name) (a : Frame) : Type 0 where
   pub function : a.function ≡ number
-  pub left : (body : List Stmt) → left_of body a.cursor ≡ body
+  pub left : (body : List Stmt) → statements_left body a.cursor ≡ body
   pub levels : a.levels.items ≡ []
   pub returning : a.returning ≡ false
   pub env : a.env ≡ variables

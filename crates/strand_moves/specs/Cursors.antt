@@ -21,13 +21,13 @@ branch_at None p = []
 branch_at (Some st) p = branch_of (out-Act (out-Stmt st).act) p
 
 -- where the statement stands that was entered: the enclosing block goes on at a loop itself, and after an `if`
-abbrev pub place_before : Branch → ℕ → ℕ
-place_before branch.Yes back = back - 1
-place_before branch.No back = back - 1
-place_before branch.LoopBody back = back
+abbrev pub entered_at : Branch → ℕ → ℕ
+entered_at branch.Yes back = back - 1
+entered_at branch.No back = back - 1
+entered_at branch.LoopBody back = back
 
 abbrev pub block_in : List Stmt → Entered → List Stmt
-block_in block e = branch_at (slice_get block (place_before e.branch e.back)) e.branch
+block_in block e = branch_at (slice_get block (entered_at e.branch e.back)) e.branch
 
 -- the innermost block
 abbrev pub block_of : List Stmt → List Entered → List Stmt
@@ -40,8 +40,8 @@ left_around block [] = []
 left_around block (e ∷ es) = left_around (block_in block e) es ++ drop e.back block
 
 -- the statements left of a function's body
-unfoldable pub left_of : List Stmt → Cursor → List Stmt
-left_of body c = drop c.next (block_of body c.entered.items) ++ left_around body c.entered.items
+unfoldable pub statements_left : List Stmt → Cursor → List Stmt
+statements_left body c = drop c.next (block_of body c.entered.items) ++ left_around body c.entered.items
 
 -- a scope's block, and no statements where this is no scope
 abbrev pub scope_of : Act-F Act Stmt → List Stmt
@@ -63,5 +63,5 @@ pub record IsAfterStatement (body : List Stmt) (c : Cursor) (st : Stmt) : Type 0
 
 -- the next statement and those after it
 pub record PassesStatement (body : List Stmt) (old new : Cursor) (st : Stmt) : Type 0 where
-  pub first : left_of body old ≡ st ∷ left_of body new
+  pub first : statements_left body old ≡ st ∷ statements_left body new
   pub after : IsAfterStatement body new st

@@ -11,7 +11,7 @@ use Rattle.strand_meaning.specs.Machine as meaning
 use Rattle.strand_moves.specs.declared.frame.Frame.{Frame}
 use Rattle.strand_moves.specs.declared.frame.Level.{Level}
 use Rattle.strand_moves.specs.declared.instance_parts.InstanceParts.{InstanceParts}
-use Rattle.strand_moves.specs.Cursors.{left_of, scope_after}
+use Rattle.strand_moves.specs.Cursors.{statements_left, scope_after}
 use Rattle.strand_moves.specs.Found.{FindsTarget}
 
 abbrev pub body_in : Option Function → List Stmt
@@ -31,7 +31,7 @@ block_inside body (l ∷ ls) = scope_after (block_inside body ls) l.cursor
 
 abbrev pub levels_of : List Stmt → List Level → List meaning.Level
 levels_of body [] = []
-levels_of body (l ∷ ls) = record { rank = l.rank; left = left_of (block_inside body ls) l.cursor } ∷ levels_of body ls
+levels_of body (l ∷ ls) = record { rank = l.rank; left = statements_left (block_inside body ls) l.cursor } ∷ levels_of body ls
 
 -- the statements among which a frame's cursor stands
 abbrev pub statements_of : PlanView → Frame → List Stmt
@@ -41,7 +41,7 @@ statements_of plan a = block_inside (body_of plan a.function) (reverse a.levels.
 abbrev pub frame_of : PlanView → Bool → Frame → meaning.Frame
 frame_of plan leaving a = record {
   function = a.function;
-  left = left_of (statements_of plan a) a.cursor;
+  left = statements_left (statements_of plan a) a.cursor;
   levels = levels_of (body_of plan a.function) (reverse a.levels.items);
   leaving = leaving;
   returning = a.returning;
@@ -129,5 +129,5 @@ pub record IsInstance (plan : PlanView) (i : InstanceParts) : Type 0 where
   pub strand : IsStrand plan i
   pub few : rank_bound i < 2 ^ 32
   pub around : AreAround plan (open_scopes i) i.trail.path
-  pub leaving : i.leaving ≡ true → (left_of (statements_of plan i.top) i.top.cursor ≡ []) × (i.top.levels.items ≡ [] → ⊥)
+  pub leaving : i.leaving ≡ true → (statements_left (statements_of plan i.top) i.top.cursor ≡ []) × (i.top.levels.items ≡ [] → ⊥)
   pub named : AreNamed plan i

@@ -15,15 +15,15 @@ use Rattle.serial_meaning.specs.Exec.{does}
 use Rattle.serial_meaning.specs.Plan.{PlanView}
 use Rattle.serial_meaning.specs.declared.event.Fault.{Fault}
 use Rattle.serial_meaning.specs.declared.origin.Origin.{Origin}
-use Rattle.strand_meaning.specs.Machine.{Spawned, Looped, Effect, Opens, Closes, Emitted, Handed, Syncs, Loops, Machine, Reached, Stands, Gives, handing, inside, destination_of, state_of, with_left, machine_inside, reached}
+use Rattle.strand_meaning.specs.Machine.{Spawned, Looped, Effect, Opens, Closes, Emitted, Handed, Syncs, Loops, Machine, Reached, Stands, Gives, handing, inside, child_destination, state_of, with_left, machine_inside, reached}
 use Rattle.strand_values.specs.declared.halt.Halt as values
 use Rattle.strand_values.specs.declared.halt.Halt.TheVariants as halt
 use Rattle.strand_moves.specs.declared.effects.Effects.{Effects}
 use Rattle.strand_moves.specs.declared.effects.Effects.TheVariants as effect
 use Rattle.strand_moves.specs.declared.effects.MoveResult.{MoveResult}
-use Rattle.strand_moves.specs.declared.effects.MoveResult.TheVariants as moved
+use Rattle.strand_moves.specs.declared.effects.MoveResult.TheVariants as move_result
 
--- the effects of what is shown
+-- the effects, one by one
 abbrev pub effects_of : Effects → List Effect
 effects_of effect.Nothing = []
 effects_of (effect.Emitted e) = Emitted e ∷ []
@@ -38,7 +38,7 @@ pub record IsTrailOf (plan : PlanView) (o : Origin) (trail : Trail) : Type 0 whe
   pub fits : FitsGamma plan.gamma trail
   pub path : trail.path ≡ path_of o
 
--- a child that is shown has the trail of its origin
+-- a child that is handed out has the trail of its origin
 abbrev pub ShowsTrail : PlanView → Effects → Type 0
 ShowsTrail plan effect.Nothing = Unit {0}
 ShowsTrail plan (effect.Emitted e) = Unit {0}
@@ -49,23 +49,23 @@ ShowsTrail plan (effect.Synced e) = Unit {0}
 ShowsTrail plan (effect.Looped e l) = IsTrailOf plan l.child.origin l.child.trail
 
 abbrev pub MovesTrail : PlanView → MoveResult → Type 0
-MovesTrail plan (moved.Went s) = ShowsTrail plan s
-MovesTrail plan (moved.Returned v) = Unit {0}
-MovesTrail plan (moved.Faulted f) = Unit {0}
+MovesTrail plan (move_result.Went s) = ShowsTrail plan s
+MovesTrail plan (move_result.Returned v) = Unit {0}
+MovesTrail plan (move_result.Faulted f) = Unit {0}
 
 -- a move that ends in this machine, if it ends in one
 abbrev pub run_of : MoveResult → Machine → Run Effect Fault Reached
-run_of (moved.Went s) m = record { items = effects_of s; ending = Ok (Stands m) }
-run_of (moved.Returned v) m = record { items = []; ending = Ok (Gives v) }
-run_of (moved.Faulted f) m = record { items = []; ending = Err f }
+run_of (move_result.Went s) m = record { items = effects_of s; ending = Ok (Stands m) }
+run_of (move_result.Returned v) m = record { items = []; ending = Ok (Gives v) }
+run_of (move_result.Faulted f) m = record { items = []; ending = Err f }
 
 -- a move that shows these effects, and after which the instance goes on
 abbrev pub Shows : List Effect → MoveResult → Type 0
-Shows effects moved = (m : Machine) → run_of moved m ≡ record { items = effects; ending = Ok (Stands m) }
+Shows effects move_result = (m : Machine) → run_of move_result m ≡ record { items = effects; ending = Ok (Stands m) }
 
 -- A move is the defined one, where a fault is one of this strand. Want of memory may come at any time.
 abbrev pub Makes : Run Effect Fault Reached → List ℕ → Machine → Result MoveResult values.Halt → Type 0
-Makes run strand m (Ok moved) = run ≡ run_of moved m
+Makes run strand m (Ok move_result) = run ≡ run_of move_result m
 Makes run strand m (Err (halt.Fault kind)) = run ≡ record { items = []; ending = Err (record { kind = kind; at = strand }) }
 Makes run strand m (Err halt.Memory) = Unit {0}
 
@@ -75,7 +75,7 @@ present_pedigree here m = here ++ m.rank ∷ []
 -- what a statement does at a present path that is paid and stands no longer among those left
 unfoldable pub acted : PlanView → List ℕ → Machine → Stmt → Act-F Act Stmt → Run Effect Fault Reached
 acted plan here m st a =
-    let r = does (handing plan (destination_of (length m.below) a)) plan here inside (length m.below) st a (state_of m) in record { items = r.items; ending = reached plan (with_left m m.top.left) (machine_inside plan st a m.top.left m) r.ending }
+    let r = does (handing plan (child_destination (length m.below) a)) plan here inside (length m.below) st a (state_of m) in record { items = r.items; ending = reached plan (with_left m m.top.left) (machine_inside plan st a m.top.left m) r.ending }
 
 -- a call, or a spawn, whose value goes to a variable, if any
 abbrev pub call_to : Option Name → CallText → Act-F Act Stmt

@@ -15,7 +15,7 @@ use Rattle.strand_values.specs.declared.halt.Halt as values
 use Rattle.strand_values.specs.declared.halt.Halt.TheVariants as halt
 use Rattle.strand_moves.specs.declared.instance_parts.InstanceParts.{InstanceParts}
 use Rattle.strand_moves.specs.declared.effects.MoveResult.{MoveResult}
-use Rattle.strand_moves.specs.declared.effects.MoveResult.TheVariants as moved
+use Rattle.strand_moves.specs.declared.effects.MoveResult.TheVariants as move_result
 use Rattle.strand_moves.specs.declared.effects.Effects.TheVariants as effect
 use Rattle.strand_moves.specs.declared.quick.Form.{Form}
 use Rattle.strand_moves.specs.declared.quick.Form.TheVariants as form
@@ -26,7 +26,7 @@ use Rattle.strand_moves.specs.Moves.{acted, run_of}
 
 -- what was done without showing anything, as a move
 abbrev pub quiet : Result (Unit {0}) values.Halt → Result MoveResult values.Halt
-quiet (Ok u) = Ok (moved.Went effect.Nothing)
+quiet (Ok u) = Ok (move_result.Went effect.Nothing)
 quiet (Err h) = Err h
 
 -- whether it was done; want of memory is no answer
@@ -37,13 +37,13 @@ IsWent (Err halt.Memory) went = ⊥
 
 -- what showed an event, as a move
 abbrev pub emitted : Result Event values.Halt → Result MoveResult values.Halt
-emitted (Ok e) = Ok (moved.Went (effect.Emitted e))
+emitted (Ok e) = Ok (move_result.Went (effect.Emitted e))
 emitted (Err h) = Err h
 
 -- what showed an event or nothing, as a move
 abbrev pub emitted_if_any : Result (Option Event) values.Halt → Result MoveResult values.Halt
-emitted_if_any (Ok None) = Ok (moved.Went effect.Nothing)
-emitted_if_any (Ok (Some e)) = Ok (moved.Went (effect.Emitted e))
+emitted_if_any (Ok None) = Ok (move_result.Went effect.Nothing)
+emitted_if_any (Ok (Some e)) = Ok (move_result.Went (effect.Emitted e))
 emitted_if_any (Err h) = Err h
 
 -- whether an event was shown, which the sink then took; want of memory is no answer
@@ -81,14 +81,14 @@ ByFault run = (f : Fault) × (run ≡ record { items = []; ending = Err f })
 
 -- What a statement does was done and showed nothing. Or nothing changed, and a plain one meets a fault.
 abbrev pub IsDone : Stmt → Act-F Act Stmt → InstanceParts → InstanceParts → Bool → Type 0
-IsDone st a old new true = (plan : PlanView) → acted plan (present_of old) (machine_of plan old) st a ≡ run_of (moved.Went effect.Nothing) (machine_of plan new)
+IsDone st a old new true = (plan : PlanView) → acted plan (present_of old) (machine_of plan old) st a ≡ run_of (move_result.Went effect.Nothing) (machine_of plan new)
 IsDone st a old new false = (new ≡ old) × ((plan : PlanView) → is_plain a ≡ true → ByFault (acted plan (present_of old) (machine_of plan old) st a))
 
 -- The same of the statement after which the cursor stands, and whose step is paid.
 abbrev pub IsQuiet : Stmt → InstanceParts → InstanceParts → Bool → Type 0
 IsQuiet st old new true =
     (plan : PlanView) → IsAfterStatement (statements_of plan old.top) old.top.cursor st →
-    acted plan (present_of old) (machine_of plan old) st (out-Act (out-Stmt st).act) ≡ run_of (moved.Went effect.Nothing) (machine_of plan new)
+    acted plan (present_of old) (machine_of plan old) st (out-Act (out-Stmt st).act) ≡ run_of (move_result.Went effect.Nothing) (machine_of plan new)
 IsQuiet st old new false =
     (new ≡ old)
     × ((plan : PlanView) → IsAfterStatement (statements_of plan old.top) old.top.cursor st → is_plain (out-Act (out-Stmt st).act) ≡ true →
@@ -119,14 +119,14 @@ is_emitting (act.Scope a) = false
 -- What a statement does was done, and the sink took the event that it showed. Or nothing changed, and an emitting one meets a fault.
 abbrev pub HasEmitted : {S : Type 0} → (Event → S → S) → PlanView → Stmt → Act-F Act Stmt → InstanceParts → S → InstanceParts → S → Bool → Type 0
 HasEmitted after plan st a old from new to true =
-    (e : Event) × (to ≡ after e from) × (acted plan (present_of old) (machine_of plan old) st a ≡ run_of (moved.Went (effect.Emitted e)) (machine_of plan new))
+    (e : Event) × (to ≡ after e from) × (acted plan (present_of old) (machine_of plan old) st a ≡ run_of (move_result.Went (effect.Emitted e)) (machine_of plan new))
 HasEmitted after plan st a old from new to false =
     (new ≡ old) × (to ≡ from) × (is_emitting a ≡ true → ByFault (acted plan (present_of old) (machine_of plan old) st a))
 
 -- A call was begun, or what there isn't was skipped. Or nothing changed.
 abbrev pub HasCalled : PlanView → Stmt → Act-F Act Stmt → InstanceParts → InstanceParts → Bool → Type 0
 HasCalled plan st a old new true =
-    (acted plan (present_of old) (machine_of plan old) st a ≡ run_of (moved.Went effect.Nothing) (machine_of plan new)) × Stays old new × BeginsOne old new
+    (acted plan (present_of old) (machine_of plan old) st a ≡ run_of (move_result.Went effect.Nothing) (machine_of plan new)) × Stays old new × BeginsOne old new
 HasCalled plan st a old new false = new ≡ old
 
 -- the innermost frame is of the same function, in the same scopes, over the same frames, and no step is paid
@@ -154,8 +154,8 @@ HasGone after plan st old from new to form.Other = (new ≡ record old { steps =
 -- A move that showed nothing, or an event, which the sink took.
 abbrev pub IsSentMove : {S : Type 0} → (Event → S → S) → PlanView → InstanceParts → S → InstanceParts → S → Type 0
 IsSentMove after plan old from new to =
-    ((move plan (path_of old) (machine_of plan old) ≡ run_of (moved.Went effect.Nothing) (machine_of plan new)) × (to ≡ from))
-    ⊎ ((e : Event) × (move plan (path_of old) (machine_of plan old) ≡ run_of (moved.Went (effect.Emitted e)) (machine_of plan new)) × (to ≡ after e from))
+    ((move plan (path_of old) (machine_of plan old) ≡ run_of (move_result.Went effect.Nothing) (machine_of plan new)) × (to ≡ from))
+    ⊎ ((e : Event) × (move plan (path_of old) (machine_of plan old) ≡ run_of (move_result.Went (effect.Emitted e)) (machine_of plan new)) × (to ≡ after e from))
 
 -- One step less is left at least, or one frame.
 abbrev pub Shortens : InstanceParts → InstanceParts → Type 0

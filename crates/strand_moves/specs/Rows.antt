@@ -7,18 +7,18 @@ use Rattle.strand_meaning.specs.Machine.{Machine, move}
 use Rattle.strand_moves.specs.declared.cursor.Cursor.{Cursor}
 use Rattle.strand_moves.specs.declared.instance_parts.InstanceParts.{InstanceParts}
 use Rattle.strand_moves.specs.declared.effects.MoveResult.{MoveResult}
-use Rattle.strand_moves.specs.declared.effects.MoveResult.TheVariants as moved
+use Rattle.strand_moves.specs.declared.effects.MoveResult.TheVariants as move_result
 use Rattle.strand_moves.specs.declared.effects.Effects.TheVariants as effect
-use Rattle.strand_moves.specs.Cursors.{IsAfterStatement, left_of, PassesStatement}
+use Rattle.strand_moves.specs.Cursors.{IsAfterStatement, statements_left, PassesStatement}
 use Rattle.strand_moves.specs.Moves.{run_of}
 use Rattle.strand_moves.specs.InstanceParts.{IsInstance, machine_of, path_of, statements_of}
 
 -- They lead from the first of these instances to the other. A sink takes the events that they show.
 pub data Row {S : Type 0} (after : Event → S → S) (plan : PlanView) (first : InstanceParts) (start : S) : InstanceParts → S → Type 0 where
   Still : (now : InstanceParts) (sent : S) → now ≡ first → sent ≡ start → Row after plan first start now sent
-  More : (before now : InstanceParts) (sent : S) → Row after plan first start before sent → move plan (path_of before) (machine_of plan before) ≡ run_of (moved.Went effect.Nothing) (machine_of plan now) → path_of now ≡ path_of before →
+  More : (before now : InstanceParts) (sent : S) → Row after plan first start before sent → move plan (path_of before) (machine_of plan before) ≡ run_of (move_result.Went effect.Nothing) (machine_of plan now) → path_of now ≡ path_of before →
       IsInstance plan now → Row after plan first start now sent
-  Emits : (before now : InstanceParts) (earlier sent : S) (e : Event) → Row after plan first start before earlier → move plan (path_of before) (machine_of plan before) ≡ run_of (moved.Went (effect.Emitted e)) (machine_of plan now) →
+  Emits : (before now : InstanceParts) (earlier sent : S) (e : Event) → Row after plan first start before earlier → move plan (path_of before) (machine_of plan before) ≡ run_of (move_result.Went (effect.Emitted e)) (machine_of plan now) →
       sent ≡ after e earlier → path_of now ≡ path_of before → IsInstance plan now → Row after plan first start now sent
 
 -- They lead to an instance that makes one move more, and that one was made.
@@ -29,12 +29,12 @@ pub record RunsOn {S : Type 0} (after : Event → S → S) (plan : PlanView) (fi
 
 -- the statement after which a cursor stands that passed it, where one was left
 abbrev pub IsNextStatement : List Stmt → Cursor → Cursor → Option Stmt → Type 0
-IsNextStatement body old new None = (left_of body old ≡ []) × (left_of body new ≡ [])
+IsNextStatement body old new None = (statements_left body old ≡ []) × (statements_left body new ≡ [])
 IsNextStatement body old new (Some st) = PassesStatement body old new st
 
 -- What holds where the cursor has just passed this statement, or where none was left.
 abbrev pub HasPassedStatement : PlanView → InstanceParts → Option Stmt → Type 0
-HasPassedStatement plan i None = left_of (statements_of plan i.top) i.top.cursor ≡ []
+HasPassedStatement plan i None = statements_left (statements_of plan i.top) i.top.cursor ≡ []
 HasPassedStatement plan i (Some st) = (i.leaving ≡ false) × IsAfterStatement (statements_of plan i.top) i.top.cursor st
 
 abbrev pub with_next : Option Stmt → List Stmt → List Stmt

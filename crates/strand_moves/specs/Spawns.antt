@@ -10,7 +10,7 @@ use Rattle.strand_values.specs.declared.halt.Halt as values
 use Rattle.strand_values.specs.declared.halt.Halt.TheVariants as halt
 use Rattle.strand_moves.specs.declared.instance_parts.InstanceParts.{InstanceParts}
 use Rattle.strand_moves.specs.declared.effects.MoveResult.{MoveResult}
-use Rattle.strand_moves.specs.declared.effects.MoveResult.TheVariants as moved
+use Rattle.strand_moves.specs.declared.effects.MoveResult.TheVariants as move_result
 use Rattle.strand_moves.specs.declared.effects.Effects.TheVariants as effect
 use Rattle.strand_moves.specs.declared.effects.Spawning.{Spawning}
 use Rattle.strand_moves.specs.Moves.{IsTrailOf, acted, run_of, spawn_to}
@@ -19,7 +19,7 @@ use Rattle.strand_moves.specs.InstanceParts.{machine_of, path_of}
 
 -- a spawn, as a move
 abbrev pub spawn_as_move : Result Spawning values.Halt → Result MoveResult values.Halt
-spawn_as_move (Ok s) = Ok (moved.Went (effect.Spawned s.event s.spawned))
+spawn_as_move (Ok s) = Ok (move_result.Went (effect.Spawned s.event s.spawned))
 spawn_as_move (Err h) = Err h
 
 -- It is that move, where there was memory for its box.
@@ -33,7 +33,7 @@ DoesAs st to c = (plan : PlanView) (here : List ℕ) (m : Machine) → acted pla
 -- The spawn was done that the instance made after its cursor passed. Or nothing changed.
 abbrev pub HasSpawned : PlanView → InstanceParts → Option Stmt → InstanceParts → Option Spawning → Type 0
 HasSpawned plan old next new None = new ≡ old
-HasSpawned plan old next new (Some s) = move plan (path_of old) (unpassed plan old next) ≡ run_of (moved.Went (effect.Spawned s.event s.spawned)) (machine_of plan new)
+HasSpawned plan old next new (Some s) = move plan (path_of old) (unpassed plan old next) ≡ run_of (move_result.Went (effect.Spawned s.event s.spawned)) (machine_of plan new)
 
 -- the child has the trail of its origin
 abbrev pub SpawnsTrail : PlanView → Option Spawning → Type 0

@@ -18,7 +18,7 @@ use strand_values::Target;
 
 impl InstanceParts {
     /// Takes the fault of a child of the frame with `height` others below it.
-    pub fn take_fault(&mut self, height: usize, fault: Fault)
+    pub fn receive_fault(&mut self, height: usize, fault: Fault)
         ensures machine { (plan : PlanView) (target : _) → machine_of plan self.new ≡ changed height (frame_with_answer target (Err fault)) (machine_of plan self.old) }
         ensures path { path_of self.new ≡ path_of self.old }
         ensures sound { (plan : PlanView) → IsInstance plan self.old → IsInstance plan self.new }
@@ -31,7 +31,13 @@ impl InstanceParts {
     }
 
     /// Takes the value of a child of the frame with `height` others below it. A variable that isn't there doesn't come to be.
-    pub fn take_value(&mut self, plan: &Plan, height: usize, target: Option<&Target>, value: Value)
+    pub fn receive_value(
+        &mut self,
+        plan: &Plan,
+        height: usize,
+        target: Option<&Target>,
+        value: Value,
+    )
         requires sound { IsInstance plan.now self.old }
         requires found { FindsAt plan.now height (option_copied target) (functions_in (machine_of plan.now self.old)) }
         ensures machine { (p : PlanView) → machine_of p self.new ≡ changed height (frame_with_answer (option_copied target.entry) (Ok (value ∷ []))) (machine_of p self.old) }
@@ -46,7 +52,7 @@ impl InstanceParts {
     }
 
     /// Takes the values of a loop of the innermost frame.
-    pub fn take_values(
+    pub fn receive_values(
         &mut self,
         alloc: Global,
         plan: &Plan,
@@ -63,7 +69,7 @@ impl InstanceParts {
     }
 
     /// The least fault among the answers that the innermost frame took since its last sync.
-    pub fn faulted(&self) -> Option<&Fault>
+    pub fn childs_fault(&self) -> Option<&Fault>
         ensures { (plan : PlanView) → option_copied result ≡ (machine_of plan self.now).top.faulted }
     {
         self.top.faulted.as_ref()

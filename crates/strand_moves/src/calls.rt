@@ -3,7 +3,7 @@
 ghost use Rattle.std.specs.Prelude.{◌≡◌, ◌<◌, ◌≤◌, ◌+◌, ◌++◌, ◌∷◌, [], false, true, Some, None, Err, IfOk, OnErr, OnOk, length};
 ghost use Rattle.std.specs.Option.{option_copied};
 ghost use Rattle.script_grammar.specs.declared.tree.Stmt.{Stmt};
-ghost use Rattle.serial_meaning.specs.Functions.{function_at, number_of};
+ghost use Rattle.serial_meaning.specs.Functions.{function_at, function_number};
 ghost use Rattle.serial_meaning.specs.Plan.{PlanView, functions_of};
 ghost use Rattle.serial_meaning.specs.declared.event.FaultKind.{FaultKind};
 ghost use Rattle.strand_values.specs.declared.halt.Halt.TheVariants.{Fault};
@@ -75,7 +75,7 @@ impl InstanceParts {
         requires places { ArePlaces places.now plan.now }
         requires args { FindsArguments places.now self.old.top.env call.now.args }
         requires target { FindsTarget places.now self.old.top.env (option_copied target) }
-        requires number { number ≡ number_of (functions_of plan.now) call.now.name.bytes }
+        requires number { number ≡ function_number (functions_of plan.now) call.now.name.bytes }
         requires there { function_at (functions_of plan.now) number ≡ Some function.now }
         ensures shows { (st : Stmt) → Acts plan.now st (call_to (option_copied target.entry) call.now) self.old self.new (quiet result) }
         ensures same { (kind : FaultKind) → result ≡ Err (Fault kind) → self.new ≡ self.old }
@@ -89,16 +89,19 @@ impl InstanceParts {
         };
         let params = function.params.as_slice();
         let args = call.args.as_slice();
-        let env = self.top.env.called(alloc, places, names, params, args)?;
+        let env = self
+            .top
+            .env
+            .called_with(alloc, places, names, params, args)?;
         if self.below.len() >= MOST_CALLS {
             return Err(Halt::Fault(FaultKind::Calls));
         }
-        self.open(alloc, number, env, target)?;
+        self.open_call(alloc, number, env, target)?;
         Ok(())
     }
 
     /// Begins a function with these variables over the innermost frame.
-    fn open(
+    fn open_call(
         &mut self,
         alloc: Global,
         number: u32,

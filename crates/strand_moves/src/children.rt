@@ -37,7 +37,7 @@ use ped_path::{Ped, Pedigree};
 use script_grammar::{Act, Boxed, CallText, Expr, Items, Kind, Name, Right, Stmt};
 use serial_meaning::{Event, FaultKind, Origin, Plan, Value};
 use std::alloc::Global;
-use strand_values::{Halt, Target, iterations, number};
+use strand_values::{Halt, Target, iteration_count, number};
 
 impl InstanceParts {
     /// A spawn, whose child's value is to go to a variable, if any.
@@ -117,7 +117,7 @@ impl InstanceParts {
     /// A sync, written or implied.
     pub(crate) fn sync(&mut self) -> Result<MoveResult, Halt>
         requires { self.old.rank < 2 ^ 32 }
-        ensures shown { IfOk result (Shows (Emitted (event.Sync (present_of self.old ++ self.old.rank ∷ [])) ∷ sync_effects self.old.top.spawned)) }
+        ensures effects { IfOk result (Shows (Emitted (event.Sync (present_of self.old ++ self.old.rank ∷ [])) ∷ sync_effects self.old.top.spawned)) }
         ensures passed { OnOk result (self.new ≡ record self.old { rank = self.old.rank + 1; top = record self.old.top { spawned = false } }) }
         ensures fine { OnErr result (result ≡ Err halt.Memory) }
         ensures child { (plan : PlanView) → IfOk result (MovesTrail plan) }
@@ -158,7 +158,7 @@ impl InstanceParts {
         let first = number(&self.top.env.value(places, lo)?);
         let end = number(&self.top.env.value(places, hi)?);
         let rest = self.top.env.values(alloc, places, call.args.as_slice())?;
-        let count = iterations(first, end);
+        let count = iteration_count(first, end);
         self.begin_loop(plan, places, target, count)?;
         if count == 0 {
             return Ok(MoveResult::Went(self.pass_loop(alloc, places, target)?));
@@ -177,7 +177,7 @@ impl InstanceParts {
         Ok(MoveResult::Went(self.hand_loop(alloc, places, target, child)?))
     }
 
-    /// The steps of a loop of so many iterations, the room of its target, and the depth of its iterations.
+    /// The steps of a loop of so many iteration_count, the room of its target, and the depth of its iteration_count.
     fn begin_loop(
         &mut self,
         plan: &Plan,
@@ -213,7 +213,7 @@ impl InstanceParts {
     ) -> Result<Effects, Memory>
         requires rank { self.old.rank < 2 ^ 32 }
         requires target { FindsTarget places.now self.old.top.env target.now }
-        ensures shown { IfOk result (λ s. s ≡ effect.Emitted (event.Loop (present_of self.old ++ self.old.rank ∷ []))) }
+        ensures effects { IfOk result (λ s. s ≡ effect.Emitted (event.Loop (present_of self.old ++ self.old.rank ∷ []))) }
         ensures passed { OnOk result (self.new ≡ record self.old { rank = self.old.rank + 1; top = record self.old.top { env = with_variables self.old.top.env (with_loop_values target.now [] self.old.top.env.variables) } }) }
         ensures stays { Stays self.old self.new }
         ensures few { Costs self.old self.new }
@@ -235,7 +235,7 @@ impl InstanceParts {
     ) -> Result<Effects, Memory>
         requires rank { self.old.rank < 2 ^ 32 }
         requires target { FindsTarget places.now self.old.top.env target.now }
-        ensures shown { IfOk result (λ s. s ≡ effect.Looped (event.Loop (present_of self.old ++ self.old.rank ∷ [])) (record { child = child; target = target.now })) }
+        ensures effects { IfOk result (λ s. s ≡ effect.Looped (event.Loop (present_of self.old ++ self.old.rank ∷ [])) (record { child = child; target = target.now })) }
         ensures passed { OnOk result (self.new ≡ record self.old { rank = self.old.rank + 1; top = record self.old.top { env = with_variables self.old.top.env (with_loop_values target.now [] self.old.top.env.variables) } }) }
         ensures stays { Stays self.old self.new }
         ensures few { Costs self.old self.new }
@@ -314,7 +314,7 @@ fn spawn_in<'a>(statement: &'a Stmt) -> Option<(Option<&'a Name>, &'a CallText)>
 }
 
 /// A spawn, as a move.
-pub(crate) fn handed(alloc: Global, done: Result<Spawning, Halt>) -> Result<MoveResult, Halt>
+pub(crate) fn spawn_as_move(alloc: Global, done: Result<Spawning, Halt>) -> Result<MoveResult, Halt>
     ensures { IsHanded done result }
 {
     match done {

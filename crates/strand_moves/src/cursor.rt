@@ -5,7 +5,7 @@ ghost use Rattle.script_grammar.specs.declared.tree.Stmt.{Stmt, out-Stmt};
 ghost use Rattle.script_grammar.specs.declared.tree.Act.{out-Act};
 ghost use Rattle.strand_moves.specs.declared.cursor.Branch.TheVariants as branch;
 ghost use Rattle.strand_moves.specs.Quick.{is_fork};
-ghost use Rattle.strand_moves.specs.Cursors.{branch_of, block_in, block_of, left_of, scope_after, scope_of, IsAfterStatement, PassesStatement};
+ghost use Rattle.strand_moves.specs.Cursors.{branch_of, block_in, block_of, statements_left, scope_after, scope_of, IsAfterStatement, PassesStatement};
 
 use crate::memory::Memory;
 use crate::narrow::narrowed;
@@ -102,8 +102,8 @@ fn innermost<'a>(body: &'a [Stmt], entered: &[Entered]) -> &'a [Stmt]
 
 impl Cursor {
     /// Before a body's first statement.
-    pub(crate) fn start(alloc: Global) -> Cursor
-        ensures { (body : List Stmt) → left_of body result ≡ body }
+    pub(crate) fn new(alloc: Global) -> Cursor
+        ensures { (body : List Stmt) → statements_left body result ≡ body }
     {
         Cursor {
             entered: SmallVec::new(alloc),
@@ -136,11 +136,11 @@ impl Cursor {
     }
 
     /// Goes after the next statement of this body, and gives it.
-    pub(crate) fn pass<'a>(&mut self, body: &'a [Stmt]) -> Option<&'a Stmt>
-        ensures { MatchOption result ((left_of body.now self.old ≡ []) × (left_of body.now self.new ≡ [])) (λ st. PassesStatement body.now self.old self.new st.now) }
+    pub(crate) fn pass_next<'a>(&mut self, body: &'a [Stmt]) -> Option<&'a Stmt>
+        ensures { MatchOption result ((statements_left body.now self.old ≡ []) × (statements_left body.now self.new ≡ [])) (λ st. PassesStatement body.now self.old self.new st.now) }
     {
         let block = self.block(body);
-        match self.pass_on(body, block) {
+        match self.pass_statement(body, block) {
             Some(passed) => Some(passed.0),
             None => None,
         }
@@ -154,7 +154,7 @@ impl Cursor {
         block: &'a [Stmt],
     ) -> Option<(&'a Stmt, &'a [Stmt])>
         requires { block.now ≡ block_of body.now self.old.entered.items }
-        ensures { MatchOption result ((left_of body.now self.old ≡ []) × (left_of body.now self.new ≡ [])) (λ r. PassesStatement body.now self.old self.new r.0.now × (r.1.now ≡ block_of body.now self.new.entered.items)) }
+        ensures { MatchOption result ((statements_left body.now self.old ≡ []) × (statements_left body.now self.new ≡ [])) (λ r. PassesStatement body.now self.old self.new r.0.now × (r.1.now ≡ block_of body.now self.new.entered.items)) }
     {
         if let Some(statement) = block.get(self.next) {
             self.next += 1;
@@ -163,14 +163,18 @@ impl Cursor {
         if self.entered.as_slice().is_empty() {
             return None;
         }
-        self.pass_on(body, block)
+        self.pass_statement(body, block)
     }
 
     /// The same, also where no statement of that block is left.
     #[inline(always)]
-    fn pass_on<'a>(&mut self, body: &'a [Stmt], block: &'a [Stmt]) -> Option<(&'a Stmt, &'a [Stmt])>
+    fn pass_statement<'a>(
+        &mut self,
+        body: &'a [Stmt],
+        block: &'a [Stmt],
+    ) -> Option<(&'a Stmt, &'a [Stmt])>
         requires { block.now ≡ block_of body.now self.old.entered.items }
-        ensures { MatchOption result ((left_of body.now self.old ≡ []) × (left_of body.now self.new ≡ [])) (λ r. PassesStatement body.now self.old self.new r.0.now × (r.1.now ≡ block_of body.now self.new.entered.items)) }
+        ensures { MatchOption result ((statements_left body.now self.old ≡ []) × (statements_left body.now self.new ≡ [])) (λ r. PassesStatement body.now self.old self.new r.0.now × (r.1.now ≡ block_of body.now self.new.entered.items)) }
     {
         let mut block = block;
         loop {
@@ -187,7 +191,7 @@ impl Cursor {
     }
 
     /// The block of the scope after which the cursor stands, and no statements where it stands after none.
-    pub(crate) fn scope<'a>(&self, body: &'a [Stmt]) -> &'a [Stmt]
+    pub(crate) fn scope_block<'a>(&self, body: &'a [Stmt]) -> &'a [Stmt]
         ensures { result.now ≡ scope_after body.now self.now }
     {
         let block = innermost(body, self.entered.as_slice());
@@ -199,7 +203,7 @@ impl Cursor {
 
     /// Goes back before the statement after which the cursor stands.
     pub(crate) fn back(&mut self)
-        ensures { (body : List Stmt) (st : Stmt) → IsAfterStatement body self.old st → left_of body self.new ≡ st ∷ left_of body self.old }
+        ensures { (body : List Stmt) (st : Stmt) → IsAfterStatement body self.old st → statements_left body self.new ≡ st ∷ statements_left body self.old }
     {
         self.next = self.next.saturating_sub(1);
     }
@@ -207,7 +211,7 @@ impl Cursor {
     /// Enters a block of the `if` after which the cursor stands.
     pub(crate) fn enter(&mut self, yes: bool) -> Result<(), Memory>
         ensures { IfOk result (λ _. (body : List Stmt) (st : Stmt) → IsAfterStatement body self.old st →
-            left_of body self.new ≡ branch_of (out-Act (out-Stmt st).act) (if yes then branch.Yes else branch.No) ++ left_of body self.old) }
+            statements_left body self.new ≡ branch_of (out-Act (out-Stmt st).act) (if yes then branch.Yes else branch.No) ++ statements_left body self.old) }
     {
         let back = narrowed(self.next)?;
         self.entered.push(Entered {
@@ -221,7 +225,7 @@ impl Cursor {
     /// Enters the body of the loop after which the cursor stands. The loop is left again after it.
     pub(crate) fn enter_loop(&mut self) -> Result<(), Memory>
         ensures { IfOk result (λ _. (body : List Stmt) (st : Stmt) → IsAfterStatement body self.old st →
-            left_of body self.new ≡ branch_of (out-Act (out-Stmt st).act) branch.LoopBody ++ (st ∷ left_of body self.old)) }
+            statements_left body self.new ≡ branch_of (out-Act (out-Stmt st).act) branch.LoopBody ++ (st ∷ statements_left body self.old)) }
     {
         let back = narrowed(self.next.saturating_sub(1))?;
         self.entered.push(Entered {

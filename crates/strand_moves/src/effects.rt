@@ -62,10 +62,10 @@ pub enum Effects {
 /// How a move ended.
 #[derive(Drop)]
 pub enum MoveResult {
-    /// The instance goes on, or waits where that was shown.
+    /// The instance goes on, or waits where that is the effect.
     Went(Effects),
-    /// The instance ended with this value. Nothing was shown.
+    /// The instance ended with this value, without an effect.
     Returned(Value),
-    /// The instance ended by a fault of its own. Nothing was shown.
+    /// The instance ended by a fault of its own, without an effect.
     Faulted(Fault),
 }

@@ -44,12 +44,12 @@ pub(crate) struct Frame {
 }
 
 impl Frame {
-    ghost use Rattle.strand_moves.specs.Cursors.{left_of};
+    ghost use Rattle.strand_moves.specs.Cursors.{statements_left};
 
     /// A function with these variables before its first statement.
     pub(crate) fn new(alloc: Global, number: u32, env: Environment, target: Option<Target>) -> Frame
         ensures function { result.function ≡ number }
-        ensures left { (body : List Stmt) → left_of body result.cursor ≡ body }
+        ensures left { (body : List Stmt) → statements_left body result.cursor ≡ body }
         ensures levels { result.levels.items ≡ [] }
         ensures returning { result.returning ≡ false }
         ensures env { result.env ≡ env }
@@ -62,7 +62,7 @@ impl Frame {
             returning: false,
             spawned: false,
             levels: Vec::new(alloc),
-            cursor: Cursor::start(alloc),
+            cursor: Cursor::new(alloc),
             env,
             faulted: None,
             target,
@@ -85,7 +85,7 @@ fn inside<'a>(body: &'a [Stmt], levels: &[Level]) -> &'a [Stmt]
 {
     let mut block = body;
     for level in levels {
-        block = level.cursor.scope(block);
+        block = level.cursor.scope_block(block);
     }
     block
 }

@@ -4,7 +4,7 @@ ghost use Rattle.std.specs.Prelude.{◌≡◌, ◌<◌, [], ◌∷◌, Some, Ok,
 ghost use Rattle.std.specs.Option.{option_copied};
 ghost use Rattle.dotmix.specs.Trails.{FitsGamma};
 ghost use Rattle.serial_meaning.specs.Plan.{PlanView, functions_of};
-ghost use Rattle.strand_meaning.specs.Machine.{Stands, begun, move};
+ghost use Rattle.strand_meaning.specs.Machine.{Stands, function_begun, move};
 ghost use Rattle.strand_meaning.specs.Found.{FindsAt, FindsInnermost, functions_in};
 ghost use Rattle.strand_meaning.specs.Task.{frame_with_answer, changed, with_values};
 
@@ -42,7 +42,7 @@ impl Instance {
         requires there { function < length (functions_of plan.now) }
         requires fits { FitsGamma plan.now.gamma trail }
         requires within { length trail.path < plan.now.limits.depth }
-        ensures begins { IfOk result (λ i. begun plan.now function args.now ≡ Stands (machine_of plan.now i)) }
+        ensures begins { IfOk result (λ i. function_begun plan.now function args.now ≡ Stands (machine_of plan.now i)) }
         ensures path { IfOk result (λ i. path_of i ≡ trail.path) }
         ensures sound { IfOk result (IsInstance plan.now) }
     {
@@ -53,7 +53,7 @@ impl Instance {
     /// One move. Where there was no memory for it the instance is of no more use.
     pub fn make_move(&mut self, alloc: Global, plan: &Plan) -> Result<MoveResult, Memory>
         requires { IsInstance plan.now self.old }
-        ensures moves { IfOk result (λ moved. move plan.now (path_of self.old) (machine_of plan.now self.old) ≡ run_of moved (machine_of plan.now self.new)) }
+        ensures moves { IfOk result (λ move_result. move plan.now (path_of self.old) (machine_of plan.now self.old) ≡ run_of move_result (machine_of plan.now self.new)) }
         ensures child { IfOk result (MovesTrail plan.now) }
         ensures path { IfOk result (λ _. path_of self.new ≡ path_of self.old) }
         ensures sound { IfOk result (λ _. IsInstance plan.now self.new) }
@@ -101,7 +101,7 @@ impl Instance {
     ) -> Result<MoveResult, Memory>
         requires sound { IsInstance plan.now self.old }
         requires passed { HasPassedStatement plan.now self.old (option_copied next) }
-        ensures moves { IfOk result (λ moved. move plan.now (path_of self.old) (unpassed plan.now self.old (option_copied next.entry)) ≡ run_of moved (machine_of plan.now self.new)) }
+        ensures moves { IfOk result (λ move_result. move plan.now (path_of self.old) (unpassed plan.now self.old (option_copied next.entry)) ≡ run_of move_result (machine_of plan.now self.new)) }
         ensures child { IfOk result (MovesTrail plan.now) }
         ensures path { IfOk result (λ _. path_of self.new ≡ path_of self.old) }
         ensures sound { IfOk result (λ _. IsInstance plan.now self.new) }
@@ -131,27 +131,33 @@ impl Instance {
     }
 
     /// Takes the fault of a child of the frame with `height` others below it.
-    pub fn take_fault(&mut self, height: usize, fault: Fault)
+    pub fn receive_fault(&mut self, height: usize, fault: Fault)
         ensures machine { (plan : PlanView) (target : _) → machine_of plan self.new ≡ changed height (frame_with_answer target (Err fault)) (machine_of plan self.old) }
         ensures path { path_of self.new ≡ path_of self.old }
         ensures sound { (plan : PlanView) → IsInstance plan self.old → IsInstance plan self.new }
     {
-        self.parts.take_fault(height, fault);
+        self.parts.receive_fault(height, fault);
     }
 
     /// Takes the value of a child of the frame with `height` others below it. A variable that isn't there doesn't come to be.
-    pub fn take_value(&mut self, plan: &Plan, height: usize, target: Option<&Target>, value: Value)
+    pub fn receive_value(
+        &mut self,
+        plan: &Plan,
+        height: usize,
+        target: Option<&Target>,
+        value: Value,
+    )
         requires sound { IsInstance plan.now self.old }
         requires found { FindsAt plan.now height (option_copied target) (functions_in (machine_of plan.now self.old)) }
         ensures machine { (p : PlanView) → machine_of p self.new ≡ changed height (frame_with_answer (option_copied target.entry) (Ok (value ∷ []))) (machine_of p self.old) }
         ensures path { path_of self.new ≡ path_of self.old }
         ensures sound { (p : PlanView) → IsInstance p self.old → IsInstance p self.new }
     {
-        self.parts.take_value(plan, height, target, value);
+        self.parts.receive_value(plan, height, target, value);
     }
 
     /// Takes the values of a loop of the innermost frame.
-    pub fn take_values(
+    pub fn receive_values(
         &mut self,
         alloc: Global,
         plan: &Plan,
@@ -164,13 +170,13 @@ impl Instance {
         ensures path { path_of self.new ≡ path_of self.old }
         ensures sound { (p : PlanView) → IsInstance p self.old → IsInstance p self.new }
     {
-        self.parts.take_values(alloc, plan, target, values);
+        self.parts.receive_values(alloc, plan, target, values);
     }
 
     /// The least fault among the answers that the innermost frame took since its last sync.
-    pub fn faulted(&self) -> Option<&Fault>
+    pub fn childs_fault(&self) -> Option<&Fault>
         ensures { (plan : PlanView) → option_copied result ≡ (machine_of plan self.now).top.faulted }
     {
-        self.parts.faulted()
+        self.parts.childs_fault()
     }
 }

@@ -4,7 +4,7 @@ ghost use Rattle.std.specs.Prelude.{◌≡◌, ◌<◌, ◌+◌, ◌^◌, ◌++�
 ghost use Rattle.std.specs.Option.{option_copied};
 ghost use Rattle.dotmix.specs.Trails.{FitsGamma};
 ghost use Rattle.serial_meaning.specs.Plan.{functions_of};
-ghost use Rattle.strand_meaning.specs.Machine.{Stands, begun, move};
+ghost use Rattle.strand_meaning.specs.Machine.{Stands, function_begun, move};
 
 use crate::effects::MoveResult;
 use crate::frame::Frame;
@@ -32,7 +32,7 @@ pub(crate) struct InstanceParts {
 }
 
 impl InstanceParts {
-    ghost use Rattle.strand_moves.specs.Acts.{Keeps};
+    ghost use Rattle.strand_moves.specs.Acts.{KeepsInstance};
     ghost use Rattle.strand_moves.specs.InstanceParts.{IsInstance, machine_of, path_of, present_of};
     ghost use Rattle.strand_moves.specs.Moves.{run_of, Makes, MovesTrail, present_pedigree};
     ghost use Rattle.strand_moves.specs.Rows.{HasPassedStatement, unpassed};
@@ -49,7 +49,7 @@ impl InstanceParts {
         requires there { function < length (functions_of plan.now) }
         requires fits { FitsGamma plan.now.gamma trail }
         requires within { length trail.path < plan.now.limits.depth }
-        ensures begins { IfOk result (λ i. begun plan.now function args.now ≡ Stands (machine_of plan.now i.value)) }
+        ensures begins { IfOk result (λ i. function_begun plan.now function args.now ≡ Stands (machine_of plan.now i.value)) }
         ensures path { IfOk result (λ i. path_of i.value ≡ trail.path) }
         ensures sound { IfOk result (λ i. IsInstance plan.now i.value) }
     {
@@ -80,13 +80,13 @@ impl InstanceParts {
     /// One move. Where there was no memory for it the instance is of no more use.
     pub fn make_move(&mut self, alloc: Global, plan: &Plan) -> Result<MoveResult, Memory>
         requires { IsInstance plan.now self.old }
-        ensures moves { IfOk result (λ moved. move plan.now (path_of self.old) (machine_of plan.now self.old) ≡ run_of moved (machine_of plan.now self.new)) }
+        ensures moves { IfOk result (λ move_result. move plan.now (path_of self.old) (machine_of plan.now self.old) ≡ run_of move_result (machine_of plan.now self.new)) }
         ensures child { IfOk result (MovesTrail plan.now) }
         ensures path { IfOk result (λ _. path_of self.new ≡ path_of self.old) }
         ensures sound { IfOk result (λ _. IsInstance plan.now self.new) }
     {
         let text = self.top.statements(plan);
-        match self.top.cursor.pass(text) {
+        match self.top.cursor.pass_next(text) {
             Some(statement) => self.make(alloc, plan, Some(statement)),
             None => self.make(alloc, plan, None),
         }
@@ -102,14 +102,14 @@ impl InstanceParts {
     ) -> Result<MoveResult, Memory>
         requires sound { IsInstance plan.now self.old }
         requires passed { HasPassedStatement plan.now self.old (option_copied next) }
-        ensures moves { IfOk result (λ moved. move plan.now (path_of self.old) (unpassed plan.now self.old (option_copied next.entry)) ≡ run_of moved (machine_of plan.now self.new)) }
+        ensures moves { IfOk result (λ move_result. move plan.now (path_of self.old) (unpassed plan.now self.old (option_copied next.entry)) ≡ run_of move_result (machine_of plan.now self.new)) }
         ensures child { IfOk result (MovesTrail plan.now) }
         ensures path { IfOk result (λ _. path_of self.new ≡ path_of self.old) }
         ensures sound { IfOk result (λ _. IsInstance plan.now self.new) }
     {
         let rank = self.rank;
         match self.act(alloc, plan, next) {
-            Ok(moved) => Ok(moved),
+            Ok(move_result) => Ok(move_result),
             Err(Halt::Fault(kind)) => {
                 let path = self.trail.path.share()?;
                 let at = Pedigree { path, rank };
@@ -125,7 +125,7 @@ impl InstanceParts {
         requires passed { HasPassedStatement plan.now self.old (option_copied next) }
         ensures moves { Makes (move plan.now (path_of self.old) (unpassed plan.now self.old (option_copied next.entry))) (present_pedigree (present_of self.old) (machine_of plan.now self.old)) (machine_of plan.now self.new) result }
         ensures child { IfOk result (MovesTrail plan.now) }
-        ensures keeps { Keeps plan.now self.old self.new result }
+        ensures keeps { KeepsInstance plan.now self.old self.new result }
     {
         match next {
             Some(statement) => self.statement(alloc, plan, plan.places(), statement),

@@ -9,7 +9,7 @@ ghost use Rattle.serial_meaning.specs.Plan.{PlanView};
 ghost use Rattle.strand_values.specs.Environments.{FindsName};
 ghost use Rattle.strand_moves.specs.Found.{ArePlaces, FindsRight, FindsRightVariables, FindsStatement, FindsVariables};
 ghost use Rattle.strand_moves.specs.Acts.{Costs, Stays};
-ghost use Rattle.strand_moves.specs.Cursors.{left_of};
+ghost use Rattle.strand_moves.specs.Cursors.{statements_left};
 ghost use Rattle.strand_moves.specs.InstanceParts.{IsInstance, IsStrand, KeepsNames, statements_of};
 ghost use Rattle.strand_moves.specs.Quick.{HasCalled, HasEmitted, EndsFrame, HasGone, IsDone, IsQuiet, IsEmittedTo, IsWent, StaysThere, emitted, is_fork, quiet, emitted_if_any};
 ghost use Rattle.strand_moves.specs.Rows.{ComesToStatement};
@@ -54,7 +54,7 @@ pub(crate) fn emitted(done: Result<Event, Halt>) -> Result<MoveResult, Halt>
     }
 }
 
-/// Whether an event was shown, and not a fault met. The event goes to the sink.
+/// Whether an event is the effect, and not a fault. The event goes to the sink.
 #[inline(always)]
 fn sent<S: EventSink>(
     alloc: Global,
@@ -201,7 +201,7 @@ impl InstanceParts {
         sink: &mut S,
     ) -> Result<bool, Memory>
         requires instance { IsInstance plan.now self.old }
-        requires none { left_of (statements_of plan.now self.old.top) self.old.top.cursor ≡ [] }
+        requires none { statements_left (statements_of plan.now self.old.top) self.old.top.cursor ≡ [] }
         ensures did { IfOk result (EndsFrame S.after plan.now self.old sink.old self.new sink.new) }
     {
         if self.leaving || !self.top.levels.as_slice().is_empty() {

@@ -14,7 +14,7 @@ ghost use Rattle.strand_moves.specs.InstanceParts.{IsStrand, KeepsNames};
 ghost use Rattle.strand_moves.specs.Moves.{MovesTrail};
 ghost use Rattle.strand_moves.specs.Quick.{StaysThere, emitted, quiet};
 
-use crate::children::handed;
+use crate::children::spawn_as_move;
 use crate::effects::MoveResult;
 use crate::instance_parts::InstanceParts;
 use crate::quick::{emitted, quiet};
@@ -49,7 +49,7 @@ impl InstanceParts {
             Right::Draw(_) => emitted(self.draw(plan, places, x)),
             Right::New(_) => emitted(self.make_object(places, x)),
             Right::Call(_, c) => quiet(self.call(alloc, plan, places, Some(x), c)),
-            Right::Spawn(_, c) => handed(alloc, self.spawn(alloc, plan, places, Some(x), c)),
+            Right::Spawn(_, c) => spawn_as_move(alloc, self.spawn(alloc, plan, places, Some(x), c)),
         }
     }
 

@@ -10,8 +10,8 @@ ghost use Rattle.serial_meaning.specs.declared.event.FaultKind.{FaultKind};
 ghost use Rattle.strand_meaning.specs.Machine.{Emitted, end_move, sync_effects};
 ghost use Rattle.strand_values.specs.declared.halt.Halt.TheVariants as halt;
 ghost use Rattle.strand_values.specs.declared.halt.Halt.TheVariants.{Fault};
-ghost use Rattle.strand_moves.specs.Acts.{Acts, GoesIn, Keeps};
-ghost use Rattle.strand_moves.specs.Cursors.{IsAfterStatement, left_of};
+ghost use Rattle.strand_moves.specs.Acts.{Acts, GoesIn, KeepsInstance};
+ghost use Rattle.strand_moves.specs.Cursors.{IsAfterStatement, statements_left};
 ghost use Rattle.strand_moves.specs.InstanceParts.{IsInstance, IsStrand, KeepsNames, machine_of, path_of, present_of, statements_of};
 ghost use Rattle.strand_moves.specs.Moves.{Makes, MovesTrail, Shows, present_pedigree};
 ghost use Rattle.strand_moves.specs.declared.effects.Effects.TheVariants as effect;
@@ -50,13 +50,13 @@ impl InstanceParts {
     /// Goes on at rank 0 in the block of the scope after which the cursor stands, on the path of this trail.
     fn go_in(&mut self, alloc: Global, inner: Trail) -> Result<(), Memory>
         ensures levels { OnOk result (self.new.top.levels.items ≡ self.old.top.levels.items ++ record { trail = self.old.trail; rank = self.old.rank; cursor = self.old.top.cursor } ∷ []) }
-        ensures starts { (body : List Stmt) → left_of body self.new.top.cursor ≡ body }
+        ensures starts { (body : List Stmt) → statements_left body self.new.top.cursor ≡ body }
         ensures others { self.new ≡ record self.old { trail = inner; rank = 0; top = record self.old.top { levels = self.new.top.levels; cursor = self.new.top.cursor } } }
     {
         let level = Level {
             trail: mem::replace(&mut self.trail, inner),
             rank: mem::replace(&mut self.rank, 0),
-            cursor: mem::replace(&mut self.top.cursor, Cursor::start(alloc)),
+            cursor: mem::replace(&mut self.top.cursor, Cursor::new(alloc)),
         };
         self.top.levels.push(level)?;
         Ok(())
@@ -65,11 +65,11 @@ impl InstanceParts {
     /// Where no statement is left in the innermost block: the end of a scope, or of the frame.
     pub(crate) fn end_block(&mut self, plan: &Plan) -> Result<MoveResult, Halt>
         requires instance { IsInstance plan.now self.old }
-        requires none { left_of (statements_of plan.now self.old.top) self.old.top.cursor ≡ [] }
+        requires none { statements_left (statements_of plan.now self.old.top) self.old.top.cursor ≡ [] }
         ensures shows { let m = machine_of plan.now self.old in
             Makes (end_move plan.now (path_of self.old) m m.top.levels) (present_pedigree (present_of self.old) m) (machine_of plan.now self.new) result }
         ensures child { IfOk result (MovesTrail plan.now) }
-        ensures keeps { Keeps plan.now self.old self.new result }
+        ensures keeps { KeepsInstance plan.now self.old self.new result }
     {
         if self.leaving {
             return match self.top.levels.pop() {
@@ -89,7 +89,7 @@ impl InstanceParts {
     /// The sync at the end of the innermost scope.
     fn join_scope(&mut self) -> Result<MoveResult, Halt>
         requires { self.old.rank < 2 ^ 32 }
-        ensures shown { IfOk result (Shows (Emitted (event.Sync (present_of self.old ++ self.old.rank ∷ [])) ∷ sync_effects self.old.top.spawned)) }
+        ensures effects { IfOk result (Shows (Emitted (event.Sync (present_of self.old ++ self.old.rank ∷ [])) ∷ sync_effects self.old.top.spawned)) }
         ensures passed { OnOk result (self.new ≡ record self.old { rank = self.old.rank + 1; leaving = true; top = record self.old.top { spawned = false } }) }
         ensures fine { OnErr result (result ≡ Err halt.Memory) }
         ensures child { (plan : PlanView) → IfOk result (MovesTrail plan) }
@@ -101,7 +101,7 @@ impl InstanceParts {
     /// Goes on after this scope, at the next rank of the path around it.
     fn go_out(&mut self, level: Level) -> Result<Effects, Memory>
         requires { level.rank < 2 ^ 32 }
-        ensures shown { IfOk result (λ s. s ≡ effect.Closed (level.trail.path ++ level.rank ∷ [])) }
+        ensures effects { IfOk result (λ s. s ≡ effect.Closed (level.trail.path ++ level.rank ∷ [])) }
         ensures passed { OnOk result (self.new ≡ record self.old { trail = level.trail; rank = level.rank + 1; leaving = false; top = record self.old.top { cursor = level.cursor } }) }
     {
         let Level {

@@ -10,20 +10,20 @@ ghost use Rattle.strand_meaning.specs.Machine.{statement_move};
 ghost use Rattle.strand_values.specs.declared.halt.Halt.TheVariants.{Fault};
 ghost use Rattle.strand_values.specs.Environments.{FindsExpression, FindsName};
 ghost use Rattle.strand_moves.specs.Found.{ArePlaces, FindsStatement};
-ghost use Rattle.strand_moves.specs.Acts.{Acts, Costs, Keeps, Stays};
+ghost use Rattle.strand_moves.specs.Acts.{Acts, Costs, KeepsInstance, Stays};
 ghost use Rattle.strand_moves.specs.Cursors.{IsAfterStatement};
 ghost use Rattle.strand_moves.specs.InstanceParts.{IsInstance, KeepsNames, machine_of, path_of, present_of, statements_of};
 ghost use Rattle.strand_moves.specs.Moves.{Makes, MovesTrail, present_pedigree};
 ghost use Rattle.strand_moves.specs.Quick.{StaysThere, emitted, quiet};
 
-use crate::children::handed;
+use crate::children::spawn_as_move;
 use crate::effects::MoveResult;
 use crate::instance_parts::InstanceParts;
 use crate::quick::{emitted, quiet};
 use script_grammar::{Act, Expr, Name, Number, Stmt};
 use serial_meaning::{Event, FaultKind, Plan};
 use std::alloc::Global;
-use strand_values::{Halt, count};
+use strand_values::{Halt, count_of};
 
 impl InstanceParts {
     /// A statement, after which the cursor stands: its step, and then what it does.
@@ -42,7 +42,7 @@ impl InstanceParts {
         ensures shows { let m = machine_of plan.now self.old in
             Makes (statement_move plan.now (path_of self.old) m statement.now m.top.left) (present_pedigree (present_of self.old) m) (machine_of plan.now self.new) result }
         ensures child { IfOk result (MovesTrail plan.now) }
-        ensures keeps { Keeps plan.now self.old self.new result }
+        ensures keeps { KeepsInstance plan.now self.old self.new result }
     {
         self.pay()?;
         match &statement.act {
@@ -50,7 +50,7 @@ impl InstanceParts {
             Act::Array(x, n) => quiet(self.array(alloc, places, x, *n)),
             Act::Set(x, r) => self.assign(alloc, plan, places, x, r),
             Act::Store(x, i, e) => quiet(self.store(places, x, i, e)),
-            Act::Spawn(c) => handed(alloc, self.spawn(alloc, plan, places, None, c)),
+            Act::Spawn(c) => spawn_as_move(alloc, self.spawn(alloc, plan, places, None, c)),
             Act::Call(c) => quiet(self.call(alloc, plan, places, None, c)),
             Act::Sync => self.wait(),
             Act::Print(e) => emitted(self.print(places, e)),
@@ -83,7 +83,7 @@ impl InstanceParts {
         ensures few { Costs self.old self.new }
         ensures named { (plan : PlanView) → KeepsNames plan self.old self.new }
     {
-        self.top.env.set_array(alloc, places, x, count(n.value))?;
+        self.top.env.set_array(alloc, places, x, count_of(n.value))?;
         Ok(())
     }
 

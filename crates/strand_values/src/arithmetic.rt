@@ -44,14 +44,14 @@ pub(crate) fn compare(how: Comparison, x: i64, y: i64) -> bool
 }
 
 /// A number that isn't negative, and 0 for the others.
-pub fn count(number: i64) -> u64
+pub fn count_of(number: i64) -> u64
     ensures { result ≡ count_of number }
 {
     if number < 0 { 0 } else { number as u64 }
 }
 
 /// How many integers there are from `lo` on and below `hi`.
-pub fn iterations(lo: i64, hi: i64) -> u64
+pub fn iteration_count(lo: i64, hi: i64) -> u64
     ensures { result ≡ count_of (hi -ℤ lo) }
 {
     if lo < hi { hi.abs_diff(lo) } else { 0 }

@@ -84,7 +84,7 @@ impl Environment {
     }
 
     /// The parameters with the values of a call's arguments in these variables, as far as there are both, or the fault that is met first.
-    pub fn called(
+    pub fn called_with(
         &self,
         alloc: Global,
         places: &[u16],

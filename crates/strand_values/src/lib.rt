@@ -15,7 +15,7 @@ mod target;
 mod value;
 mod variables;
 
-pub use arithmetic::{count, iterations};
+pub use arithmetic::{count_of, iteration_count};
 pub use environment::Environment;
 pub use halt::Halt;
 pub use memory::Memory;

@@ -77,7 +77,7 @@ fn first_operand(env: &Environment, places: &[u16], e: &Expr) -> Option<i64>
 {
     match e {
         Expr::Number(number) => Some(number.value),
-        Expr::Var(name) => Some(env.number_of(places, name)),
+        Expr::Var(name) => Some(env.integer_or_zero(places, name)),
         Expr::Product(first, rest) => scaled(env, places, first.get(), rest.as_slice()),
         _ => None,
     }
@@ -91,7 +91,7 @@ fn leaf(env: &Environment, places: &[u16], e: &Expr) -> Option<i64>
 {
     match e {
         Expr::Number(number) => Some(number.value),
-        Expr::Var(name) => Some(env.number_of(places, name)),
+        Expr::Var(name) => Some(env.integer_or_zero(places, name)),
         _ => None,
     }
 }

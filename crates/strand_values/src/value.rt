@@ -84,7 +84,7 @@ pub(crate) fn integer(env: &Environment, places: &[u16], e: &Expr) -> Result<i64
 {
     match e {
         Expr::Number(number) => Ok(number.value),
-        Expr::Var(name) => Ok(env.number_of(places, name)),
+        Expr::Var(name) => Ok(env.integer_or_zero(places, name)),
         Expr::Item(name, index) => item_at(env, places, name, index.get()),
         Expr::Neg(_, operand) => negated(env, places, operand.get()),
         Expr::Same(_, left, right) => match value(env, places, left.get()) {
@@ -119,7 +119,7 @@ fn operand(env: &Environment, places: &[u16], e: &Expr) -> Result<i64, Halt>
 {
     match e {
         Expr::Number(number) => Ok(number.value),
-        Expr::Var(name) => Ok(env.number_of(places, name)),
+        Expr::Var(name) => Ok(env.integer_or_zero(places, name)),
         _ => integer(env, places, e),
     }
 }

@@ -39,7 +39,7 @@ impl Environment {
 
     /// The number that a scalar counts as.
     #[inline(always)]
-    pub(crate) fn number_of(&self, places: &[u16], name: &Name) -> i64
+    pub(crate) fn integer_or_zero(&self, places: &[u16], name: &Name) -> i64
         requires { FindsName places.now self.now name.now }
         ensures { result ≡ as_integer (scalar (slot_of self.now.variables name.now.bytes)) }
     {

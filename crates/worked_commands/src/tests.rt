@@ -44,7 +44,7 @@ const FAULTY_CHILD: &str =
 const FAULT_BEFORE_ANOTHER: &str =
     "fn bad() { let z = 0; return 1 / z; } fn ok() { return 1; } fn main() { spawn bad(); spawn ok(); sync; return 0; }";
 
-// Each turn awaits the child of the turn before.
+// Each iteration awaits the child of the one before.
 const PENDING_SYNCED: &str =
     "fn f() { return 1; } fn main() { let x = 0; let i = 0; while i < 2 { sync; x = x + 1; x = spawn f(); i = i + 1; } sync; print x; return 0; }";
 
@@ -65,7 +65,7 @@ fn same<A: PartialEq + Debug + Drop>(
 
 /// How a call ended: its status, and what stands in its sinks.
 #[derive(Drop)]
-struct Told {
+struct Printed {
     code: u8,
     out: String,
     err: String,
@@ -87,8 +87,8 @@ fn text_of(alloc: Global, sink: &MemSink) -> Result<String, Fail> {
     Ok(String::from_utf8(sink.bytes().to_vec(alloc)?)?)
 }
 
-fn ended(alloc: Global, code: u8, out: &MemSink, err: &MemSink) -> Result<Told, Fail> {
-    Ok(Told {
+fn ended(alloc: Global, code: u8, out: &MemSink, err: &MemSink) -> Result<Printed, Fail> {
+    Ok(Printed {
         code,
         out: text_of(alloc, out)?,
         err: text_of(alloc, err)?,
@@ -104,7 +104,7 @@ fn call<R: Host, G: Gate + Sync>(
     reads: Vec<u64>,
     writes: Vec<u64>,
     gate: &G,
-) -> Result<Told, Fail> {
+) -> Result<Printed, Fail> {
     let alloc = rt.alloc();
     let step = step.max(1);
     let mut source = MemSource::new(script, step, reads);
@@ -116,7 +116,7 @@ fn call<R: Host, G: Gate + Sync>(
 }
 
 // A call in which nothing fails.
-fn plain<R: Host>(rt: &R, line: &str, script: &[u8]) -> Result<Told, Fail> {
+fn plain<R: Host>(rt: &R, line: &str, script: &[u8]) -> Result<Printed, Fail> {
     guarded(rt, line, script, &OpenGate)
 }
 
@@ -126,7 +126,7 @@ fn guarded<R: Host, G: Gate + Sync>(
     line: &str,
     script: &[u8],
     gate: &G,
-) -> Result<Told, Fail> {
+) -> Result<Printed, Fail> {
     let alloc = rt.alloc();
     let script = script.to_vec(alloc)?;
     call(
@@ -141,10 +141,10 @@ fn guarded<R: Host, G: Gate + Sync>(
 }
 
 // The call of this line ended with this status, and this stands in its sinks.
-fn compare(rt: &impl Abort, line: &str, told: &Told, code: u8, output: &str, refusal: &str) {
-    same(rt, line, told.code, code);
-    same(rt, line, told.out.as_str(), output);
-    same(rt, line, told.err.as_str(), refusal);
+fn compare(rt: &impl Abort, line: &str, printed: &Printed, code: u8, output: &str, refusal: &str) {
+    same(rt, line, printed.code, code);
+    same(rt, line, printed.out.as_str(), output);
+    same(rt, line, printed.err.as_str(), refusal);
 }
 
 // The call ends with this status, and this stands in its sinks.
@@ -156,8 +156,8 @@ fn ends<R: Host>(
     output: &str,
     refusal: &str,
 ) -> Result<(), Fail> {
-    let told = plain(rt, line, script.as_bytes())?;
-    compare(rt, line, &told, code, output, refusal);
+    let printed = plain(rt, line, script.as_bytes())?;
+    compare(rt, line, &printed, code, output, refusal);
     Ok(())
 }
 
@@ -173,7 +173,7 @@ fn refuses<R: Host>(rt: &R, line: &str, script: &str, code: u8, refusal: &str) -
 
 // The script that the words generate.
 fn generated<R: Host>(rt: &R, line: &str) -> Result<String, Fail> {
-    let told = plain(rt, line, b"")?;
-    same(rt, line, told.code, 0);
-    Ok(told.out)
+    let printed = plain(rt, line, b"")?;
+    same(rt, line, printed.code, 0);
+    Ok(printed.out)
 }

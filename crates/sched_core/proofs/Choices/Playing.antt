@@ -18,8 +18,8 @@ use Rattle.sched_meaning.proofs.SimulationsEnd.Falling.{work_falls, work_left}
 use Rattle.sched_core.specs.Begun.{IsBegun}
 use Rattle.sched_core.specs.Cores.{core_of, plan_of, worker_of}
 use Rattle.sched_core.specs.Lawful.{may_happen}
-use Rattle.sched_core.specs.Played.{AnswersMain, GoesOn, IsMains}
-use Rattle.sched_core.specs.Consistent.{Goes, IsConsistent}
+use Rattle.sched_core.specs.Played.{AnswersMain, PlaysOn, IsMains}
+use Rattle.sched_core.specs.Consistent.{StepsTo, IsConsistent}
 use Rattle.sched_core.specs.declared.simulation.Simulated.{Simulated}
 use Rattle.sched_core.specs.declared.state.CoreState.{CoreState}
 use Rattle.sched_core.proofs.KnownOfNodes.Beginning.{core-begun, hired-many}
@@ -68,7 +68,7 @@ module _ (s : CoreState) (t : IsConsistent s) (none : s.root ≡ None) (w : ℕ)
     pub lawful : may_happen (core_of false s) e ≡ true
     lawful = may e (core_of false s) advances.0 advances.1.happens
 
-    module _ (next : CoreState) (goes : Goes e s next) where
+    module _ (next : CoreState) (goes : StepsTo e s next) where
       pub falls : work_left (core_of false next) < work_left (core_of false s)
       falls = work_falls (plan_of s) e (core_of false s) (core_of false next) (cores.kept (plan_of s) t.led.workers t.led.events (core_of false s) t.valid t.led.leads) goes.step advances.2
 
@@ -106,11 +106,11 @@ module _ (s : CoreState) (t : IsConsistent s) (none : s.root ≡ None) (w : ℕ)
         }
 
       -- it goes on once main's answer, which isn't there, was taken
-      pub goes-on : (left : Option AnswerView) → next.root ≡ None → left ≡ None → GoesOn w s (record next { root = left })
+      pub goes-on : (left : Option AnswerView) → next.root ≡ None → left ≡ None → PlaysOn w s (record next { root = left })
       goes-on left root none_left = record {
         event = e;
         picks = picks;
-        goes = subst (λ (r : Option AnswerView). Goes e s (record next { root = r })) (root ∙ sym none_left) goes;
+        goes = subst (λ (r : Option AnswerView). StepsTo e s (record next { root = r })) (root ∙ sym none_left) goes;
         root = none_left;
       }
 
@@ -147,7 +147,7 @@ module _ (plan : PlanView) (workers number words : ℕ) (s : CoreState) (p : IsP
   word-named : x ≡ word number (p.steps + 1)
   word-named = word-is number p.steps x words after mixed p.state
 
-  pub plays-on : (next : CoreState) → GoesOn x s next → IsPlayed plan workers number after next
+  pub plays-on : (next : CoreState) → PlaysOn x s next → IsPlayed plan workers number after next
   plays-on next g = record {
     steps = suc p.steps;
     state = let e : p.steps + 1 ≡ suc p.steps = omega arith in state_after_word number p.steps x words after mixed p.state ∙ ap (state_after number) e;
@@ -161,7 +161,7 @@ module _ (plan : PlanView) (workers number words : ℕ) (s : CoreState) (p : IsP
       named : picked (core_of false s) (word number (p.steps + 1)) ≡ Some g.event
       named = ap (picked (core_of false s)) (sym word-named) ∙ g.picks
 
-  pub less-left : (next : CoreState) → GoesOn x s next → work_left (core_of false next) < work_left (core_of false s)
+  pub less-left : (next : CoreState) → PlaysOn x s next → work_left (core_of false next) < work_left (core_of false s)
   less-left next g = falls s p.consistent p.root x g.event g.picks next g.goes
 
   pub worker-is : (simulated : Simulated) → AnswersMain x s simulated → IsSimWorker plan workers number simulated.worker

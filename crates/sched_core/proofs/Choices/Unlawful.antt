@@ -9,7 +9,7 @@ use Rattle.sched_meaning.specs.Steps.{Happens, WorkerGives, Changes}
 use Rattle.sched_meaning.specs.Steps as steps
 use Rattle.sched_meaning.specs.declared.event.CoreEvent.{CoreEvent}
 use Rattle.sched_meaning.specs.declared.event.CoreEvent.TheVariants.{Run, Pop, Steal, Look, Idle}
-use Rattle.sched_core.specs.Lawful.{has_waiting, may_happen, may_idle}
+use Rattle.sched_core.specs.Lawful.{has_stalled, may_happen, may_idle}
 use Rattle.sched_core.proofs.Worked.Lists.{get-other}
 
 true-both : (a b : Bool) → a ≡ true → b ≡ true → (a && b) ≡ true
@@ -31,8 +31,8 @@ get-below xs n x h = (Decides-ltb n (length xs)).1 (slice_get_within xs n x h)
 
 look-may : (w place : ℕ) (c : Core) (o : Worker) (t : Task) → slice_get c.workers w ≡ Some o → o.current ≡ None → slice_get o.stalled place ≡ Some t → may_happen c (Look w place) ≡ true
 look-may w place c o t there free at =
-    true-both (is_free (slice_get c.workers w)) (has_waiting place (slice_get c.workers w)) (ap is_free there ∙ ap (λ x. not (is_some x)) free)
-    (ap (has_waiting place) there ∙ get-below o.stalled place t at)
+    true-both (is_free (slice_get c.workers w)) (has_stalled place (slice_get c.workers w)) (ap is_free there ∙ ap (λ x. not (is_some x)) free)
+    (ap (has_stalled place) there ∙ get-below o.stalled place t at)
 
 steal-may : (thief victim : ℕ) (c next : Core) → steps.Steals thief victim c next → may_happen c (Steal thief victim) ≡ true
 steal-may thief victim c next s =

@@ -9,7 +9,7 @@ use Rattle.serial_meaning.specs.declared.origin.Origin.{Origin}
 use Rattle.strand_meaning.specs.Laws.{IsFaultOf}
 use Rattle.strand_meaning.specs.Task.{End}
 use Rattle.strand_machine.specs.Stops.{IsStop}
-use Rattle.strand_machine.specs.Parts.{awaited}
+use Rattle.strand_machine.specs.AwaitedChildren.{awaited}
 use Rattle.strand_machine.specs.declared.stop.Stop.TheVariants as stop
 use Rattle.sched_meaning.specs.Steps.{after_stop, recorded}
 use Rattle.sched_meaning.specs.declared.event.CoreEvent.TheVariants.{Run}
@@ -18,7 +18,7 @@ use Rattle.sched_meaning.proofs.KeptByEvents.Good.{IsLeft, stop-leaves}
 use Rattle.sched_meaning.proofs.OneCore.OneStep.{some-one}
 use Rattle.sched_core.specs.Cores.{answer_of, core_of, origins_of, plan_of, task_in, worker_of}
 use Rattle.sched_core.specs.Nodes.{hearing}
-use Rattle.sched_core.specs.Consistent.{AreJobs, AreWorkers, Awaits, Goes, IsGiven, IsHeard, IsJob, IsLinked, IsConsistent}
+use Rattle.sched_core.specs.Consistent.{AreJobs, AreWorkers, Awaits, StepsTo, IsGiven, IsAnsweredBy, IsJob, IsLinked, IsConsistent}
 use Rattle.sched_core.specs.Workers.{WorkerView}
 use Rattle.sched_core.specs.declared.job.Job.{Job}
 use Rattle.sched_core.specs.declared.node.NodeChild.{NodeChild}
@@ -138,7 +138,7 @@ module _ (s next : CoreState) (t : IsConsistent s) (none : s.root ≡ None) (w :
         gone = let is : AreJobs next.nodes.items v = jobs-map s.nodes.items next.nodes.items f v (t.workers w v there) in record { current = tt; deque = is.deque; stalled = is.stalled }
 
     -- main's answer
-    pub root-goes : own.node.link ≡ None → next.nodes.items ≡ s.nodes.items → next.root ≡ Some a → Goes (Run w) s next
+    pub root-goes : own.node.link ≡ None → next.nodes.items ≡ s.nodes.items → next.root ≡ Some a → StepsTo (Run w) s next
     root-goes linked nodes root =
         goes (Run w) s next t none (ap arc_value p.plan)
         (run-step s next t none w v (record v { current = None }) there j current (End a.out a.outcome) stops.next (core-is (ap origins_of nodes))).happens
@@ -158,7 +158,7 @@ module _ (s next : CoreState) (t : IsConsistent s) (none : s.root ≡ None) (w :
 
     -- another's answer
     pub child-goes : (l : Link) → own.node.link ≡ Some l → (parent : SpawnNode) → slice_get s.nodes.items l.parent ≡ Some parent → (child : NodeChild) → slice_get parent.children l.place ≡ Some child →
-        next.nodes.items ≡ slice_set s.nodes.items l.parent (hearing l.place child a parent) → next.root ≡ s.root → Goes (Run w) s next
+        next.nodes.items ≡ slice_set s.nodes.items l.parent (hearing l.place child a parent) → next.root ≡ s.root → StepsTo (Run w) s next
     child-goes l linked parent at_parent child at nodes root =
         goes (Run w) s next t none (ap arc_value p.plan)
         (run-step s next t none w v (record v { current = None }) there j current (End a.out a.outcome) stops.next
@@ -167,8 +167,8 @@ module _ (s next : CoreState) (t : IsConsistent s) (none : s.root ≡ None) (w :
         (carry-nodes _ _ _ _ _ _ (ap arc_value p.plan) given-is nodes (nodes-hear (plan_of s) s.given s.nodes.items t.nodes j.number own.node own.there fresh (once s t) l linked a is-given parent at_parent child at))
         (carry-root _ _ _ _ _ _ (ap arc_value p.plan) given-is root not-yet)
       where
-        main-fresh : IsHeard (plan_of s) s.given (main_origin (plan_of s)) None
-        main-fresh = subst (IsHeard (plan_of s) s.given (main_origin (plan_of s))) none t.root
+        main-fresh : IsAnsweredBy (plan_of s) s.given (main_origin (plan_of s)) None
+        main-fresh = subst (IsAnsweredBy (plan_of s) s.given (main_origin (plan_of s))) none t.root
 
         first : slice_get (origins_of s.nodes.items) 0 ≡ Some (main_origin (plan_of s))
         first =
@@ -181,5 +181,5 @@ module _ (s next : CoreState) (t : IsConsistent s) (none : s.root ≡ None) (w :
             let none-linked : own.node.link ≡ None = (t.nodes j.number own.node own.there).first number in
             let both : Some l ≡ None = sym linked ∙ none-linked in absurd (cc)
 
-        not-yet : IsHeard (plan_of s) (s.given ++ own.node.origin ∷ []) (main_origin (plan_of s)) s.root
-        not-yet = subst (IsHeard (plan_of s) (s.given ++ own.node.origin ∷ []) (main_origin (plan_of s))) (sym none) (heard-more (plan_of s) s.given (main_origin (plan_of s)) own.node.origin None other main-fresh)
+        not-yet : IsAnsweredBy (plan_of s) (s.given ++ own.node.origin ∷ []) (main_origin (plan_of s)) s.root
+        not-yet = subst (IsAnsweredBy (plan_of s) (s.given ++ own.node.origin ∷ []) (main_origin (plan_of s))) (sym none) (heard-more (plan_of s) s.given (main_origin (plan_of s)) own.node.origin None other main-fresh)

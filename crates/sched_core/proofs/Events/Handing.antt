@@ -3,7 +3,7 @@ use Rattle.std.specs.Arc.{arc_value}
 use Rattle.std.proofs.Common.{◌≡◌, ℕ, ◌+◌, ◌≤◌, false, List, [], ◌∷◌, ◌++◌, Some, None, Contains, slice_get, slice_set, length, map, refl, sym, ap, ◌∙◌, subst, arith}
 use Rattle.strand_meaning.specs.Task.{Task, start, Spawn}
 use Rattle.strand_meaning.proofs.NextStops.Stops.{stops_keep_origins}
-use Rattle.strand_machine.specs.Parts.{awaited}
+use Rattle.strand_machine.specs.AwaitedChildren.{awaited}
 use Rattle.strand_machine.specs.Stops.{IsStop}
 use Rattle.strand_machine.specs.Tasks.{TaskView}
 use Rattle.strand_machine.specs.declared.stop.Stop.TheVariants as stop
@@ -17,7 +17,7 @@ use Rattle.sched_meaning.proofs.BegunOnce.Loads.{load}
 use Rattle.sched_meaning.proofs.OneCore.OneStep.{some-one}
 use Rattle.sched_core.specs.Cores.{answer_of, core_of, origins_of, plan_of, task_in, worker_of}
 use Rattle.sched_core.specs.Nodes.{awaiting, new_node}
-use Rattle.sched_core.specs.Consistent.{AreJobs, Awaits, Goes, IsJob, IsLed, IsConsistent}
+use Rattle.sched_core.specs.Consistent.{AreJobs, Awaits, StepsTo, IsJob, IsLed, IsConsistent}
 use Rattle.sched_core.specs.Workers.{WorkerView}
 use Rattle.sched_core.specs.declared.job.Job.{Job}
 use Rattle.sched_core.specs.declared.node.SpawnNode.{SpawnNode}
@@ -153,7 +153,7 @@ module _ (s next : CoreState) (t : IsConsistent s) (none : s.root ≡ None) (w :
         let h = has-child in
         not-answered (plan_of s) (core_of false next) t.valid led (task_in child).origin (omega (arith, i, h)) (is-answered false next (task_in child).origin (subst (λ l. Contains l (task_in child).origin) (sym p.given) g))
 
-    pub spawn-goes : Goes (Run w) s next
+    pub spawn-goes : StepsTo (Run w) s next
     spawn-goes =
         goes (Run w) s next t none (ap arc_value p.plan) step.happens
         (carry-workers _ _ _ _ p.nodes p.workers (others-stay s t j own after grow w v (record v { current = Some child; deque = v.deque ++ rest ∷ [] }) there (has s t w v there j current) jobs))

@@ -2,7 +2,7 @@
 use Rattle.std.proofs.Common.{◌≡◌, ℕ, zero, suc, true, false, List, [], ◌∷◌, ◌++◌, Some, None, All, Contains, inr, slice_get, remove, map, refl, sym, ap, ◌∙◌, subst}
 use Rattle.serial_meaning.specs.Plan.{PlanView}
 use Rattle.serial_meaning.specs.declared.origin.Origin.{Origin}
-use Rattle.strand_machine.specs.Parts.{awaited}
+use Rattle.strand_machine.specs.AwaitedChildren.{awaited}
 use Rattle.sched_meaning.specs.Core as machine
 use Rattle.sched_meaning.specs.Simulation.{is_free}
 use Rattle.sched_meaning.specs.Steps.{Changes, WorkerPasses}
@@ -11,7 +11,7 @@ use Rattle.sched_meaning.proofs.OneCore.OneStep.{some-one}
 use Rattle.sched_core.specs.Cores.{core_of, origins_of, plan_of, task_in, worker_of}
 use Rattle.sched_core.specs.Moves.{Leaves, Stalls, WorkerChanges}
 use Rattle.sched_core.specs.Nodes.{missing}
-use Rattle.sched_core.specs.Consistent.{AreJobs, AreNodes, AreWorkers, Awaits, Goes, IsChild, IsHeard, IsJob, IsConsistent}
+use Rattle.sched_core.specs.Consistent.{AreJobs, AreNodes, AreWorkers, Awaits, StepsTo, IsChild, IsAnsweredBy, IsJob, IsConsistent}
 use Rattle.sched_core.specs.Workers.{WorkerView}
 use Rattle.sched_core.specs.declared.job.Job.{Job}
 use Rattle.sched_core.specs.declared.node.SpawnNode.{SpawnNode}
@@ -24,7 +24,7 @@ use Rattle.sched_core.proofs.Events.Taking.{Both, Keeps, changed, core-keeps, fr
 
 pub heard : (plan : PlanView) (given : List Origin) (nodes : List SpawnNode) → AreNodes plan given nodes → (n : ℕ) (node : SpawnNode) → slice_get nodes n ≡ Some node →
     AreHeard plan given (origins_of nodes) node.children
-heard plan given nodes all n node there k c at o og = subst (λ p. IsHeard plan given p c.answer) same child.heard
+heard plan given nodes all n node there k c at o og = subst (λ p. IsAnsweredBy plan given p c.answer) same child.heard
   where
     child : IsChild plan given nodes n k c
     child = (all n node there).children k c at
@@ -81,7 +81,7 @@ module _ (s next : CoreState) (t : IsConsistent s) (none : s.root ≡ None) (k :
     change = record { worker = b.worker; after = b.after; there = b.there; does = passes; next_is = b.next_is }
 
     -- A look at a task of which a child hasn't answered.
-    pub pass-goes : (node : SpawnNode) → slice_get s.nodes.items j.number ≡ Some node → (node.unanswered ≡ 0 → ⊥) → Goes (Look w place) s next
+    pub pass-goes : (node : SpawnNode) → slice_get s.nodes.items j.number ≡ Some node → (node.unanswered ≡ 0 → ⊥) → StepsTo (Look w place) s next
     pass-goes node there some =
         moves (Look w place) s next t none k
         (inr (record {

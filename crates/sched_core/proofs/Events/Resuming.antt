@@ -3,7 +3,7 @@ use Rattle.std.specs.Arc.{arc_value}
 use Rattle.std.proofs.Common.{◌≡◌, ℕ, ◌+◌, ◌≤◌, true, false, [], Some, None, All, Contains, inl, slice_get, slice_set, remove, map, refl, sym, ap, ◌∙◌, subst, arith}
 use Rattle.strand_meaning.proofs.TakenAnswers.AnswersKeepTasks.{none-handed}
 use Rattle.strand_machine.specs.Family.{tags}
-use Rattle.strand_machine.specs.Parts.{awaited}
+use Rattle.strand_machine.specs.AwaitedChildren.{awaited}
 use Rattle.strand_machine.specs.Stops.{WentOn, answer_tags, view_on}
 use Rattle.strand_machine.specs.Tasks.{TaskView}
 use Rattle.sched_meaning.specs.Core as machine
@@ -18,7 +18,7 @@ use Rattle.sched_meaning.proofs.KeptByEvents.Kept.{by_origin}
 use Rattle.sched_meaning.proofs.OneCore.OneStep.{some-one}
 use Rattle.sched_core.specs.Cores.{answer_of, core_of, origins_of, plan_of, task_in, worker_of}
 use Rattle.sched_core.specs.Nodes.{answers_in, missing, settled}
-use Rattle.sched_core.specs.Consistent.{AreJobs, Awaits, Goes, IsJob, IsConsistent}
+use Rattle.sched_core.specs.Consistent.{AreJobs, Awaits, StepsTo, IsJob, IsConsistent}
 use Rattle.sched_core.specs.Workers.{WorkerView}
 use Rattle.sched_core.specs.declared.job.Job.{Job}
 use Rattle.sched_core.specs.declared.node.SpawnNode.{SpawnNode}
@@ -147,7 +147,7 @@ module _ (s next : CoreState) (t : IsConsistent s) (none : s.root ≡ None) (w p
         begun = ap origins_of p.nodes ∙ origins-settled (plan_of s) s.given s.nodes.items t.nodes j.number node found (whole s t w place v there j at node found zero_left)
 
     -- A look at a task all of whose children have answered.
-    pub resume-goes : Goes (Look w place) s next
+    pub resume-goes : StepsTo (Look w place) s next
     resume-goes =
         goes (Look w place) s next t none (ap arc_value p.plan)
         (inl (record {

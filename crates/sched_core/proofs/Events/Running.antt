@@ -3,7 +3,7 @@ use Rattle.std.specs.Arc.{arc_value}
 use Rattle.std.proofs.Common.{◌≡◌, ℕ, ◌+◌, ◌≤◌, false, [], ◌∷◌, ◌++◌, Some, None, IfSome, Contains, slice_get, slice_set, map, refl, sym, ap, ◌∙◌, subst, arith}
 use Rattle.strand_meaning.specs.Task.{Stop, Wait, IsNext}
 use Rattle.strand_meaning.proofs.NextStops.Stops.{stops_keep_origins}
-use Rattle.strand_machine.specs.Parts.{awaited}
+use Rattle.strand_machine.specs.AwaitedChildren.{awaited}
 use Rattle.strand_machine.specs.Stops.{IsStop}
 use Rattle.strand_machine.specs.declared.stop.Stop.TheVariants as stop
 use Rattle.sched_meaning.specs.Core as machine
@@ -18,7 +18,7 @@ use Rattle.sched_meaning.proofs.KeptByEvents.Good.{IsRunning, IsGood, current-go
 use Rattle.sched_meaning.proofs.BegunOnce.Handed.{stops_hand}
 use Rattle.sched_meaning.proofs.KeptByEvents.Kept.{by_origin}
 use Rattle.sched_core.specs.Cores.{answer_of, core_of, current_in, origins_of, plan_of, task_in, worker_of}
-use Rattle.sched_core.specs.Consistent.{AreJobs, Awaits, Goes, IsJob, IsConsistent}
+use Rattle.sched_core.specs.Consistent.{AreJobs, Awaits, StepsTo, IsJob, IsConsistent}
 use Rattle.sched_core.specs.Workers.{WorkerView}
 use Rattle.sched_core.specs.declared.job.Job.{Job}
 use Rattle.sched_core.specs.declared.state.CoreState.{CoreState}
@@ -144,7 +144,7 @@ module _ (s next : CoreState) (t : IsConsistent s) (none : s.root ≡ None) (w :
             ap (map worker_of) p.workers
             ∙ workers-moved s next t none w v (record v { current = None; stalled = v.stalled ++ rest ∷ [] }) there j current (Wait (task_in rest)) stops.next (ap (λ r. record { current = None; deque = map task_in v.deque; stalled = r }) (map-end v.stalled rest))
 
-    pub wait-goes : Goes (Run w) s next
+    pub wait-goes : StepsTo (Run w) s next
     wait-goes =
         goes (Run w) s next t none (ap arc_value p.plan)
         (run-step s next t none w v (record v { current = None; stalled = v.stalled ++ rest ∷ [] }) there j current (Wait (task_in rest)) stops.next core-is).happens

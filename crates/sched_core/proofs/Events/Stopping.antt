@@ -9,9 +9,9 @@ use Rattle.strand_machine.specs.declared.stop.Stop.TheVariants as stop
 use Rattle.sched_meaning.specs.declared.event.CoreEvent.TheVariants.{Run}
 use Rattle.sched_meaning.proofs.OneCore.OneStep.{some-one}
 use Rattle.sched_core.specs.Cores.{plan_of}
-use Rattle.sched_core.specs.Moves.{BeginsTask, CanHear, CanStop, HandsOutJob, Lets, PutsAnswer, Stalls, StallsTask, StopsAt, WorkerChanges, AnswerGoes, job}
+use Rattle.sched_core.specs.Moves.{BeginsTask, CanAnswer, CanStop, HandsOutJob, Lets, PutsAnswer, Stalls, StallsTask, StopsAt, WorkerChanges, AnswerGoes, job}
 use Rattle.sched_core.specs.Nodes.{awaiting, missing, missing_one, new_node}
-use Rattle.sched_core.specs.Consistent.{Goes, IsAwaited, IsChild, IsHeard, IsJob, IsLinked, IsConsistent}
+use Rattle.sched_core.specs.Consistent.{StepsTo, IsAwaited, IsChild, IsAnsweredBy, IsJob, IsLinked, IsConsistent}
 use Rattle.sched_core.specs.Workers.{WorkerView}
 use Rattle.sched_core.specs.declared.job.Job.{Job}
 use Rattle.sched_core.specs.declared.node.NodeChild.{NodeChild}
@@ -46,7 +46,7 @@ module _ (s mid : CoreState) (t : IsConsistent s) (w : ℕ) (j : Job) (lets : Wo
   fresh : Contains s.given own.node.origin → ⊥
   fresh g = own-fresh s t w lets.worker lets.there j lets.does.0 (subst (Contains s.given) own.origin g)
 
-  unheard : (l : Link) → IsAwaited s.nodes.items j.number l → CanHear s.nodes.items (Some l)
+  unheard : (l : Link) → IsAwaited s.nodes.items j.number l → CanAnswer s.nodes.items (Some l)
   unheard l a = record { parent = a.parent; there = a.there; place = slice_get_within a.parent.children l.place a.child a.at; unanswered = some-left }
     where
       its : IsChild (plan_of s) s.given s.nodes.items l.parent l.place a.child
@@ -55,7 +55,7 @@ module _ (s mid : CoreState) (t : IsConsistent s) (w : ℕ) (j : Job) (lets : Wo
       same : its.node ≡ own.node
       same = some-one its.node own.node (sym its.there ∙ ap (λ n. slice_get s.nodes.items n) a.number ∙ own.there)
 
-      none : (o : Option AnswerView) → IsHeard (plan_of s) s.given own.node.origin o → missing_one o ≡ 1
+      none : (o : Option AnswerView) → IsAnsweredBy (plan_of s) s.given own.node.origin o → missing_one o ≡ 1
       none None h = refl
       none (Some x) h = absurd (fresh h.there)
 
@@ -63,9 +63,9 @@ module _ (s mid : CoreState) (t : IsConsistent s) (w : ℕ) (j : Job) (lets : Wo
       some-left =
           let u : a.parent.unanswered ≡ missing a.parent.children = (t.nodes l.parent a.parent a.there).unanswered in
           let m : missing_one a.child.answer ≤ missing a.parent.children = missing-at a.parent.children l.place a.child a.at in
-          let o : missing_one a.child.answer ≡ 1 = none a.child.answer (subst (λ (n : SpawnNode). IsHeard (plan_of s) s.given n.origin a.child.answer) same its.heard) in omega arith
+          let o : missing_one a.child.answer ≡ 1 = none a.child.answer (subst (λ (n : SpawnNode). IsAnsweredBy (plan_of s) s.given n.origin a.child.answer) same its.heard) in omega arith
 
-  can-hear : (o : Option Link) → IsLinked s.nodes.items j.number o → CanHear s.nodes.items o
+  can-hear : (o : Option Link) → IsLinked s.nodes.items j.number o → CanAnswer s.nodes.items o
   can-hear None h = tt
   can-hear (Some l) h = unheard l h
 
@@ -75,7 +75,7 @@ module _ (s mid : CoreState) (t : IsConsistent s) (w : ℕ) (j : Job) (lets : Wo
     node = own.node;
     there = ap (λ ns. slice_get ns j.number) keeps.nodes ∙ own.there;
     within = let u : own.node.unanswered ≡ missing own.node.children = (t.nodes j.number own.node own.there).unanswered in let m : missing own.node.children ≤ length own.node.children = missing-few own.node.children in omega arith;
-    hears = subst (λ ns. CanHear ns own.node.link) (sym keeps.nodes) (can-hear own.node.link ((t.nodes j.number own.node own.there).link fresh));
+    hears = subst (λ ns. CanAnswer ns own.node.link) (sym keeps.nodes) (can-hear own.node.link ((t.nodes j.number own.node own.there).link fresh));
   }
 
   stops-so : (to : Stop) → Advances j.task to → IsStop j.task to
@@ -85,7 +85,7 @@ module _ (s mid : CoreState) (t : IsConsistent s) (w : ℕ) (j : Job) (lets : Wo
 
   module _ (none : s.root ≡ None) (after next : CoreState) (workers : next.workers.items ≡ after.workers.items) (nodes : next.nodes.items ≡ after.nodes.items) (plan : next.plan ≡ after.plan) (given : next.given ≡ after.given) (root : next.root ≡ after.root)
       (runs : next.runs ≡ s.runs + 1) where
-    waits : (rest : TaskView) → IsStop j.task (stop.Wait rest) → StallsTask w (job rest j.number) mid after → Goes (Run w) s next
+    waits : (rest : TaskView) → IsStop j.task (stop.Wait rest) → StallsTask w (job rest j.number) mid after → StepsTo (Run w) s next
     waits rest stops p = wait-goes s next t none w b.worker b.there j b.first.0 (job rest j.number) stops refl (record {
       workers = workers ∙ b.next_is ∙ ap (slice_set s.workers.items w) after-is;
       nodes = nodes ∙ p.nodes ∙ keeps.nodes;
@@ -101,7 +101,7 @@ module _ (s mid : CoreState) (t : IsConsistent s) (w : ℕ) (j : Job) (lets : Wo
         after-is : b.after ≡ record b.worker { current = None; stalled = b.worker.stalled ++ job rest j.number ∷ [] }
         after-is = b.second ∙ ap (λ (v : WorkerView). record v { stalled = v.stalled ++ job rest j.number ∷ [] }) b.first.1
 
-    spawns : (child rest : TaskView) → IsStop j.task (stop.Spawn child rest) → BeginsTask w j.number child rest mid after → Goes (Run w) s next
+    spawns : (child rest : TaskView) → IsStop j.task (stop.Spawn child rest) → BeginsTask w j.number child rest mid after → StepsTo (Run w) s next
     spawns child rest stops p =
         spawn-goes s next t none w b.worker b.there j b.first.0 (job child p.begun) (job rest j.number) stops (p.begun_is ∙ ap length keeps.nodes) refl p.nodes.node found (record {
           workers = workers ∙ b.next_is ∙ ap (slice_set s.workers.items w) after-is;
@@ -122,7 +122,7 @@ module _ (s mid : CoreState) (t : IsConsistent s) (w : ℕ) (j : Job) (lets : Wo
         found : slice_get s.nodes.items j.number ≡ Some p.nodes.node
         found = ap (λ ns. slice_get ns j.number) (sym keeps.nodes) ∙ p.nodes.there
 
-    ends : (answer : AnswerView) (give : _) → IsStop j.task (stop.Done answer give) → PutsAnswer j.number answer mid after → Goes (Run w) s next
+    ends : (answer : AnswerView) (give : _) → IsStop j.task (stop.Done answer give) → PutsAnswer j.number answer mid after → StepsTo (Run w) s next
     ends answer give stops p = by_link p.node.link refl p.goes
       where
         same : own.node ≡ p.node
@@ -136,14 +136,14 @@ module _ (s mid : CoreState) (t : IsConsistent s) (w : ℕ) (j : Job) (lets : Wo
           runs = runs;
         }
 
-        by_link : (o : Option Link) → p.node.link ≡ o → AnswerGoes o answer mid after → Goes (Run w) s next
+        by_link : (o : Option Link) → p.node.link ≡ o → AnswerGoes o answer mid after → StepsTo (Run w) s next
         by_link None e g =
             root-goes s next t none w lets.worker lets.there j lets.does.0 answer give stops state (ap (λ (n : SpawnNode). n.link) same ∙ e) (nodes ∙ g.1 ∙ keeps.nodes) (root ∙ g.0)
         by_link (Some l) e g =
             child-goes s next t none w lets.worker lets.there j lets.does.0 answer give stops state l (ap (λ (n : SpawnNode). n.link) same ∙ e) g.1.node (ap (λ ns. slice_get ns l.parent) (sym keeps.nodes) ∙ g.1.there) g.1.does.child g.1.does.there
             (nodes ∙ g.1.next_is ∙ ap (λ ns. slice_set ns l.parent g.1.after) keeps.nodes ∙ ap (slice_set s.nodes.items l.parent) g.1.does.next_is) (root ∙ g.0 ∙ keeps.root)
 
-    pub run-goes : (to : Stop) → Advances j.task to → StopsAt w j.number to mid after → Goes (Run w) s next
+    pub run-goes : (to : Stop) → Advances j.task to → StopsAt w j.number to mid after → StepsTo (Run w) s next
     run-goes (stop.Spawn child rest) a at = spawns child rest (stops-so (stop.Spawn child rest) a) at
     run-goes (stop.Wait rest) a at = waits rest (stops-so (stop.Wait rest) a) at
     run-goes (stop.Done answer give) a at = ends answer give (stops-so (stop.Done answer give) a) at

@@ -16,7 +16,7 @@ use Rattle.sched_meaning.proofs.OneCore.OneStep.{some-one}
 use Rattle.sched_core.specs.Cores.{answer_of, core_of, current_in, origins_of, plan_of, task_in, worker_of}
 use Rattle.sched_core.specs.Lawful.{may_happen, may_idle}
 use Rattle.sched_core.specs.Moves.{BacksJob, GivesJob, TakesJob, WorkerChanges}
-use Rattle.sched_core.specs.Consistent.{AreJobs, AreNodes, AreWorkers, Everywhere, Goes, IsHeard, IsJob, IsConsistent}
+use Rattle.sched_core.specs.Consistent.{AreJobs, AreNodes, AreWorkers, Everywhere, StepsTo, IsAnsweredBy, IsJob, IsConsistent}
 use Rattle.sched_core.specs.Workers.{WorkerView}
 use Rattle.sched_core.specs.declared.job.Job.{Job}
 use Rattle.sched_core.specs.declared.node.SpawnNode.{SpawnNode}
@@ -37,22 +37,22 @@ was-given spent s o h = subst (λ l. Contains l o) (given-origins (plan_of s) s.
 
 -- while there is no answer of main's
 pub unanswered : (s : CoreState) → IsConsistent s → s.root ≡ None → machine.IsRootAnswered (core_of false s) → ⊥
-unanswered s t none a = subst (λ (r : Option AnswerView). IsHeard (plan_of s) s.given (main_origin (plan_of s)) r) none t.root (was-given false s (main_origin (plan_of s)) a)
+unanswered s t none a = subst (λ (r : Option AnswerView). IsAnsweredBy (plan_of s) s.given (main_origin (plan_of s)) r) none t.root (was-given false s (main_origin (plan_of s)) a)
 
 -- A step
 
 pub carry-nodes : (p q : PlanView) (g h : List Origin) (n m : List SpawnNode) → p ≡ q → g ≡ h → n ≡ m → AreNodes q h m → AreNodes p g n
 carry-nodes p q g h n m a b c x = subst (λ l. AreNodes p g l) (sym c) (subst (λ l. AreNodes p l m) (sym b) (subst (λ l. AreNodes l h m) (sym a) x))
 
-pub carry-root : (p q : PlanView) (g h : List Origin) (r u : Option AnswerView) → p ≡ q → g ≡ h → r ≡ u → IsHeard q h (main_origin q) u → IsHeard p g (main_origin p) r
-carry-root p q g h r u a b c x = subst (λ l. IsHeard p g (main_origin p) l) (sym c) (subst (λ l. IsHeard p l (main_origin p) u) (sym b) (subst (λ l. IsHeard l h (main_origin l) u) (sym a) x))
+pub carry-root : (p q : PlanView) (g h : List Origin) (r u : Option AnswerView) → p ≡ q → g ≡ h → r ≡ u → IsAnsweredBy q h (main_origin q) u → IsAnsweredBy p g (main_origin p) r
+carry-root p q g h r u a b c x = subst (λ l. IsAnsweredBy p g (main_origin p) l) (sym c) (subst (λ l. IsAnsweredBy p l (main_origin p) u) (sym b) (subst (λ l. IsAnsweredBy l h (main_origin l) u) (sym a) x))
 
 pub carry-workers : (n m : List SpawnNode) (ws vs : List WorkerView) → n ≡ m → ws ≡ vs → AreWorkers m vs → AreWorkers n ws
 carry-workers n m ws vs a b x = subst (λ l. AreWorkers n l) (sym b) (subst (λ l. AreWorkers l vs) (sym a) x)
 
 -- The plan stays, and the next core is as it should be.
 pub goes : (e : CoreEvent) (s next : CoreState) → IsConsistent s → s.root ≡ None → plan_of next ≡ plan_of s → Happens e (core_of false s) (core_of false next) →
-    AreWorkers next.nodes.items next.workers.items → AreNodes (plan_of next) next.given next.nodes.items → IsHeard (plan_of next) next.given (main_origin (plan_of next)) next.root → Goes e s next
+    AreWorkers next.nodes.items next.workers.items → AreNodes (plan_of next) next.given next.nodes.items → IsAnsweredBy (plan_of next) next.given (main_origin (plan_of next)) next.root → StepsTo e s next
 goes e s next t none plan happens workers nodes root = record { step = step; consistent = consistent }
   where
     step : Step e (core_of false s) (core_of false next)
@@ -113,7 +113,7 @@ core-keeps s next k = λ i. record {
 }
 
 pub moves : (e : CoreEvent) (s next : CoreState) → IsConsistent s → s.root ≡ None → Keeps s next → Happens e (core_of false s) (core_of false next) →
-    AreWorkers s.nodes.items next.workers.items → Goes e s next
+    AreWorkers s.nodes.items next.workers.items → StepsTo e s next
 moves e s next t none k happens workers =
     goes e s next t none (ap arc_value k.plan) happens (subst (λ l. AreWorkers l next.workers.items) (sym k.nodes) workers) (carry-nodes _ _ _ _ _ _ (ap arc_value k.plan) k.given k.nodes t.nodes) (carry-root _ _ _ _ _ _ (ap arc_value k.plan) k.given k.root t.root)
 
@@ -182,7 +182,7 @@ module _ (s next : CoreState) (t : IsConsistent s) (none : s.root ≡ None) (k :
     change : WorkerChanges w (λ v x. WorkerPops (task_in j) (worker_of v) (worker_of x)) s.workers.items next.workers.items
     change = record { worker = b.worker; after = b.after; there = b.there; does = pops; next_is = b.next_is }
 
-    pub pop-goes : Goes (Pop w) s next
+    pub pop-goes : StepsTo (Pop w) s next
     pop-goes =
         moves (Pop w) s next t none k
         (record {
@@ -226,7 +226,7 @@ module _ (s next : CoreState) (t : IsConsistent s) (none : s.root ≡ None) (k :
         subst (AreJobs s.nodes.items) (sym q.does) (record { current = given.0; deque = is.deque; stalled = is.stalled })
 
     -- The task at the front of the victim's deque becomes the thief's current one.
-    pub steal-goes : is_free (slice_get (map worker_of s.workers.items) thief) ≡ true → Goes (Steal thief victim) s next
+    pub steal-goes : is_free (slice_get (map worker_of s.workers.items) thief) ≡ true → StepsTo (Steal thief victim) s next
     steal-goes free =
         moves (Steal thief victim) s next t none k
         (record {
@@ -253,9 +253,9 @@ idle-free : (o : Option machine.Worker) → may_idle o ≡ true → o ≡ Some m
 idle-free None h = absurd (cc)
 idle-free (Some w) h = ap (λ v. Some v) (empty-worker w.current w.deque w.stalled h)
 
-idle-goes : (s : CoreState) → IsConsistent s → s.root ≡ None → (w : ℕ) → may_idle (slice_get (map worker_of s.workers.items) w) ≡ true → Goes (Idle w) s s
+idle-goes : (s : CoreState) → IsConsistent s → s.root ≡ None → (w : ℕ) → may_idle (slice_get (map worker_of s.workers.items) w) ≡ true → StepsTo (Idle w) s s
 idle-goes s t none w idle =
     goes (Idle w) s s t none refl (record { free = idle-free (slice_get (map worker_of s.workers.items) w) idle; next_is = refl }) t.workers t.nodes t.root
 
-pub idle-any : (s : CoreState) → IsConsistent s → s.root ≡ None → (e : CoreEvent) (w : ℕ) → e ≡ Idle w → may_happen (core_of false s) e ≡ true → Goes e s s
-idle-any s t none e w is lawful = subst (λ (d : CoreEvent). Goes d s s) (sym is) (idle-goes s t none w (subst (λ (d : CoreEvent). may_happen (core_of false s) d ≡ true) is lawful))
+pub idle-any : (s : CoreState) → IsConsistent s → s.root ≡ None → (e : CoreEvent) (w : ℕ) → e ≡ Idle w → may_happen (core_of false s) e ≡ true → StepsTo e s s
+idle-any s t none e w is lawful = subst (λ (d : CoreEvent). StepsTo d s s) (sym is) (idle-goes s t none w (subst (λ (d : CoreEvent). may_happen (core_of false s) d ≡ true) is lawful))

@@ -7,7 +7,7 @@ use Rattle.strand_machine.specs.Stops.{WentOn}
 use Rattle.sched_core.specs.Cores.{worker_of}
 use Rattle.sched_core.specs.Moves.{CanResume, Leaves, Resumes, Stalls, TakesJob, WorkerChanges}
 use Rattle.sched_core.specs.Nodes.{answers_in, settled}
-use Rattle.sched_core.specs.Consistent.{Goes, IsConsistent}
+use Rattle.sched_core.specs.Consistent.{StepsTo, IsConsistent}
 use Rattle.sched_core.specs.Workers.{WorkerView}
 use Rattle.sched_core.specs.declared.job.Job.{Job}
 use Rattle.sched_core.specs.declared.node.SpawnNode.{SpawnNode}
@@ -28,11 +28,11 @@ module _ (s : CoreState) (t : IsConsistent s) (w place : ℕ) (j : Job) (mid : L
     }
 
     module _ (none : s.root ≡ None) (free : is_free (slice_get (map worker_of s.workers.items) w) ≡ true) (next : CoreState) where
-      pub passes-on : (node.unanswered ≡ 0 → ⊥) → WorkerChanges w (Stalls j) mid next.workers.items → Keeps s next → Goes (Look w place) s next
+      pub passes-on : (node.unanswered ≡ 0 → ⊥) → WorkerChanges w (Stalls j) mid next.workers.items → Keeps s next → StepsTo (Look w place) s next
       passes-on some stalls keeps = pass-goes s next t none keeps w place j (both w (Leaves place j) (Stalls j) s.workers.items mid next.workers.items leaves stalls) free node found some
 
       pub wakes : node.unanswered ≡ 0 → (next_job : Job) → Resumes j next_job s.nodes.items next.nodes.items → WorkerChanges w (TakesJob next_job) mid next.workers.items →
-          next.plan ≡ s.plan → next.given ≡ s.given → next.root ≡ s.root → next.runs ≡ s.runs → Goes (Look w place) s next
+          next.plan ≡ s.plan → next.given ≡ s.given → next.root ≡ s.root → next.runs ≡ s.runs → StepsTo (Look w place) s next
       wakes zero_left next_job r takes plan given root runs =
           resume-goes s next t none w place b.worker b.there free j b.first.0 node found zero_left next_job went r.settles.number (record {
             workers = b.next_is ∙ ap (slice_set s.workers.items w) after-is;

@@ -12,7 +12,7 @@ use Rattle.sched_core.specs.Begun.{IsBegun, hired}
 use Rattle.sched_core.specs.Cores.{answer_of, core_of, origins_of, plan_of, worker_of}
 use Rattle.sched_core.specs.Moves.{job}
 use Rattle.sched_core.specs.Nodes.{new_node}
-use Rattle.sched_core.specs.Consistent.{AreJobs, AreNodes, AreWorkers, IsHeard, IsNode, IsConsistent}
+use Rattle.sched_core.specs.Consistent.{AreJobs, AreNodes, AreWorkers, IsAnsweredBy, IsNode, IsConsistent}
 use Rattle.sched_core.specs.Workers.{worker_with}
 use Rattle.sched_core.specs.declared.node.SpawnNode.{SpawnNode}
 use Rattle.sched_core.specs.declared.state.CoreState.{CoreState}
@@ -62,7 +62,7 @@ module _ (plan : PlanView) where
       (record { unanswered = refl; children = λ k c at. absurd (cc); link = λ open_yet. refl; first = λ e. refl })
   nodes-consistent (suc k) node h = absurd (cc)
 
-  none-given : IsHeard plan [] (main_origin plan) None
+  none-given : IsAnsweredBy plan [] (main_origin plan) None
   none-given = λ h. absurd (omega (arith, h.1))
 
   pub consistent-begun : (n : ℕ) (s : CoreState) → IsValid plan.script → IsBegun plan n s → IsConsistent s

@@ -7,14 +7,14 @@ use Rattle.serial_meaning.specs.declared.origin.Origin.{Origin}
 use Rattle.sched_meaning.proofs.OneCore.OneStep.{some-one}
 use Rattle.sched_core.specs.Cores.{origins_of}
 use Rattle.sched_core.specs.Nodes.{hearing, missing, missing_one}
-use Rattle.sched_core.specs.Consistent.{AreNodes, IsAwaited, IsChild, IsGiven, IsHeard, IsLinked, IsNode}
+use Rattle.sched_core.specs.Consistent.{AreNodes, IsAwaited, IsChild, IsGiven, IsAnsweredBy, IsLinked, IsNode}
 use Rattle.sched_core.specs.declared.node.NodeChild.{NodeChild}
 use Rattle.sched_core.specs.declared.node.Link.{Link}
 use Rattle.sched_core.specs.declared.node.SpawnNode.{SpawnNode}
 use Rattle.sched_core.proofs.Worked.Lists.{get-other, get-set, map-set-same, same-or, set-or}
 
 -- an answer that was given stays given
-pub heard-more : (plan : PlanView) (given : List Origin) (o p : Origin) (a : Option AnswerView) → (p ≡ o → ⊥) → IsHeard plan given o a → IsHeard plan (given ++ p ∷ []) o a
+pub heard-more : (plan : PlanView) (given : List Origin) (o p : Origin) (a : Option AnswerView) → (p ≡ o → ⊥) → IsAnsweredBy plan given o a → IsAnsweredBy plan (given ++ p ∷ []) o a
 heard-more plan given o p None two h = λ c. refuse (Contains-push_cases given p o c)
   where
     refuse : Contains given o ⊎ (p ≡ o) → ⊥
@@ -34,7 +34,7 @@ module _ (plan : PlanView) (given : List Origin) (nodes : List SpawnNode) (all :
     more = given ++ node.origin ∷ []
 
     -- a child of another number has its answer as before
-    other-heard : (c : NodeChild) (x : SpawnNode) → slice_get nodes c.number ≡ Some x → (c.number ≡ n → ⊥) → IsHeard plan given x.origin c.answer → IsHeard plan more x.origin c.answer
+    other-heard : (c : NodeChild) (x : SpawnNode) → slice_get nodes c.number ≡ Some x → (c.number ≡ n → ⊥) → IsAnsweredBy plan given x.origin c.answer → IsAnsweredBy plan more x.origin c.answer
     other-heard c x at two h = heard-more plan given x.origin node.origin c.answer (λ e. two (sym (once n c.number node x there at e))) h
 
     module _ (l : Link) (linked : node.link ≡ Some l) (a : AnswerView) (is : IsGiven plan (given ++ node.origin ∷ []) node.origin a) where
@@ -71,10 +71,10 @@ module _ (plan : PlanView) (given : List Origin) (nodes : List SpawnNode) (all :
                 )
             by_number (inr two) = (x, get-other nodes l.parent k (hearing l.place child a parent) two ∙ h, refl, refl)
 
-        child-after : (k place : ℕ) (c : NodeChild) → (ch : IsChild plan given nodes k place c) → IsHeard plan more ch.node.origin c.answer → IsChild plan more after k place c
+        child-after : (k place : ℕ) (c : NodeChild) → (ch : IsChild plan given nodes k place c) → IsAnsweredBy plan more ch.node.origin c.answer → IsChild plan more after k place c
         child-after k place c ch heard =
             let y = node-after c.number ch.node ch.there in
-            record { node = y.0; there = y.1; link = y.3 ∙ ch.link; heard = subst (λ p. IsHeard plan more p c.answer) (sym y.2) heard }
+            record { node = y.0; there = y.1; link = y.3 ∙ ch.link; heard = subst (λ p. IsAnsweredBy plan more p c.answer) (sym y.2) heard }
 
         -- a child at another place has another number
         elsewhere : (k place : ℕ) (c : NodeChild) → IsChild plan given nodes k place c → ((k ≡ l.parent) × (place ≡ l.place) → ⊥) → c.number ≡ n → ⊥
@@ -131,10 +131,10 @@ module _ (plan : PlanView) (given : List Origin) (nodes : List SpawnNode) (all :
         }
 
         -- the child had no answer
-        unheard : IsHeard plan given node.origin child.answer → missing_one child.answer ≡ 1
+        unheard : IsAnsweredBy plan given node.origin child.answer → missing_one child.answer ≡ 1
         unheard h = by_answer child.answer h
           where
-            by_answer : (x : Option AnswerView) → IsHeard plan given node.origin x → missing_one x ≡ 1
+            by_answer : (x : Option AnswerView) → IsAnsweredBy plan given node.origin x → missing_one x ≡ 1
             by_answer None k = refl
             by_answer (Some x) k = absurd (fresh k.there)
 
@@ -151,7 +151,7 @@ module _ (plan : PlanView) (given : List Origin) (nodes : List SpawnNode) (all :
             own = some-one its.node node (sym its.there ∙ ap (λ m. slice_get nodes m) number ∙ there)
 
             none : missing_one child.answer ≡ 1
-            none = unheard (subst (λ (x : SpawnNode). IsHeard plan given x.origin child.answer) own its.heard)
+            none = unheard (subst (λ (x : SpawnNode). IsAnsweredBy plan given x.origin child.answer) own its.heard)
 
             counted : parent.unanswered - 1 ≡ missing (slice_set parent.children l.place (record child { answer = Some a }))
             counted =

@@ -1,7 +1,7 @@
 -- What holds of every core, by the laws of the machine.
 use Rattle.sched_core.specs.Cores.{core_of, plan_of}
 use Rattle.sched_core.specs.Sound.{IsSound}
-use Rattle.sched_core.specs.Consistent.{Goes, Holds, IsHeard, IsConsistent}
+use Rattle.sched_core.specs.Consistent.{StepsTo, HoldsOfCore, IsAnsweredBy, IsConsistent}
 use Rattle.sched_core.specs.declared.state.CoreState.{CoreState}
 use Rattle.std.proofs.Common.{◌≡◌, Bool, true, false, ◌&&◌, ◌↔◌, Option, Some, None, IfSome, is_none, is_some, refl, sym, ap, ◌∙◌, subst}
 use Rattle.std.proofs.lemmas.Bool.{false≢true}
@@ -26,15 +26,15 @@ sound-of s t = record {
   lively = cores.goes-further (plan_of s) t.led.workers t.led.events (core_of false s) t.valid t.led.leads;
 }
 
-pub sound-held : (b : Bool) (s : CoreState) → Holds b s → b ≡ false → IsSound (core_of b s)
+pub sound-held : (b : Bool) (s : CoreState) → HoldsOfCore b s → b ≡ false → IsSound (core_of b s)
 sound-held true s h e = absurd (cc)
 sound-held false s h e = sound-of s h
 
 -- Main's answer
 
 module _ (s : CoreState) (t : IsConsistent s) (a : AnswerView) (root : s.root ≡ Some a) where
-  heard : IsHeard (plan_of s) s.given (main_origin (plan_of s)) (Some a)
-  heard = subst (IsHeard (plan_of s) s.given (main_origin (plan_of s))) root t.root
+  heard : IsAnsweredBy (plan_of s) s.given (main_origin (plan_of s)) (Some a)
+  heard = subst (IsAnsweredBy (plan_of s) s.given (main_origin (plan_of s))) root t.root
 
   pub root-answered : machine.IsRootAnswered (core_of false s)
   root-answered = is-answered false s (main_origin (plan_of s)) heard.there
@@ -64,7 +64,7 @@ may-go (Some a) b h = absurd (cc)
 pub not-spent : (b : Bool) (s : CoreState) (c : machine.Core) → core_of b s ≡ c → c.spent ≡ false → b ≡ false
 not-spent b s c view spent = ap (λ (d : machine.Core). d.spent) view ∙ spent
 
-pub consistent-open : (b : Bool) (s : CoreState) → Holds b s → b ≡ false → IsConsistent s
+pub consistent-open : (b : Bool) (s : CoreState) → HoldsOfCore b s → b ≡ false → IsConsistent s
 consistent-open true s h e = absurd (false≢true (sym e))
 consistent-open false s h e = h
 
@@ -75,7 +75,7 @@ none-consistent : (s : CoreState) → IsConsistent s → (o : Option AnswerView)
 none-consistent s t None root = (λ h. unanswered s t root, λ h. refl)
 none-consistent s t (Some a) root = (λ h. absurd (false≢true (sym h)), λ h. absurd (h (root-answered s t a root)))
 
-module _ (b : Bool) (s : CoreState) (c : machine.Core) (view : core_of b s ≡ c) (holds : Holds b s) (spent : c.spent ≡ false) where
+module _ (b : Bool) (s : CoreState) (c : machine.Core) (view : core_of b s ≡ c) (holds : HoldsOfCore b s) (spent : c.spent ≡ false) where
   consistent : IsConsistent s
   consistent = consistent-open b s holds (not-spent b s c view spent)
 
@@ -92,9 +92,9 @@ module _ (b : Bool) (s : CoreState) (c : machine.Core) (view : core_of b s ≡ c
 
 -- A step of a core, by what its fields do
 
-module _ (b : Bool) (s : CoreState) (c : machine.Core) (view : core_of b s ≡ c) (holds : Holds b s) (open_yet : b ≡ false) (e : CoreEvent) where
+module _ (b : Bool) (s : CoreState) (c : machine.Core) (view : core_of b s ≡ c) (holds : HoldsOfCore b s) (open_yet : b ≡ false) (e : CoreEvent) where
   pub has-none : false ≡ (is_none s.root && may_happen (core_of false s) e) → (next : machine.Core) → Step e c next → ⊥
   has-none not_so next step = not-allowed s (consistent-open b s holds open_yet) e (sym not_so) next (subst (λ (d : machine.Core). Step e d next) (sym (open-is b s c view open_yet)) step)
 
-  pub is-made : (next : CoreState) → Goes e s next → Step e c (core_of false next)
+  pub is-made : (next : CoreState) → StepsTo e s next → Step e c (core_of false next)
   is-made next goes = subst (λ (d : machine.Core). Step e d (core_of false next)) (open-is b s c view open_yet) goes.step

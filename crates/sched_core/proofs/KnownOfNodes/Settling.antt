@@ -4,10 +4,10 @@ use Rattle.serial_meaning.specs.Answer.{AnswerView}
 use Rattle.serial_meaning.specs.Plan.{PlanView}
 use Rattle.serial_meaning.specs.declared.origin.Origin.{Origin}
 use Rattle.sched_meaning.proofs.OneCore.OneStep.{some-one}
-use Rattle.strand_machine.specs.Parts.{awaited}
+use Rattle.strand_machine.specs.AwaitedChildren.{awaited}
 use Rattle.sched_core.specs.Cores.{origins_of, task_in}
 use Rattle.sched_core.specs.Nodes.{missing, missing_one, settled}
-use Rattle.sched_core.specs.Consistent.{AreNodes, Awaits, IsAwaited, IsChild, IsHeard, IsJob, IsLinked, IsNode}
+use Rattle.sched_core.specs.Consistent.{AreNodes, Awaits, IsAwaited, IsChild, IsAnsweredBy, IsJob, IsLinked, IsNode}
 use Rattle.sched_core.specs.declared.job.Job.{Job}
 use Rattle.sched_core.specs.declared.node.NodeChild.{NodeChild}
 use Rattle.sched_core.specs.declared.node.Link.{Link}
@@ -49,9 +49,9 @@ module _ (plan : PlanView) (given : List Origin) (nodes : List SpawnNode) (all :
           let at : slice_get node.children l.place ≡ Some w.child = ap (λ (p : SpawnNode). slice_get p.children l.place) (sym same) ∙ w.at in
           let ch : IsChild plan given nodes n l.place w.child = (all n node there).children l.place w.child at in
           let own : ch.node ≡ x = some-one ch.node x (sym ch.there ∙ ap (λ m. slice_get nodes m) w.number ∙ h) in
-          by_answer w.child.answer (none-missing node.children l.place w.child whole at) (subst (λ (y : SpawnNode). IsHeard plan given y.origin w.child.answer) own ch.heard)
+          by_answer w.child.answer (none-missing node.children l.place w.child whole at) (subst (λ (y : SpawnNode). IsAnsweredBy plan given y.origin w.child.answer) own ch.heard)
         where
-          by_answer : (a : Option AnswerView) → missing_one a ≡ 0 → IsHeard plan given x.origin a → ⊥
+          by_answer : (a : Option AnswerView) → missing_one a ≡ 0 → IsAnsweredBy plan given x.origin a → ⊥
           by_answer None e i = absurd (cc)
           by_answer (Some a) e i = open_yet i.there
 
@@ -66,7 +66,7 @@ module _ (plan : PlanView) (given : List Origin) (nodes : List SpawnNode) (all :
   child-stays : (k place : ℕ) (c : NodeChild) → IsChild plan given nodes k place c → IsChild plan given after k place c
   child-stays k place c ch =
       let y = node-after c.number ch.node ch.there in
-      record { node = y.0; there = y.1; link = y.3 ∙ ch.link; heard = subst (λ p. IsHeard plan given p c.answer) (sym y.2) ch.heard }
+      record { node = y.0; there = y.1; link = y.3 ∙ ch.link; heard = subst (λ p. IsAnsweredBy plan given p c.answer) (sym y.2) ch.heard }
 
   own-is : IsNode plan given after n (settled node)
   own-is = record {

@@ -3,10 +3,10 @@ use Rattle.std.proofs.Common.{◌≡◌, ℕ, ◌+◌, ◌⊎◌, inl, inr, List
 use Rattle.serial_meaning.specs.Plan.{PlanView}
 use Rattle.serial_meaning.specs.declared.origin.Origin.{Origin}
 use Rattle.sched_meaning.proofs.OneCore.OneStep.{some-one}
-use Rattle.strand_machine.specs.Parts.{awaited}
+use Rattle.strand_machine.specs.AwaitedChildren.{awaited}
 use Rattle.sched_core.specs.Cores.{origins_of, task_in}
 use Rattle.sched_core.specs.Nodes.{awaiting, missing, missing_one, new_node}
-use Rattle.sched_core.specs.Consistent.{AreNodes, Awaits, IsAwaited, IsChild, IsHeard, IsJob, IsLinked, IsNode}
+use Rattle.sched_core.specs.Consistent.{AreNodes, Awaits, IsAwaited, IsChild, IsAnsweredBy, IsJob, IsLinked, IsNode}
 use Rattle.sched_core.specs.declared.job.Job.{Job}
 use Rattle.sched_core.specs.declared.node.NodeChild.{NodeChild}
 use Rattle.sched_core.specs.declared.node.Link.{Link}
@@ -83,7 +83,7 @@ module _ (plan : PlanView) (given : List Origin) (nodes : List SpawnNode) (all :
   child-stays : (k place : ℕ) (c : NodeChild) → IsChild plan given nodes k place c → IsChild plan given after k place c
   child-stays k place c is =
       let y : Stays after c.number is.node = stays c.number is.node is.there in
-      record { node = y.node; there = y.there; link = y.link ∙ is.link; heard = subst (λ p. IsHeard plan given p c.answer) (sym y.origin) is.heard }
+      record { node = y.node; there = y.there; link = y.link ∙ is.link; heard = subst (λ p. IsAnsweredBy plan given p c.answer) (sym y.origin) is.heard }
 
   awaited-stays : (k : ℕ) (l : Link) → IsAwaited nodes k l → IsAwaited after k l
   awaited-stays k l is = by_number (same-or l.parent n)

@@ -8,10 +8,10 @@ use Rattle.serial_meaning.specs.declared.origin.Origin.{Origin}
 use Rattle.strand_meaning.specs.Laws.{IsFaultOf}
 use Rattle.strand_meaning.specs.Trace.{AwaitedChild}
 use Rattle.strand_machine.specs.Family.{tag, tags}
-use Rattle.strand_machine.specs.Parts.{awaited}
+use Rattle.strand_machine.specs.AwaitedChildren.{awaited}
 use Rattle.strand_machine.specs.Stops.{answer_tags, any_cut, is_cut}
 use Rattle.sched_core.specs.Nodes.{answers_in, and_answer, missing, missing_one}
-use Rattle.sched_core.specs.Consistent.{Awaits, IsHeard}
+use Rattle.sched_core.specs.Consistent.{Awaits, IsAnsweredBy}
 use Rattle.sched_core.specs.declared.node.NodeChild.{NodeChild}
 
 -- the machine's list of awaited children is the tasks'
@@ -42,9 +42,9 @@ uncut plan (outcome.Cut f) h = absurd h
 module _ (plan : PlanView) (given begun : List Origin) where
   -- each of these children has its answer kept exactly where it was given
   abbrev pub AreHeard : List NodeChild → Type 0
-  AreHeard cs = (k : ℕ) (c : NodeChild) → slice_get cs k ≡ Some c → (o : Origin) → slice_get begun c.number ≡ Some o → IsHeard plan given o c.answer
+  AreHeard cs = (k : ℕ) (c : NodeChild) → slice_get cs k ≡ Some c → (o : Origin) → slice_get begun c.number ≡ Some o → IsAnsweredBy plan given o c.answer
 
-  heard-there : (o : Origin) (a : Option AnswerView) → IsHeard plan given o a → missing_one a ≡ 0 → Contains given o
+  heard-there : (o : Origin) (a : Option AnswerView) → IsAnsweredBy plan given o a → missing_one a ≡ 0 → Contains given o
   heard-there o None h m = absurd (cc)
   heard-there o (Some a) h m = h.there
 
@@ -71,7 +71,7 @@ module _ (plan : PlanView) (given begun : List Origin) where
   not-all (c ∷ cs) [] n a h m all = absurd a
   not-all (c ∷ cs) (o ∷ os) n a h m all = by_answer c.answer refl (h 0 c refl o a.0) (λ rest. not-all cs os n a.1 (λ j. h (suc j)) rest (all-rest (Contains given) o os all))
     where
-      by_answer : (x : Option AnswerView) → c.answer ≡ x → IsHeard plan given o x → (missing cs ≡ suc n → ⊥) → ⊥
+      by_answer : (x : Option AnswerView) → c.answer ≡ x → IsAnsweredBy plan given o x → (missing cs ≡ suc n → ⊥) → ⊥
       by_answer None e k later = k (all-first (Contains given) o os all)
       by_answer (Some x) e k later = later (some-there c x cs (suc n) e m)
 
@@ -82,7 +82,7 @@ module _ (plan : PlanView) (given begun : List Origin) where
   tags-are (c ∷ cs) [] a h m = absurd a
   tags-are (c ∷ cs) (o ∷ os) a h m = by_answer c.answer refl (h 0 c refl o a.0) (tags-are cs os a.1 (λ k. h (suc k)) (rest-there c cs m))
     where
-      by_answer : (x : Option AnswerView) → c.answer ≡ x → IsHeard plan given o x → answer_tags (answers_in cs) ≡ tags plan os → answer_tags (and_answer c.answer (answers_in cs)) ≡ tags plan (o ∷ os)
+      by_answer : (x : Option AnswerView) → c.answer ≡ x → IsAnsweredBy plan given o x → answer_tags (answers_in cs) ≡ tags plan os → answer_tags (and_answer c.answer (answers_in cs)) ≡ tags plan (o ∷ os)
       by_answer None e k later = absurd (none-there c cs e m)
       by_answer (Some x) e k later =
           ap (λ y. answer_tags (and_answer y (answers_in cs))) e ∙ ap (λ p. tag p x.origin ∷ answer_tags (answers_in cs)) k.plan_is ∙ ap (λ p. tag plan p ∷ answer_tags (answers_in cs)) k.origin
@@ -94,6 +94,6 @@ module _ (plan : PlanView) (given begun : List Origin) where
   none-cut (c ∷ cs) [] a h = absurd a
   none-cut (c ∷ cs) (o ∷ os) a h = by_answer c.answer refl (h 0 c refl o a.0) (none-cut cs os a.1 (λ k. h (suc k)))
     where
-      by_answer : (x : Option AnswerView) → c.answer ≡ x → IsHeard plan given o x → any_cut (answers_in cs) ≡ false → any_cut (and_answer c.answer (answers_in cs)) ≡ false
+      by_answer : (x : Option AnswerView) → c.answer ≡ x → IsAnsweredBy plan given o x → any_cut (answers_in cs) ≡ false → any_cut (and_answer c.answer (answers_in cs)) ≡ false
       by_answer None e k later = ap (λ y. any_cut (and_answer y (answers_in cs))) e ∙ later
       by_answer (Some x) e k later = ap (λ y. any_cut (and_answer y (answers_in cs))) e ∙ ap (λ b. b || any_cut (answers_in cs)) (uncut plan x.outcome k.known) ∙ later

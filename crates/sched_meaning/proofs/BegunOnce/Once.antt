@@ -34,7 +34,7 @@ module _ (q : Origin) where
   abbrev Within : ℕ → Type 0
   Within n = (t : Task) → IsTask t → t.waiting ≡ false → segments t ≤ n → AtMostOnce t
 
-  spawn-once : (t : Task) (c : Origin) (rest : Task) → AreApart t.origin t.work c rest → begins t ≡ 0 + (is_it q c + (begins (start rest.plan c) + begins rest)) → AtMostOnce (start rest.plan c) → AtMostOnce rest → AtMostOnce t
+  spawn-once : (t : Task) (c : Origin) (rest : Task) → AreApart t.origin t.remaining c rest → begins t ≡ 0 + (is_it q c + (begins (start rest.plan c) + begins rest)) → AtMostOnce (start rest.plan c) → AtMostOnce rest → AtMostOnce t
   spawn-once t c rest a e = by_child (is_it q c) refl
     where
       by_child : (n : ℕ) → is_it q c ≡ n → AtMostOnce (start rest.plan c) → AtMostOnce rest → AtMostOnce t

@@ -11,9 +11,9 @@ use Rattle.script_grammar.specs.declared.tree.Stmt.{Stmt, out-Stmt}
 use Rattle.script_grammar.specs.declared.tree.Act.{Act, out-Act}
 use Rattle.script_grammar.specs.declared.tree.Act.TheOpen as act
 use Rattle.script_grammar.specs.declared.tree.Act.TheOpen.{Act-F}
-use Rattle.serial_meaning.specs.Runs.{Run, done, goes_on, ◌then◌}
+use Rattle.serial_meaning.specs.Runs.{Run, done, continued, ◌then◌}
 use Rattle.serial_meaning.specs.Values.{value_of, values_of, slot_of, items_of, as_integer, is_true, at_index}
-use Rattle.serial_meaning.specs.Functions.{number_of, function_at}
+use Rattle.serial_meaning.specs.Functions.{function_number, function_at}
 use Rattle.serial_meaning.specs.Plan.{PlanView, functions_of}
 use Rattle.serial_meaning.specs.Exec.{State, Manner, strand, unless_fault, paid_from, tested, has_room, fits_depth, spawn, sync_at, implied, frame, called, right_side, found, looped, does, count_of}
 use Rattle.serial_meaning.specs.Eval.{path_of}
@@ -26,7 +26,7 @@ use Rattle.serial_meaning.specs.declared.event.Event.TheVariants as event
 use Rattle.serial_meaning.specs.declared.origin.Origin.{Origin}
 use Rattle.serial_meaning.specs.declared.origin.Origin.TheVariants as origin
 use Rattle.script_check.specs.Spawns.{spawns_in}
-use Rattle.strand_meaning.specs.Machine.{Destination, Spawned, Looped, Effect, Opens, Closes, Emitted, Handed, Syncs, Loops, Exit, Faulted, Inside, loop_effects, sync_effects, handing, inside, destination_of, Level, Frame, Machine, Reached, Stands, Gives, inside_of, present, here_of, state_of, with_left, with_leaving, with_returning, back, machine_inside, reached, gives, act_run, return_run, value_run, statement_move, return_move, level_move, end_move, move_at, move}
+use Rattle.strand_meaning.specs.Machine.{Destination, Spawned, Looped, Effect, Opens, Closes, Emitted, Handed, Syncs, Loops, Exit, Faulted, Inside, loop_effects, sync_effects, handing, inside, child_destination, Level, Frame, Machine, Reached, Stands, Gives, inside_of, present, here_of, state_of, with_left, with_leaving, with_returning, back_in_caller, machine_inside, reached, gives, act_run, return_run, value_run, statement_move, return_move, level_move, end_move, move_at, move}
 use Rattle.strand_meaning.specs.Task.{child_in}
 use Rattle.strand_meaning.proofs.SoundSteps.ChildrenFollowEvents.{present-below}
 
@@ -185,7 +185,7 @@ module _ (plan : PlanView) (path : List ℕ) (k : ℕ) (In : ℕ → Type 0) (st
   rises-then : {A B : Type 0} (rank : A → ℕ) (last : B → ℕ) (r : Run Effect Exit A) (g : A → B) → ((a : A) → last (g a) ≡ rank a) → Rises rank r → Rises last (r then λ a. done (g a))
   rises-then {A} {B} rank last r g same h = from r.items r.ending h
     where
-      from : (ts : List Effect) (e : Result A Exit) → RankEnd rank ts e → Rises last (goes_on ts e (λ a. done (g a)))
+      from : (ts : List Effect) (e : Result A Exit) → RankEnd rank ts e → Rises last (continued ts e (λ a. done (g a)))
       from ts (Ok a) h = subst (λ (l : List Effect). k + handed l ≤ last (g a)) (sym (append-nil ts)) (subst (λ n. k + handed ts ≤ n) (sym (same a)) h)
       from ts (Err (Faulted f)) h = tt
       from ts (Err (Inside here calls sts s)) h = h
@@ -207,8 +207,8 @@ module _ (plan : PlanView) (path : List ℕ) (k : ℕ) (In : ℕ → Type 0) (st
   rises-called : (destination : Destination) (calls : ℕ) (c : CallText) (s : State Bool) → s.rank ≡ k → Rises of-value (called (what destination) plan path inside calls c s)
   rises-called destination calls c s e =
       rises-given of-value destination (values_of c.args s.env) s _ (λ vs. rises-tested of-value destination (nat_lt calls 256) Calls s _
-      (rises-then of-value of-value (frame (what destination) plan path inside (calls + 1) (function_at (functions_of plan) (number_of (functions_of plan) c.name.bytes)) vs s) (λ r. (r.0, record s { rank = r.1.rank; steps = r.1.steps })) (λ r. refl)
-      (by_function vs (function_at (functions_of plan) (number_of (functions_of plan) c.name.bytes)))))
+      (rises-then of-value of-value (frame (what destination) plan path inside (calls + 1) (function_at (functions_of plan) (function_number (functions_of plan) c.name.bytes)) vs s) (λ r. (r.0, record s { rank = r.1.rank; steps = r.1.steps })) (λ r. refl)
+      (by_function vs (function_at (functions_of plan) (function_number (functions_of plan) c.name.bytes)))))
     where
       by_function : (vs : List Value) (o : Option Function) → Rises of-value (frame (what destination) plan path inside (calls + 1) o vs s)
       by_function vs None = omega arith
@@ -232,7 +232,7 @@ module _ (plan : PlanView) (path : List ℕ) (k : ℕ) (In : ℕ → Type 0) (st
       destination = Looped target
 
       o : Origin
-      o = origin.Loop (number_of (functions_of plan) c.name.bytes) vs lo (path ++ s.rank ∷ []) (record { lo = 0; hi = hi })
+      o = origin.Loop (function_number (functions_of plan) c.name.bytes) vs lo (path ++ s.rank ∷ []) (record { lo = 0; hi = hi })
 
       from : (b : Bool) → k + handed (Emitted (event.Loop (path ++ s.rank ∷ [])) ∷ (loop_effects b o destination ++ [])) ≤ s.rank + 1
       from true = omega arith
@@ -278,7 +278,7 @@ module _ (plan : PlanView) (path : List ℕ) (k : ℕ) where
   value_rank p = p.1.rank
 
   rises-does : (height : ℕ) (st : Stmt) (a : Act-F Act Stmt) (s : State Bool) → s.rank ≡ k →
-      Rises plan path k (Enters k a) (enters-here k a) state_rank (does (handing plan (destination_of height a)) plan path inside height st a s)
+      Rises plan path k (Enters k a) (enters-here k a) state_rank (does (handing plan (child_destination height a)) plan path inside height st a s)
   rises-does height st (act.Let x r) s e =
       let destination = Spawned height (Some x) in rises-then plan path k Same refl value_rank state_rank (right_side (handing plan destination) plan path inside height r s) _ (λ p. refl) (rises-right plan path k Same refl destination height r s e)
   rises-does height st (act.Array x n) s e = omega arith
@@ -388,7 +388,7 @@ module _ (plan : PlanView) (path : List ℕ) (m : Machine) where
       let a = out-Act (out-Stmt st).act in
       let r = act_run plan path m st a in
       reached-on (Enters m.rank a) (enters-here m.rank a) (with_left m left) (machine_inside plan st a left m) rises-on (λ sts s e. entered-on st a left sts s e) r.items r.ending
-      (rises-paid plan (here_of path m) m.rank (Enters m.rank a) (enters-here m.rank a) (λ s. s.rank) (destination_of (length m.below) a) m.steps (state_of m) refl _
+      (rises-paid plan (here_of path m) m.rank (Enters m.rank a) (enters-here m.rank a) (λ s. s.rank) (child_destination (length m.below) a) m.steps (state_of m) refl _
       (λ s e. rises-does plan (here_of path m) m.rank (length m.below) st a s e))
 
   abbrev Here : ℕ → Type 0
@@ -399,7 +399,7 @@ module _ (plan : PlanView) (path : List ℕ) (m : Machine) where
   no-inside sts s e = λ q x. x
 
   -- the value of a return, which goes back to the caller, who stands at the same path
-  back-on : m.top.levels ≡ [] → (below : List Frame) → m.below ≡ below → (target : Option Name) (v : Value) (steps : ℕ) → MovesOn path m [] (Ok (back below target v m.rank steps))
+  back-on : m.top.levels ≡ [] → (below : List Frame) → m.below ≡ below → (target : Option Name) (v : Value) (steps : ℕ) → MovesOn path m [] (Ok (back_in_caller below target v m.rank steps))
   back-on flat [] at target v steps = tt
   back-on flat (caller ∷ below) at target v steps =
       λ q x. subst (λ bs. OnwardAt path m.top.levels bs (m.rank + 0) q) (sym at) (subst (λ ls. OnwardAt path ls (caller ∷ below) (m.rank + 0) q) (sym flat) (outer q x))

@@ -11,11 +11,11 @@ use Rattle.serial_meaning.specs.declared.event.Fault.{Fault}
 use Rattle.serial_meaning.specs.declared.origin.Origin.{Origin}
 use Rattle.serial_meaning.specs.declared.origin.Origin.TheVariants.{Instance, Loop}
 use Rattle.serial_meaning.specs.declared.answer.Outcome.{Outcome}
-use Rattle.strand_meaning.specs.Machine.{Destination, Spawned, Looped, Half, Level, Frame, Effect, Opens, Closes, Emitted, Handed, Syncs, Loops, Machine, Reached, Stands, Gives, inside_of, present, here_of, begun, move}
+use Rattle.strand_meaning.specs.Machine.{Destination, Spawned, Looped, Half, Level, Frame, Effect, Opens, Closes, Emitted, Handed, Syncs, Loops, Machine, Reached, Stands, Gives, inside_of, present, here_of, function_begun, move}
 use Rattle.strand_meaning.specs.Trace.{AwaitedChild, add_child}
-use Rattle.strand_meaning.specs.Task.{InstanceState, Running, AtSync, AtLoop, Ended, Work, Splits, Runs, Finished, Task, start, begun_stage, own_instance, begins_last, MoveOrStop, Passes, Stops, Stop, Spawn, Wait, End, IsNext, Now, Later, stage_after, child_in, stops_at, passing, moved, waits, ends_unless, faults_after, gave, stage_step, first_half, split_step, over_step, work_step, step, changed, changed_at, frame_with_answer, takes, joins, resumed, takes_all, resumed_work}
+use Rattle.strand_meaning.specs.Task.{Stage, Running, AtSync, AtLoop, Ended, Remaining, Splits, Runs, Finished, Task, start, begun_stage, own_instance, begins_last, MoveOrStop, Passes, Stops, Stop, Spawn, Wait, End, IsNext, Now, Later, stage_after, child_in, stops_at, passing, step_result, waits, ends_unless, faults_after, returned, stage_step, first_half, split_step, over_step, remaining_step, step, changed, changed_at, frame_with_answer, takes, pass_sync, resumed, takes_all, resumed_remaining}
 use Rattle.strand_meaning.specs.Rest.{evaluations}
-use Rattle.strand_meaning.specs.Sound.{IsEndOf, IsSoundWork, IsTask}
+use Rattle.strand_meaning.specs.Sound.{IsEndOf, IsSoundRemaining, IsTask}
 use Rattle.strand_meaning.specs.Laws.{IsSoundStep}
 use Rattle.strand_meaning.proofs.SoundSteps.Ends.{steps_are_sound}
 use Rattle.sched_meaning.specs.Core.{gone_on}
@@ -48,19 +48,19 @@ pub record Between (p : List ℕ) (left : Range) (q : Origin) : Type 0 where
 abbrev pub SplitRegion : List ℕ → Range → Origin → Type 0
 SplitRegion p left q = IsShorter p left q ⊎ Between p left q
 
-abbrev pub StageRegion : List ℕ → InstanceState → Origin → Type 0
+abbrev pub StageRegion : List ℕ → Stage → Origin → Type 0
 StageRegion w (Running m) q = Onward w m m.rank q
 StageRegion w (AtSync m) q = Onward w m m.rank q
 StageRegion w (AtLoop m) q = Onward w m m.rank q
 StageRegion w (Ended e) q = ⊥
 
-abbrev pub WorkRegion : Origin → Work → Origin → Type 0
-WorkRegion o (Splits left) q = IsShorter (path_of o) left q ⊎ Between (path_of o) left q
-WorkRegion o (Runs stage) q = StageRegion (path_of (own_instance o)) stage q
-WorkRegion o (Finished v gone_on) q = ⊥
+abbrev pub RemainingRegion : Origin → Remaining → Origin → Type 0
+RemainingRegion o (Splits left) q = IsShorter (path_of o) left q ⊎ Between (path_of o) left q
+RemainingRegion o (Runs stage) q = StageRegion (path_of (own_instance o)) stage q
+RemainingRegion o (Finished v gone_on) q = ⊥
 
 abbrev pub Region : Task → Origin → Type 0
-Region t q = WorkRegion t.origin t.work q
+Region t q = RemainingRegion t.origin t.remaining q
 
 -- what a begun instance may begin is below its path
 begun-below : (w : List ℕ) (q : Origin) (r : Reached) → StageRegion w (begun_stage r) q → From w 0 q
@@ -69,7 +69,7 @@ begun-below w q (Gives v) f = absurd f
 
 -- what a begun origin may begin: a shorter part of the same loop, or what is below its path
 start-below : (plan : PlanView) (c q : Origin) → Region (start plan c) q → IsShorter (path_of c) (range_of c) q ⊎ From (path_of c) 0 q
-start-below plan (Instance function args path) q h = inr (begun-below path q (begun plan function args) h)
+start-below plan (Instance function args path) q h = inr (begun-below path q (function_begun plan function args) h)
 start-below plan (Loop function rest first path range) q (inl s) = inl s
 start-below plan (Loop function rest first path range) q (inr b) = inr (record { rank = b.rank; more = b.more; path_is = b.path_is; reaches = omega arith })
 
@@ -82,18 +82,18 @@ not-own plan c h = from (start-below plan c c h)
     from (inr f) = longer (path_of c) f.more f.rank f.path_is
 
 -- Where the rest of a task and a child are apart
-pub record AreApart (o : Origin) (work : Work) (c : Origin) (rest : Task) : Type 0 where
-  pub own : WorkRegion o work c
-  pub below : (q : Origin) → Region (start rest.plan c) q → WorkRegion o work q
-  pub later : (q : Origin) → Region rest q → WorkRegion o work q
+pub record AreApart (o : Origin) (remaining : Remaining) (c : Origin) (rest : Task) : Type 0 where
+  pub own : RemainingRegion o remaining c
+  pub below : (q : Origin) → Region (start rest.plan c) q → RemainingRegion o remaining q
+  pub later : (q : Origin) → Region rest q → RemainingRegion o remaining q
   pub not_later : Region rest c → ⊥
   pub apart : (q : Origin) → Region (start rest.plan c) q → Region rest q → ⊥
 
-abbrev pub StepRegion : Origin → Work → MoveOrStop → Type 0
-StepRegion o work (Passes next) = (q : Origin) → Region next q → WorkRegion o work q
-StepRegion o work (Stops (Spawn c rest)) = AreApart o work c rest
-StepRegion o work (Stops (Wait rest)) = (q : Origin) → Region rest q → WorkRegion o work q
-StepRegion o work (Stops (End out ended)) = Unit {0}
+abbrev pub StepRegion : Origin → Remaining → MoveOrStop → Type 0
+StepRegion o remaining (Passes next) = (q : Origin) → Region next q → RemainingRegion o remaining q
+StepRegion o remaining (Stops (Spawn c rest)) = AreApart o remaining c rest
+StepRegion o remaining (Stops (Wait rest)) = (q : Origin) → Region rest q → RemainingRegion o remaining q
+StepRegion o remaining (Stops (End out ended)) = Unit {0}
 
 -- Moves
 
@@ -135,20 +135,20 @@ module _ (t : Task) (is : IsTask t) where
   o : Origin
   o = t.origin
 
-  region-ends : (work : Work) (f : Option Fault) (ended : Outcome) → StepRegion t.origin work (ends_unless f t ended)
-  region-ends work None ended = tt
-  region-ends work (Some f) ended = tt
+  region-ends : (remaining : Remaining) (f : Option Fault) (ended : Outcome) → StepRegion t.origin remaining (ends_unless f t ended)
+  region-ends remaining None ended = tt
+  region-ends remaining (Some f) ended = tt
 
-  region-waits : (work : Work) → t.work ≡ work → StepRegion t.origin work (waits t)
-  region-waits work at = λ q h. subst (λ (x : Work). WorkRegion t.origin x q) at h
+  region-waits : (remaining : Remaining) → t.remaining ≡ remaining → StepRegion t.origin remaining (waits t)
+  region-waits remaining at = λ q h. subst (λ (x : Remaining). RemainingRegion t.origin x q) at h
 
-  region-faults : (work : Work) → t.work ≡ work → (ps : List AwaitedChild) (f : Fault) → StepRegion t.origin work (faults_after ps t f)
-  region-faults work at [] f = region-ends work t.trace.fault _
-  region-faults work at (p ∷ ps) f = region-waits work at
+  region-faults : (remaining : Remaining) → t.remaining ≡ remaining → (ps : List AwaitedChild) (f : Fault) → StepRegion t.origin remaining (faults_after ps t f)
+  region-faults remaining at [] f = region-ends remaining t.trace.fault _
+  region-faults remaining at (p ∷ ps) f = region-waits remaining at
 
-  region-gave : (work : Work) (origin : Origin) (v : Value) → StepRegion t.origin work (gave t origin v)
-  region-gave work (Instance function args path) v = region-ends work t.trace.fault _
-  region-gave work (Loop function rest first path range) v = λ q h. absurd h
+  region-gave : (remaining : Remaining) (origin : Origin) (v : Value) → StepRegion t.origin remaining (returned t origin v)
+  region-gave remaining (Instance function args path) v = region-ends remaining t.trace.fault _
+  region-gave remaining (Loop function rest first path range) v = λ q h. absurd h
 
   module _ (m : Machine) where
     abbrev w : List ℕ
@@ -174,13 +174,13 @@ module _ (t : Task) (is : IsTask t) where
         after : (q : Origin) → StageRegion w (stage_after ts k) q → Onward w m (suc m.rank) q
         after q h = let r : 1 ≤ handed ts = child-handed ts c e in onward-lower w m.top.levels m.below (suc m.rank) (m.rank + handed ts) q (omega arith) (up q (after-region w ts k q h))
 
-  region-stage : (stage : InstanceState) → t.work ≡ Runs stage → StepRegion t.origin (Runs stage) (stage_step t stage)
+  region-stage : (stage : Stage) → t.remaining ≡ Runs stage → StepRegion t.origin (Runs stage) (stage_step t stage)
   region-stage (Running m) at = by_end (move t.plan path m).items (move t.plan path m).ending (moves-on t.plan path m) (move_hands t.plan path m)
     where
       path : List ℕ
       path = path_of (own_instance t.origin)
 
-      by_end : (ts : List Effect) (e : Result Reached Fault) → MovesOn path m ts e → MoveHands t.plan path (strand_at path m) (children ts) e → StepRegion t.origin (Runs (Running m)) (moved t ts e)
+      by_end : (ts : List Effect) (e : Result Reached Fault) → MovesOn path m ts e → MoveHands t.plan path (strand_at path m) (children ts) e → StepRegion t.origin (Runs (Running m)) (step_result t ts e)
       by_end ts (Ok (Stands k)) up h = region-at m ts k (child_in ts) refl up h
       by_end ts (Ok (Gives v)) up h = λ q g. absurd g
       by_end ts (Err f) up h = λ q g. absurd g
@@ -192,9 +192,9 @@ module _ (t : Task) (is : IsTask t) where
 
   -- Loops
 
-  last-region : (plan : PlanView) (origin : Origin) (left : Range) → IsEndOf origin left → left.hi - left.lo ≡ 1 → (q : Origin) → WorkRegion origin (begins_last plan origin) q → WorkRegion origin (Splits left) q
+  last-region : (plan : PlanView) (origin : Origin) (left : Range) → IsEndOf origin left → left.hi - left.lo ≡ 1 → (q : Origin) → RemainingRegion origin (begins_last plan origin) q → RemainingRegion origin (Splits left) q
   last-region plan (Instance function args path) left is e q h = absurd is
-  last-region plan (Loop function rest first path range) left is e q h = inr (last (begun-below (path ++ (range.hi - 1) ∷ []) q (begun plan function _) h))
+  last-region plan (Loop function rest first path range) left is e q h = inr (last (begun-below (path ++ (range.hi - 1) ∷ []) q (function_begun plan function _) h))
     where
       last : From (path ++ (range.hi - 1) ∷ []) 0 q → Between path left q
       last f = record {
@@ -206,7 +206,7 @@ module _ (t : Task) (is : IsTask t) where
       }
 
   -- both halves of what is left
-  halves : (plan : PlanView) (origin : Origin) (left : Range) (n : ℕ) → IsEndOf origin left → left.hi - left.lo ≡ suc (suc n) → (rest : Task) → rest.plan ≡ plan → rest.origin ≡ origin → rest.work ≡ Splits (upper_half left) → AreApart origin (Splits left) (first_half origin left) rest
+  halves : (plan : PlanView) (origin : Origin) (left : Range) (n : ℕ) → IsEndOf origin left → left.hi - left.lo ≡ suc (suc n) → (rest : Task) → rest.plan ≡ plan → rest.origin ≡ origin → rest.remaining ≡ Splits (upper_half left) → AreApart origin (Splits left) (first_half origin left) rest
   halves plan (Instance function args path) left n is e rest a b d = absurd is
   halves plan (Loop function more first path range) left n is e rest a b d = record {
     own = inl (record { path_is = refl; low = omega arith; some = omega arith; high = omega arith; shorter = omega arith });
@@ -220,7 +220,7 @@ module _ (t : Task) (is : IsTask t) where
       c = Loop function more first path (lower_half left)
 
       up : (q : Origin) → Region rest q → SplitRegion path (upper_half left) q
-      up q h = subst (λ (x : Work). WorkRegion (Loop function more first path range) x q) d (subst (λ (x : Origin). WorkRegion x rest.work q) b h)
+      up q h = subst (λ (x : Remaining). RemainingRegion (Loop function more first path range) x q) d (subst (λ (x : Origin). RemainingRegion x rest.remaining q) b h)
 
       lower : (q : Origin) → SplitRegion path (lower_half left) q → IsShorter path left q ⊎ Between path left q
       lower q (inl s) = inl (record { path_is = s.path_is; low = s.low; some = s.some; high = omega (arith, s.high); shorter = omega (arith, s.shorter) })
@@ -240,13 +240,13 @@ module _ (t : Task) (is : IsTask t) where
       apart q (inr f) (inl s) = longer path f.more f.rank (sym s.path_is ∙ f.path_is)
       apart q (inr f) (inr g) = let e : f.rank ≡ g.rank = same-rank path f.more g.more f.rank g.rank (sym f.path_is ∙ g.path_is) in absurd (omega (arith, f.high, g.low))
 
-  region-split : (left : Range) (n : ℕ) → t.work ≡ Splits left → IsEndOf t.origin left → left.hi - left.lo ≡ n → StepRegion t.origin (Splits left) (split_step t left n)
+  region-split : (left : Range) (n : ℕ) → t.remaining ≡ Splits left → IsEndOf t.origin left → left.hi - left.lo ≡ n → StepRegion t.origin (Splits left) (split_step t left n)
   region-split left zero at is e = region-ends (Splits left) t.trace.fault _
   region-split left (suc zero) at is e = last-region t.plan t.origin left is e
   region-split left (suc (suc n)) at is e =
-      halves t.plan t.origin left n is e (record t { trace = add_child (first_half t.origin left) Half t.trace; work = Splits (upper_half left); advanced = true }) refl refl refl
+      halves t.plan t.origin left n is e (record t { trace = add_child (first_half t.origin left) Half t.trace; remaining = Splits (upper_half left); advanced = true }) refl refl refl
 
-  region-over : (v : Value) (origin : Origin) → t.work ≡ Finished v false → StepRegion t.origin (Finished v false) (over_step t v origin)
+  region-over : (v : Value) (origin : Origin) → t.remaining ≡ Finished v false → StepRegion t.origin (Finished v false) (over_step t v origin)
   region-over v (Instance function args path) at = region-ends (Finished v false) t.trace.fault _
   region-over v (Loop function rest first path range) at = by_size (range.hi - range.lo) refl
     where
@@ -255,17 +255,17 @@ module _ (t : Task) (is : IsTask t) where
       by_size (suc zero) g = rw g (region-ends (Finished v false) t.trace.fault _)
       by_size (suc (suc n)) g = rw g (region-waits (Finished v false) at)
 
-  region-work : (work : Work) → t.work ≡ work → IsSoundWork t.plan t.origin t.trace.handed work → StepRegion t.origin work (work_step t work)
-  region-work (Splits left) at is = region-split left (left.hi - left.lo) at is.0 refl
-  region-work (Runs stage) at is = region-stage stage at
-  region-work (Finished v true) at is = region-ends (Finished v true) t.trace.fault _
-  region-work (Finished v false) at is = region-over v t.origin at
+  region-remaining : (remaining : Remaining) → t.remaining ≡ remaining → IsSoundRemaining t.plan t.origin t.trace.handed remaining → StepRegion t.origin remaining (remaining_step t remaining)
+  region-remaining (Splits left) at is = region-split left (left.hi - left.lo) at is.0 refl
+  region-remaining (Runs stage) at is = region-stage stage at
+  region-remaining (Finished v true) at is = region-ends (Finished v true) t.trace.fault _
+  region-remaining (Finished v false) at is = region-over v t.origin at
 
-  region-step : StepRegion t.origin t.work (step t)
-  region-step = region-work t.work refl is.work
+  region-step : StepRegion t.origin t.remaining (step t)
+  region-step = region-remaining t.remaining refl is.remaining
 
 abbrev pub StopRegion : Task → Stop → Type 0
-StopRegion t stop = StepRegion t.origin t.work (Stops stop)
+StopRegion t stop = StepRegion t.origin t.remaining (Stops stop)
 
 region-further : (t next : Task) (stop : Stop) → ((q : Origin) → Region next q → Region t q) → StopRegion next stop → StopRegion t stop
 region-further t next (Spawn c rest) up a = record {
@@ -279,9 +279,9 @@ region-further t next (Wait rest) up h = λ q g. up q (h q g)
 region-further t next (End out ended) up h = tt
 
 pub stop-region : (t : Task) (stop : Stop) → IsTask t → IsNext t stop → StopRegion t stop
-stop-region t stop is (Now h) = subst (StepRegion t.origin t.work) h (region-step t is)
+stop-region t stop is (Now h) = subst (StepRegion t.origin t.remaining) h (region-step t is)
 stop-region t stop is (Later next h n) =
-    region-further t next stop (subst (StepRegion t.origin t.work) h (region-step t is)) (stop-region next stop (subst (IsSoundStep t) h (steps_are_sound t is)) n)
+    region-further t next stop (subst (StepRegion t.origin t.remaining) h (region-step t is)) (stop-region next stop (subst (IsSoundStep t) h (steps_are_sound t is)) n)
 
 -- Answers
 
@@ -321,7 +321,7 @@ same-levels target (Ok vs) a = refl
 same-levels target (Err f) a = refl
 
 module _ (w : List ℕ) (q : Origin) where
-  takes-region : (destination : Destination) (ended : Result (List Value) Fault) (stage : InstanceState) → StageRegion w (takes destination ended stage) q → StageRegion w stage q
+  takes-region : (destination : Destination) (ended : Result (List Value) Fault) (stage : Stage) → StageRegion w (takes destination ended stage) q → StageRegion w stage q
   takes-region (Spawned height target) ended (Running m) h = changed-onward (frame_with_answer target ended) (same-levels target ended) w q height m h
   takes-region (Spawned height target) ended (AtSync m) h = changed-onward (frame_with_answer target ended) (same-levels target ended) w q height m h
   takes-region (Spawned height target) ended (AtLoop m) h = changed-onward (frame_with_answer target ended) (same-levels target ended) w q height m h
@@ -333,26 +333,26 @@ module _ (w : List ℕ) (q : Origin) where
   takes-region (Looped target) (Err f) stage h = absurd h
   takes-region Half ended stage h = h
 
-  all-region : (ps : List AwaitedChild) (answers : List Evaluation) (stage : InstanceState) → StageRegion w (takes_all ps answers stage) q → StageRegion w stage q
+  all-region : (ps : List AwaitedChild) (answers : List Evaluation) (stage : Stage) → StageRegion w (takes_all ps answers stage) q → StageRegion w stage q
   all-region [] answers stage h = h
   all-region (p ∷ ps) [] stage h = h
   all-region (p ∷ ps) (answer ∷ answers) stage h = takes-region p.destination answer.ending stage (all-region ps answers (takes p.destination answer.ending stage) h)
 
-  joins-region : (f : Option Fault) (m : Machine) → StageRegion w (joins f m) q → Onward w m m.rank q
+  joins-region : (f : Option Fault) (m : Machine) → StageRegion w (pass_sync f m) q → Onward w m m.rank q
   joins-region None m h = h
   joins-region (Some f) m h = absurd h
 
-  resumed-region : (stage : InstanceState) → StageRegion w (resumed stage) q → StageRegion w stage q
+  resumed-region : (stage : Stage) → StageRegion w (resumed stage) q → StageRegion w stage q
   resumed-region (Running m) h = h
   resumed-region (AtSync m) h = joins-region m.top.faulted m h
   resumed-region (AtLoop m) h = h
   resumed-region (Ended e) h = absurd h
 
 pub on-region : (t : Task) (q : Origin) → Region (gone_on t) q → Region t q
-on-region t q h = by_work t.work h
+on-region t q h = by_remaining t.remaining h
   where
-    by_work : (work : Work) → WorkRegion t.origin (resumed_work t.trace.handed (evaluations (eval t.plan) t.trace.handed) work) q → WorkRegion t.origin work q
-    by_work (Splits left) h = h
-    by_work (Runs stage) h =
+    by_remaining : (remaining : Remaining) → RemainingRegion t.origin (resumed_remaining t.trace.handed (evaluations (eval t.plan) t.trace.handed) remaining) q → RemainingRegion t.origin remaining q
+    by_remaining (Splits left) h = h
+    by_remaining (Runs stage) h =
         let w = path_of (own_instance t.origin) in all-region w q t.trace.handed (evaluations (eval t.plan) t.trace.handed) stage (resumed-region w q (takes_all t.trace.handed (evaluations (eval t.plan) t.trace.handed) stage) h)
-    by_work (Finished v gone) h = absurd h
+    by_remaining (Finished v gone) h = absurd h

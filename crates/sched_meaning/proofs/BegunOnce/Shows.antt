@@ -11,9 +11,9 @@ use Rattle.script_grammar.specs.declared.tree.Stmt.{Stmt, out-Stmt}
 use Rattle.script_grammar.specs.declared.tree.Act.{Act, out-Act}
 use Rattle.script_grammar.specs.declared.tree.Act.TheOpen as act
 use Rattle.script_grammar.specs.declared.tree.Act.TheOpen.{Act-F}
-use Rattle.serial_meaning.specs.Runs.{Run, done, goes_on, ◌then◌}
+use Rattle.serial_meaning.specs.Runs.{Run, done, continued, ◌then◌}
 use Rattle.serial_meaning.specs.Values.{value_of, values_of, slot_of, items_of, as_integer, is_true, at_index}
-use Rattle.serial_meaning.specs.Functions.{number_of, function_at}
+use Rattle.serial_meaning.specs.Functions.{function_number, function_at}
 use Rattle.serial_meaning.specs.Plan.{PlanView, functions_of}
 use Rattle.serial_meaning.specs.Exec.{State, Manner, strand, unless_fault, paid_from, tested, has_room, fits_depth, spawn, sync_here, implied, frame, called, right_side, found, looped, does, count_of}
 use Rattle.serial_meaning.specs.Eval.{path_of}
@@ -26,7 +26,7 @@ use Rattle.serial_meaning.specs.declared.event.Event.TheVariants as event
 use Rattle.serial_meaning.specs.declared.origin.Origin.{Origin}
 use Rattle.serial_meaning.specs.declared.origin.Origin.TheVariants as origin
 use Rattle.script_check.specs.Spawns.{spawns_in}
-use Rattle.strand_meaning.specs.Machine.{Destination, Spawned, Looped, Effect, Opens, Closes, Emitted, Handed, Syncs, Loops, Exit, Faulted, Inside, loop_effects, sync_effects, handing, inside, destination_of, Level, Frame, Machine, Reached, Stands, Gives, here_of, state_of, with_left, with_leaving, with_returning, back, machine_inside, reached, gives, return_run, value_run, return_move, level_move, end_move, move_at, move}
+use Rattle.strand_meaning.specs.Machine.{Destination, Spawned, Looped, Effect, Opens, Closes, Emitted, Handed, Syncs, Loops, Exit, Faulted, Inside, loop_effects, sync_effects, handing, inside, child_destination, Level, Frame, Machine, Reached, Stands, Gives, here_of, state_of, with_left, with_leaving, with_returning, back_in_caller, machine_inside, reached, gives, return_run, value_run, return_move, level_move, end_move, move_at, move}
 use Rattle.strand_meaning.proofs.SoundSteps.ChildrenFollowEvents.{here-below}
 
 -- the children among these
@@ -77,7 +77,7 @@ module _ (plan : PlanView) (path : List ℕ) (k : ℕ) where
   hands-then : {A B : Type 0} (r : Run Effect Exit A) (f : A → B) → HandsOut r → HandsOut (r then λ a. done (f a))
   hands-then {A = A} {B = B} r f h = from r.items r.ending h
     where
-      from : (items : List Effect) (e : Result A Exit) → HandsAt (children items) e → HandsOut (goes_on items e (λ a. done (f a)))
+      from : (items : List Effect) (e : Result A Exit) → HandsAt (children items) e → HandsOut (continued items e (λ a. done (f a)))
       from items (Ok a) q = subst (λ ts. AtMostOne plan path pedigree (children ts)) (sym (append-nil items)) q
       from items (Err (Faulted x)) q = q
       from items (Err (Inside here calls inner s)) q = q
@@ -115,12 +115,12 @@ module _ (plan : PlanView) (path : List ℕ) (k : ℕ) where
   hands-spawn : (height : ℕ) (target : Option Name) (c : CallText) (s : State Bool) → s.rank ≡ k → HandsOut (spawn (what (Spawned height target)) plan path c s)
   hands-spawn height target c s e =
       hands-given (Spawned height target) (values_of c.args s.env) s _ (λ vs. hands-tested (Spawned height target) (nat_lt (length path + 1) plan.limits.depth) Depth s _
-      (λ h. deeper (origin.Instance (number_of (functions_of plan) c.name.bytes) vs (strand path s)) (length path + 1) (ap (λ (n : ℕ). path ++ n ∷ []) e) (omega arith) h))
+      (λ h. deeper (origin.Instance (function_number (functions_of plan) c.name.bytes) vs (strand path s)) (length path + 1) (ap (λ (n : ℕ). path ++ n ∷ []) e) (omega arith) h))
 
   hands-called : (destination : Destination) (calls : ℕ) (c : CallText) (s : State Bool) → HandsOut (called (what destination) plan path inside calls c s)
   hands-called destination calls c s =
-      hands-given destination (values_of c.args s.env) s _ (λ vs. hands-tested destination (nat_lt calls 256) Calls s _ (λ h. hands-then (frame (what destination) plan path inside (calls + 1) (function_at (functions_of plan) (number_of (functions_of plan) c.name.bytes)) vs s) _
-      (by_function vs (function_at (functions_of plan) (number_of (functions_of plan) c.name.bytes)))))
+      hands-given destination (values_of c.args s.env) s _ (λ vs. hands-tested destination (nat_lt calls 256) Calls s _ (λ h. hands-then (frame (what destination) plan path inside (calls + 1) (function_at (functions_of plan) (function_number (functions_of plan) c.name.bytes)) vs s) _
+      (by_function vs (function_at (functions_of plan) (function_number (functions_of plan) c.name.bytes)))))
     where
       by_function : (vs : List Value) (o : Option Function) → HandsOut (frame (what destination) plan path inside (calls + 1) o vs s)
       by_function vs None = tt
@@ -141,7 +141,7 @@ module _ (plan : PlanView) (path : List ℕ) (k : ℕ) where
       destination = Looped target
 
       loop_of : ℕ → Origin
-      loop_of n = origin.Loop (number_of (functions_of plan) c.name.bytes) vs lo (path ++ s.rank ∷ []) (record { lo = 0; hi = n })
+      loop_of n = origin.Loop (function_number (functions_of plan) c.name.bytes) vs lo (path ++ s.rank ∷ []) (record { lo = 0; hi = n })
 
       by_empty : (n : ℕ) (b : Bool) → is_zero (n - 0) ≡ b → fits_depth (what destination) plan path n ≡ true → AtMostOne plan path pedigree (children (loop_effects b (loop_of n) destination ++ []))
       by_empty n true e h = tt
@@ -151,7 +151,7 @@ module _ (plan : PlanView) (path : List ℕ) (k : ℕ) where
       by_size : (n : ℕ) → fits_depth (what destination) plan path n ≡ true → AtMostOne plan path pedigree (children (loop_effects (is_zero (n - 0)) (loop_of n) destination ++ []))
       by_size n h = by_empty n (is_zero (n - 0)) refl h
 
-  hands-does : (height : ℕ) (st : Stmt) (a : Act-F Act Stmt) (s : State Bool) → s.rank ≡ k → HandsOut (does (what (destination_of height a)) plan path inside height st a s)
+  hands-does : (height : ℕ) (st : Stmt) (a : Act-F Act Stmt) (s : State Bool) → s.rank ≡ k → HandsOut (does (what (child_destination height a)) plan path inside height st a s)
   hands-does height st (act.Let x r) s at_rank = hands-then (right_side (what (Spawned height (Some x))) plan path inside height r s) _ (hands-right height (Some x) height r s at_rank)
   hands-does height st (act.Array x n) s at_rank = tt
   hands-does height st (act.Set x r) s at_rank = hands-then (right_side (what (Spawned height (Some x))) plan path inside height r s) _ (hands-right height (Some x) height r s at_rank)
@@ -182,7 +182,7 @@ module _ (plan : PlanView) (path : List ℕ) (k : ℕ) where
   hands-reached os into inner (Err (Faulted f)) h = h
   hands-reached os into inner (Err (Inside here calls sts s)) h = h
 
-  hands-back : (below : List Frame) (target : Option Name) (v : Value) (rank steps : ℕ) → MoveHands plan path pedigree [] (Ok (back below target v rank steps))
+  hands-back : (below : List Frame) (target : Option Name) (v : Value) (rank steps : ℕ) → MoveHands plan path pedigree [] (Ok (back_in_caller below target v rank steps))
   hands-back [] target v rank steps = refl
   hands-back (caller ∷ below) target v rank steps = tt
 
@@ -250,7 +250,7 @@ module _ (plan : PlanView) (path : List ℕ) (m : Machine) where
   by_left [] = by_levels m.top.levels
   by_left (st ∷ left) =
       let a = out-Act (out-Stmt st).act in
-      let r = hands-paid plan here m.rank (destination_of (length m.below) a) m.steps (state_of m) _ (λ s same. hands-does plan here m.rank (length m.below) st a s same) in
+      let r = hands-paid plan here m.rank (child_destination (length m.below) a) m.steps (state_of m) _ (λ s same. hands-does plan here m.rank (length m.below) st a s same) in
       hands-reached plan here m.rank _ (with_left m left) (machine_inside plan st a left m) _ r
 
   pub move_hands : MoveHands plan path (strand_at path m) (children (move plan path m).items) (move plan path m).ending

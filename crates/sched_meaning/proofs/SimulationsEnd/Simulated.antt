@@ -5,7 +5,7 @@ use Rattle.dotmix.specs.Words.{word}
 use Rattle.serial_meaning.specs.Plan.{PlanView}
 use Rattle.serial_meaning.specs.Eval.{main_origin}
 use Rattle.sched_meaning.specs.Core.{Core, IsRootAnswered}
-use Rattle.sched_meaning.specs.Simulation.{is_progress, is_choice, all_events, picked_of, picked, Goes, Simulates, IsSimWorker}
+use Rattle.sched_meaning.specs.Simulation.{is_progress, is_choice, all_events, picked_of, picked, PlaysWord, Simulates, IsSimWorker}
 use Rattle.sched_meaning.specs.Steps.{Step}
 use Rattle.sched_meaning.specs.declared.event.CoreEvent.{CoreEvent}
 use Rattle.sched_meaning.specs.declared.event.CoreEvent.TheVariants.{Run}
@@ -32,7 +32,7 @@ module _ (plan : PlanView) (workers number : ℕ) where
   led-one zero c d p q = p ∙ sym q
   led-one (suc n) c d p q =
       let same : p.0 ≡ q.0 = led-one n p.0 q.0 p.1 q.1 in
-      let goes : Goes number (n + 1) q.0 c = subst (λ (b : Core). Goes number (n + 1) b c) same p.2 in matched-one q.0 c d (picked q.0 (word number (n + 1))) goes q.2
+      let goes : PlaysWord number (n + 1) q.0 c = subst (λ (b : Core). PlaysWord number (n + 1) b c) same p.2 in matched-one q.0 c d (picked q.0 (word number (n + 1))) goes q.2
 
   stays : (n : ℕ) (c : Core) → Led n c → IsRootAnswered c → (m : ℕ) (d : Core) → n ≤ m → Led m d → d ≡ c
   stays n c led a zero d h l = let e : n ≡ 0 = omega arith in led-one 0 d c l (subst (λ k. Led k c) e led)

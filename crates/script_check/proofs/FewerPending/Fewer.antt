@@ -21,8 +21,8 @@ use Rattle.script_check.specs.Functions.{function_named}
 use Rattle.script_check.specs.Violations.{violation_if}
 use Rattle.script_check.specs.Names.{NameSet, IsWithin}
 use Rattle.script_check.specs.Rules.{Declared, wrong_kind, wrong_use, unknown_function, wrong_number_of_arguments, pending_variable, scalar_use, array_use}
-use Rattle.script_check.specs.Expressions.{Violations, Reading, wanted, two_wanted, all_wanted, read_at, read, read_sum_part, read_product_part}
-use Rattle.script_check.specs.Statements.{arguments, call_of, read_right, wanted_as, loop_arguments, loop_call_of, taken_kind, target_use}
+use Rattle.script_check.specs.Expressions.{Violations, Reading, wanted, two_wanted, all_wanted, read_at, reading_of, read_sum_part, read_product_part}
+use Rattle.script_check.specs.Statements.{arguments, call_of, read_right, wanted_as, loop_arguments, loop_call_of, received_kind, target_use}
 
 abbrev pub Fine : Violations → Type 0
 Fine f = (known : Declared) (fewer p : NameSet) → IsWithin fewer p → f known p ≡ [] → f known fewer ≡ []
@@ -86,59 +86,59 @@ FineReading r = Fine r.violations
 abbrev node_map : {A B C : Type 0} → (A → Reading) → (B → Reading) → (C → Reading) → Expr-F A B C → Expr-F Reading Reading Reading
 node_map {A} {B} {C} expr times plus = map-Expr A B C Reading Reading Reading expr times plus
 
-layer_fine : (d : Expr-F Expr ProductPart SumPart) → FineReading (read_at (node_map read read_product_part read_sum_part d)) → FineReading (read (roll-Expr d))
+layer_fine : (d : Expr-F Expr ProductPart SumPart) → FineReading (read_at (node_map reading_of read_product_part read_sum_part d)) → FineReading (reading_of (roll-Expr d))
 layer_fine d h = subst FineReading (sym (fold-roll-Expr Reading Reading Reading read_at (λ p. p.operand) (λ p. p.operand) d)) h
 
-sum_part_is : (p : SumPart) → read_sum_part p ≡ read p.operand
+sum_part_is : (p : SumPart) → read_sum_part p ≡ reading_of p.operand
 sum_part_is p = search (rules, the_lemmas)
 
-product_part_is : (p : ProductPart) → read_product_part p ≡ read p.operand
+product_part_is : (p : ProductPart) → read_product_part p ≡ reading_of p.operand
 product_part_is p = search (rules, the_lemmas)
 
 -- the same over trees that are made of others
-tree_fine : {A B C : Type 0} (expr : A → Expr) (times : B → ProductPart) (plus : C → SumPart) → ((a : A) → FineReading (read (expr a))) →
+tree_fine : {A B C : Type 0} (expr : A → Expr) (times : B → ProductPart) (plus : C → SumPart) → ((a : A) → FineReading (reading_of (expr a))) →
     ((b : B) → FineReading (read_product_part (times b))) → ((c : C) → FineReading (read_sum_part (plus c))) → (d : Expr-F A B C) →
-    FineReading (read_at (node_map read read_product_part read_sum_part (map-Expr A B C Expr ProductPart SumPart expr times plus d)))
+    FineReading (read_at (node_map reading_of read_product_part read_sum_part (map-Expr A B C Expr ProductPart SumPart expr times plus d)))
 tree_fine expr times plus e t s (node.Number n) = none_fine
 tree_fine expr times plus e t s (node.Var x) = scalar_use_fine x
-tree_fine expr times plus e t s (node.Item x i) = append_fine (λ known p. array_use (known.what x.bytes) p x) (wanted Int (read (expr i))) (array_use_fine x) (wanted_fine Int (read (expr i)) (e i))
-tree_fine expr times plus e t s (node.Neg at x) = wanted_fine Int (read (expr x)) (e x)
-tree_fine expr times plus e t s (node.Same at x y) = two_fine Id (read (expr x)) (read (expr y)) (e x) (e y)
-tree_fine expr times plus e t s (node.Older at x y) = two_fine Id (read (expr x)) (read (expr y)) (e x) (e y)
-tree_fine expr times plus e t s (node.Compare x how y) = two_fine Int (read (expr x)) (read (expr y)) (e x) (e y)
+tree_fine expr times plus e t s (node.Item x i) = append_fine (λ known p. array_use (known.what x.bytes) p x) (wanted Int (reading_of (expr i))) (array_use_fine x) (wanted_fine Int (reading_of (expr i)) (e i))
+tree_fine expr times plus e t s (node.Neg at x) = wanted_fine Int (reading_of (expr x)) (e x)
+tree_fine expr times plus e t s (node.Same at x y) = two_fine Id (reading_of (expr x)) (reading_of (expr y)) (e x) (e y)
+tree_fine expr times plus e t s (node.Older at x y) = two_fine Id (reading_of (expr x)) (reading_of (expr y)) (e x) (e y)
+tree_fine expr times plus e t s (node.Compare x how y) = two_fine Int (reading_of (expr x)) (reading_of (expr y)) (e x) (e y)
 tree_fine expr times plus e t s (node.Sum first rest) =
-    append_fine (wanted Int (read (expr first))) (all_wanted Int (map read_sum_part (map plus rest))) (wanted_fine Int (read (expr first)) (e first)) (listed rest)
+    append_fine (wanted Int (reading_of (expr first))) (all_wanted Int (map read_sum_part (map plus rest))) (wanted_fine Int (reading_of (expr first)) (e first)) (listed rest)
   where
     listed : (xs : List _) → Fine (all_wanted Int (map read_sum_part (map plus xs)))
     listed [] = none_fine
     listed (x ∷ xs) = append_fine (wanted Int (read_sum_part (plus x))) (all_wanted Int (map read_sum_part (map plus xs))) (wanted_fine Int (read_sum_part (plus x)) (s x)) (listed xs)
 tree_fine expr times plus e t s (node.Product first rest) =
-    append_fine (wanted Int (read (expr first))) (all_wanted Int (map read_product_part (map times rest))) (wanted_fine Int (read (expr first)) (e first)) (listed rest)
+    append_fine (wanted Int (reading_of (expr first))) (all_wanted Int (map read_product_part (map times rest))) (wanted_fine Int (reading_of (expr first)) (e first)) (listed rest)
   where
     listed : (xs : List _) → Fine (all_wanted Int (map read_product_part (map times xs)))
     listed [] = none_fine
     listed (x ∷ xs) = append_fine (wanted Int (read_product_part (times x))) (all_wanted Int (map read_product_part (map times xs))) (wanted_fine Int (read_product_part (times x)) (t x)) (listed xs)
 
-pub read_fine : (e : Expr) → FineReading (read e)
+pub read_fine : (e : Expr) → FineReading (reading_of e)
 read_fine =
-    ind-Expr (λ e. FineReading (read e)) (λ p. FineReading (read_product_part p)) (λ p. FineReading (read_sum_part p))
-    (λ x y h. subst (λ (d : Expr-F Expr ProductPart SumPart). FineReading (read (roll-Expr d))) h
+    ind-Expr (λ e. FineReading (reading_of e)) (λ p. FineReading (read_product_part p)) (λ p. FineReading (read_sum_part p))
+    (λ x y h. subst (λ (d : Expr-F Expr ProductPart SumPart). FineReading (reading_of (roll-Expr d))) h
     (layer_fine (map-Expr _ _ _ Expr ProductPart SumPart (λ e. e.0) (λ e. e.0) (λ e. e.0) y) (tree_fine (λ e. e.0) (λ e. e.0) (λ e. e.0) (λ e. e.1) (λ e. e.1) (λ e. e.1) y)))
     (λ x y h. times_fine (record { sign = x.sign; operand = x.operand }) y.operand.0 y.operand.1 (ap (λ p. p.operand) h))
     (λ x y h. plus_fine (record { minus = x.minus; operand = x.operand }) y.operand.0 y.operand.1 (ap (λ p. p.operand) h))
   where
-    times_fine : (p : ProductPart) (e : Expr) → FineReading (read e) → e ≡ p.operand → FineReading (read_product_part p)
-    times_fine p e fine h = subst FineReading (ap read h ∙ sym (product_part_is p)) fine
+    times_fine : (p : ProductPart) (e : Expr) → FineReading (reading_of e) → e ≡ p.operand → FineReading (read_product_part p)
+    times_fine p e fine h = subst FineReading (ap reading_of h ∙ sym (product_part_is p)) fine
 
-    plus_fine : (p : SumPart) (e : Expr) → FineReading (read e) → e ≡ p.operand → FineReading (read_sum_part p)
-    plus_fine p e fine h = subst FineReading (ap read h ∙ sym (sum_part_is p)) fine
+    plus_fine : (p : SumPart) (e : Expr) → FineReading (reading_of e) → e ≡ p.operand → FineReading (read_sum_part p)
+    plus_fine p e fine h = subst FineReading (ap reading_of h ∙ sym (sum_part_is p)) fine
 
 -- calls
 
 pub arguments_fine : (params : List Param) (es : List Expr) → Fine (arguments params es)
 arguments_fine params [] = none_fine
-arguments_fine [] (e ∷ es) = append_fine (read e).violations (arguments [] es) (read_fine e) (arguments_fine [] es)
-arguments_fine (q ∷ params) (e ∷ es) = append_fine (wanted q.kind (read e)) (arguments params es) (wanted_fine q.kind (read e) (read_fine e)) (arguments_fine params es)
+arguments_fine [] (e ∷ es) = append_fine (reading_of e).violations (arguments [] es) (read_fine e) (arguments_fine [] es)
+arguments_fine (q ∷ params) (e ∷ es) = append_fine (wanted q.kind (reading_of e)) (arguments params es) (wanted_fine q.kind (reading_of e) (read_fine e)) (arguments_fine params es)
 
 pub call_fine : (o : Option Function) (c : CallText) → Fine (call_of o c)
 call_fine None c = append_fine (λ k p. unknown_function c.name) (arguments [] c.args) (same_fine (λ k. unknown_function c.name)) (arguments_fine [] c.args)
@@ -155,8 +155,8 @@ loop_arguments_fine (q ∷ params) c =
 pub loop_call_fine : (o : Option Function) (has_target : Bool) (c : CallText) → Fine (loop_call_of o has_target c)
 loop_call_fine None has_target c = append_fine (λ k p. unknown_function c.name) (arguments [] c.args) (same_fine (λ k. unknown_function c.name)) (arguments_fine [] c.args)
 loop_call_fine (Some f) has_target c =
-    append_fine (λ k p. wrong_kind Int (taken_kind has_target f.answer) c.name.at) (loop_arguments f.params c)
-    (same_fine (λ k. wrong_kind Int (taken_kind has_target f.answer) c.name.at)) (loop_arguments_fine f.params c)
+    append_fine (λ k p. wrong_kind Int (received_kind has_target f.answer) c.name.at) (loop_arguments f.params c)
+    (same_fine (λ k. wrong_kind Int (received_kind has_target f.answer) c.name.at)) (loop_arguments_fine f.params c)
 
 pub target_fine : (target : Option Name) → Fine (target_use target)
 target_fine None = none_fine

@@ -14,7 +14,7 @@ use Rattle.script_grammar.specs.declared.tree.Act.TheOpen.{Act-F}
 use Rattle.script_check.specs.Names.{NameSet, IsWithin, union, after_right}
 use Rattle.script_check.specs.Functions.{function_named}
 use Rattle.script_check.specs.Rules.{Declared, kind_of_variable, scalar_use, array_use, declaration, array_length, let_in_a_block}
-use Rattle.script_check.specs.Expressions.{wanted, two_wanted, read}
+use Rattle.script_check.specs.Expressions.{wanted, two_wanted, reading_of}
 use Rattle.script_check.specs.Statements.{Context, Judged, judge, judge_what, judge_act, judge_all, read_right, wanted_as, target_use, loop_call_of, violations_each, block_violations, known_each, after}
 use Rattle.script_check.proofs.FewerPending.Induction.{Each, Inside, induct, induct_each, judge_open}
 use Rattle.script_check.proofs.FewerPending.Fewer.{Fine, none_fine, same_fine, append_fine, scalar_use_fine, array_use_fine, wanted_fine, two_fine, read_fine, call_fine, loop_call_fine, target_fine, right_fine, wanted_as_fine, nothing_left, nothing_right, both_nothing}
@@ -77,26 +77,26 @@ open_fine at (act.Set x r) h = (
   right_monotone x r,
 )
 open_fine at (act.Store x i e) h =
-    (λ context. append_fine (λ k p. array_use (k.what x.bytes) p x) (two_wanted Int (read i) (read e)) (array_use_fine x) (two_fine Int (read i) (read e) (read_fine i) (read_fine e)), kept)
+    (λ context. append_fine (λ k p. array_use (k.what x.bytes) p x) (two_wanted Int (reading_of i) (reading_of e)) (array_use_fine x) (two_fine Int (reading_of i) (reading_of e) (read_fine i) (read_fine e)), kept)
 open_fine at (act.Spawn c) h = (λ context. call_fine (function_named context.functions c.name.bytes) c, kept)
 open_fine at (act.Call c) h = (λ context. call_fine (function_named context.functions c.name.bytes) c, kept)
 open_fine at act.Sync h = (λ context. none_fine, λ fewer p w x e. e)
 open_fine at (act.Print e) h = (λ context. read_fine e, kept)
 open_fine at (act.If e a b) h = (
-  λ context. append_fine (λ k p. wanted Int (read e) k p ++ block_violations (judge_all a) context k p) (λ k p. block_violations (judge_all b) context (known_each (judge_all a) context.functions k) p)
-      (append_fine (wanted Int (read e)) (block_violations (judge_all a) context) (wanted_fine Int (read e) (read_fine e)) (each_fine a h.0 (record context { in_block = true })))
+  λ context. append_fine (λ k p. wanted Int (reading_of e) k p ++ block_violations (judge_all a) context k p) (λ k p. block_violations (judge_all b) context (known_each (judge_all a) context.functions k) p)
+      (append_fine (wanted Int (reading_of e)) (block_violations (judge_all a) context) (wanted_fine Int (reading_of e) (read_fine e)) (each_fine a h.0 (record context { in_block = true })))
       (λ known. each_fine b h.1 (record context { in_block = true }) (known_each (judge_all a) context.functions known)),
   λ fewer p w. both_within (after a fewer) (after b fewer) (after a p) (after b p) (each_monotone a h.0 fewer p w) (each_monotone b h.1 fewer p w),
 )
 open_fine at (act.While e a) h = (
   λ context known fewer p w.
-      append_fine (wanted Int (read e)) (block_violations (judge_all a) context) (wanted_fine Int (read e) (read_fine e)) (each_fine a h (record context { in_block = true })) known
+      append_fine (wanted Int (reading_of e)) (block_violations (judge_all a) context) (wanted_fine Int (reading_of e) (read_fine e)) (each_fine a h (record context { in_block = true })) known
       (union fewer (after a fewer)) (union p (after a p)) (both_within fewer (after a fewer) p (after a p) w (each_monotone a h fewer p w)),
   λ fewer p w. both_within fewer (after a fewer) p (after a p) w (each_monotone a h fewer p w),
 )
 open_fine at (act.Pfor x lo hi target c) h = (
-  λ context. append_fine (λ k p. two_wanted Int (read lo) (read hi) k p ++ target_use target k p) (loop_call_of (function_named context.functions c.name.bytes) (is_some target) c)
-      (append_fine (two_wanted Int (read lo) (read hi)) (target_use target) (two_fine Int (read lo) (read hi) (read_fine lo) (read_fine hi)) (target_fine target))
+  λ context. append_fine (λ k p. two_wanted Int (reading_of lo) (reading_of hi) k p ++ target_use target k p) (loop_call_of (function_named context.functions c.name.bytes) (is_some target) c)
+      (append_fine (two_wanted Int (reading_of lo) (reading_of hi)) (target_use target) (two_fine Int (reading_of lo) (reading_of hi) (read_fine lo) (read_fine hi)) (target_fine target))
       (loop_call_fine (function_named context.functions c.name.bytes) (is_some target) c),
   kept,
 )

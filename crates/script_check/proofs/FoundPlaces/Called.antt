@@ -11,7 +11,7 @@ use Rattle.script_grammar.specs.declared.tree.Act.TheVariants as act
 use Rattle.script_grammar.specs.declared.tree.Act.TheOpen.{Act-F}
 use Rattle.script_grammar.specs.declared.tree.Act.TheFolds.{fold-Act}
 use Rattle.script_grammar.specs.declared.tree.Function.{Function}
-use Rattle.script_grammar.specs.Grammar.{Token, stmt_at}
+use Rattle.script_grammar.specs.Grammar.{Terminal, stmt_at}
 use Rattle.script_grammar.specs.Grammar.{IsCall, a_call, IsRight, right_value, right_draw, right_new, right_call, right_spawn}
 use Rattle.script_grammar.specs.Grammar.{IsStmt, a_let, an_array, a_set, a_store, a_spawn, a_call_stmt, a_sync, a_print, an_if, a_while, a_pfor, a_scope, IsStmts, no_stmts, one_stmt, IsBlock, a_block, IsElse, no_else, an_else}
 use Rattle.script_grammar.specs.Grammar.{IsFunction, a_function, IsFunctions, no_functions, one_function}
@@ -70,10 +70,10 @@ called-scope a = search (rules, the_lemmas)
 
 -- The tokens
 
-call-picked : {ts rest : List Token} {c : CallText} → IsCall ts c rest → Picked (c.name ∷ []) ts rest
+call-picked : {ts rest : List Terminal} {c : CallText} → IsCall ts c rest → Picked (c.name ∷ []) ts rest
 call-picked (a_call d) = picked (passed (after (unpicked (in_args d))))
 
-right-picked : {ts rest : List Token} {r : Right} → IsRight ts r rest → Picked (called_in_right r) ts rest
+right-picked : {ts rest : List Terminal} {r : Right} → IsRight ts r rest → Picked (called_in_right r) ts rest
 right-picked (right_value d) = unpicked (in_expr d)
 right-picked right_draw = passed no_more
 right-picked right_new = passed no_more
@@ -81,11 +81,11 @@ right-picked (right_call d) = passed (call-picked d)
 right-picked (right_spawn d) = passed (call-picked d)
 
 -- what a statement at an offset does
-acted : {xs : List Name} {ts rest : List Token} (at : ℕ) (what : Act) → called_what what ≡ xs → Picked xs ts rest → Picked (called_in_statement (stmt_at at what)) ts rest
+acted : {xs : List Name} {ts rest : List Terminal} (at : ℕ) (what : Act) → called_what what ≡ xs → Picked xs ts rest → Picked (called_in_statement (stmt_at at what)) ts rest
 acted at what e d = told (called-is (stmt_at at what) ∙ e) d
 
 mutual
-  stmt-picked : {ts rest : List Token} {x : Stmt} → IsStmt ts x rest → Picked (called_in_statement x) ts rest
+  stmt-picked : {ts rest : List Terminal} {x : Stmt} → IsStmt ts x rest → Picked (called_in_statement x) ts rest
   stmt-picked (a_let d) = acted _ _ (called-let _ _) (passed (passed (passed (after (right-picked d)))))
   stmt-picked an_array = acted _ _ (called-array _ _) (passed (passed (passed (passed (passed (passed no_more))))))
   stmt-picked (a_set d) = acted _ _ (called-set _ _) (passed (passed (after (right-picked d))))
@@ -101,22 +101,22 @@ mutual
       (passed (passed (passed (append (unpicked (after (in_expr d))) (append (unpicked (in_expr e)) (append (unpicked (after (in_into f))) (picked (passed (passed (unpicked (after (after (in_more_args g)))))))))))))
   stmt-picked (a_scope d) = acted _ _ (called-scope _) (passed (block-picked d))
 
-  stmts-picked : {ts rest : List Token} {xs : List Stmt} → IsStmts ts xs rest → Picked (called_in_block xs) ts rest
+  stmts-picked : {ts rest : List Terminal} {xs : List Stmt} → IsStmts ts xs rest → Picked (called_in_block xs) ts rest
   stmts-picked no_stmts = no_more
   stmts-picked (one_stmt d e) = append (stmt-picked d) (stmts-picked e)
 
-  block-picked : {ts rest : List Token} {xs : List Stmt} → IsBlock ts xs rest → Picked (called_in_block xs) ts rest
+  block-picked : {ts rest : List Terminal} {xs : List Stmt} → IsBlock ts xs rest → Picked (called_in_block xs) ts rest
   block-picked (a_block d) = passed (after (stmts-picked d))
 
-  else-picked : {ts rest : List Token} {xs : List Stmt} → IsElse ts xs rest → Picked (called_in_block xs) ts rest
+  else-picked : {ts rest : List Terminal} {xs : List Stmt} → IsElse ts xs rest → Picked (called_in_block xs) ts rest
   else-picked no_else = no_more
   else-picked (an_else d) = passed (block-picked d)
 
-function-picked : {ts rest : List Token} {f : Function} → IsFunction ts f rest → Picked (called_in_block f.body) ts rest
+function-picked : {ts rest : List Terminal} {f : Function} → IsFunction ts f rest → Picked (called_in_block f.body) ts rest
 function-picked (a_function p k d e) =
     told (sym (append-nil _))
     (passed (passed (passed (append (after (in_params p)) (append (after (in_answer k)) (append (after (stmts-picked d)) (unpicked (after (after (in_expr e))))))))))
 
-pub functions-picked : {ts rest : List Token} {fs : List Function} → IsFunctions ts fs rest → Picked (called_in fs) ts rest
+pub functions-picked : {ts rest : List Terminal} {fs : List Function} → IsFunctions ts fs rest → Picked (called_in fs) ts rest
 functions-picked no_functions = no_more
 functions-picked (one_function d e) = append (function-picked d) (functions-picked e)

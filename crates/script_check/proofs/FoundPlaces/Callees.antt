@@ -15,7 +15,7 @@ use Rattle.script_grammar.specs.declared.tree.Act.{Act, map-Act}
 use Rattle.script_grammar.specs.declared.tree.Act.TheOpen as act
 use Rattle.script_grammar.specs.declared.tree.Act.TheOpen.{Act-F}
 use Rattle.script_check.specs.declared.findings.Violation.{Violation}
-use Rattle.script_check.specs.Expressions.{read, two_wanted, wanted}
+use Rattle.script_check.specs.Expressions.{reading_of, two_wanted, wanted}
 use Rattle.script_check.specs.Functions.{first_named, function_at, function_named}
 use Rattle.script_check.specs.Names.{NameSet, union, no_names}
 use Rattle.script_check.specs.Places.{agree, called_in, called_in_act, called_in_block, called_in_right, called_in_statement, finds_callee, function_names, place_in, table_of_callees}
@@ -118,7 +118,7 @@ a-stmt n (act.Call c) g at known p h = a-call at.functions c known p h
 a-stmt n act.Sync g at known p h = refl
 a-stmt n (act.Print e) g at known p h = refl
 a-stmt n (act.If e a b) g at known p h =
-    let test = wanted Int (read e) known p in
+    let test = wanted Int (reading_of e) known p in
     let one = block_violations (judge_all a) at known p in
     let after_one = known_each (judge_all a) at.functions known in
     let two = block_violations (judge_all b) at after_one p in
@@ -127,9 +127,9 @@ a-stmt n (act.If e a b) g at known p h =
     (a-block b g.1 (inside at) after_one p (nothing_right (test ++ one) two h))
 a-stmt n (act.While e a) g at known p h =
     let q : NameSet = union p (after a p) in
-    a-block a g (inside at) known q (nothing_right (wanted Int (read e) known q) (block_violations (judge_all a) at known q) h)
+    a-block a g (inside at) known q (nothing_right (wanted Int (reading_of e) known q) (block_violations (judge_all a) at known q) h)
 a-stmt n (act.Pfor x lo hi target c) g at known p h =
-    let bounds = two_wanted Int (read lo) (read hi) known p in
+    let bounds = two_wanted Int (reading_of lo) (reading_of hi) known p in
     let into = target_use target known p in
     let f = function_named at.functions c.name.bytes in
     a-function at.functions c (loop-call-there f (is_some target) c known p (nothing_right (bounds ++ into) (loop_call_of f (is_some target) c known p) h))
@@ -146,7 +146,7 @@ calls-functions functions f h =
     let known : Declared = known_params f.params no_entries in
     let params : List Violation = param_violations f.params no_entries in
     let body : List Violation = violations_each (judge_all f.body) (context functions false) known no_names in
-    let last : List Violation = wanted f.answer (read f.result) (known_each (judge_all f.body) functions known) no_names in
+    let last : List Violation = wanted f.answer (reading_of f.result) (known_each (judge_all f.body) functions known) no_names in
     a-block f.body (induct_each CallsFunctions each-stmt f.body) (context functions false) known no_names (nothing_right params body (nothing_left (params ++ body) last h))
 
 pub call-functions : (functions fs : List Function) → all_function_violations functions fs ≡ [] → AreFunctions functions (called_in fs)

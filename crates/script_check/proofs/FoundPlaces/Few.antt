@@ -15,13 +15,13 @@ use Rattle.script_grammar.specs.declared.tree.Act.TheOpen.{Act-F}
 use Rattle.script_check.specs.declared.findings.Violation.{Violation}
 use Rattle.script_check.specs.declared.variable.Variable.{Variable}
 use Rattle.script_check.specs.declared.variable.Variable.TheVariants.{Array, Scalar}
-use Rattle.script_check.specs.Expressions.{read, two_wanted, wanted}
+use Rattle.script_check.specs.Expressions.{reading_of, two_wanted, wanted}
 use Rattle.script_check.specs.Functions.{function_named, main_name}
 use Rattle.script_check.specs.Laws.{VariablesAreFew}
 use Rattle.script_check.specs.Names.{NameSet, union, no_names}
 use Rattle.script_check.specs.Places.{named_in, named_in_act, named_in_all, named_in_block, named_in_right, named_in_statement, named_in_target, place_in, variable_names, with_new_name, with_new_names}
 use Rattle.script_check.specs.Rules.{Declared, array_length, array_use, declaration, kind_of_variable, let_in_a_block, most_variables, scalar_use, too_many_variables, variable_twice}
-use Rattle.script_check.specs.Statements.{Context, Judged, after, block_violations, violations_each, judge, judge_act, judge_all, judge_what, kind_or_int, known_each, loop_call_of, context, read_right, target_use, wanted_as}
+use Rattle.script_check.specs.Statements.{Context, Judged, after, block_violations, violations_each, judge, judge_act, judge_all, judge_what, declared_kind, known_each, loop_call_of, context, read_right, target_use, wanted_as}
 use Rattle.script_check.specs.Tables.{no_entries, with_first}
 use Rattle.script_check.specs.Valid.{all_function_violations, function_violations, functions_twice, known_params, main_violations, param_violations}
 use Rattle.script_check.proofs.FewerPending.Fewer.{nothing_left, nothing_right}
@@ -157,36 +157,36 @@ plain-stays n (act.Set x r) c g at known p h = (
 plain-stays n (act.Store x i e) c g at known p h = (
   refl,
   known-cons known x (named_in i ++ named_in e)
-      (array-known (known.what x.bytes) p x (nothing_left (array_use (known.what x.bytes) p x) (two_wanted Int (read i) (read e) known p) h))
-      (two-known Int (named_in i) (named_in e) (read i) (read e) (read-known i) (read-known e) known p (nothing_right (array_use (known.what x.bytes) p x) (two_wanted Int (read i) (read e) known p) h)),
+      (array-known (known.what x.bytes) p x (nothing_left (array_use (known.what x.bytes) p x) (two_wanted Int (reading_of i) (reading_of e) known p) h))
+      (two-known Int (named_in i) (named_in e) (reading_of i) (reading_of e) (read-known i) (read-known e) known p (nothing_right (array_use (known.what x.bytes) p x) (two_wanted Int (reading_of i) (reading_of e) known p) h)),
 )
 plain-stays n (act.Spawn c) u g at known p h = (refl, call-known (function_named at.functions c.name.bytes) c known p h)
 plain-stays n (act.Call c) u g at known p h = (refl, call-known (function_named at.functions c.name.bytes) c known p h)
 plain-stays n act.Sync c g at known p h = (refl, refl)
 plain-stays n (act.Print e) c g at known p h = (refl, read-known e known p h)
 plain-stays n (act.If e a b) c g at known p h =
-    let test = wanted Int (read e) known p in
+    let test = wanted Int (reading_of e) known p in
     let one = block_violations (judge_all a) at known p in
     let two = block_violations (judge_all b) at (known_each (judge_all a) at.functions known) p in
     let first = all-stay a g.0 (inside at) refl known p (nothing_right test one (nothing_left (test ++ one) two h)) in
     let last = all-stay b g.1 (inside at) refl (known_each (judge_all a) at.functions known) p (nothing_right (test ++ one) two h) in (
       last.0 ∙ first.0,
       known-append known (named_in e) (named_in_block a ++ named_in_block b)
-          (read-known e known p (wanted-left Int (read e) known p (nothing_left test one (nothing_left (test ++ one) two h))))
+          (read-known e known p (wanted-left Int (reading_of e) known p (nothing_left test one (nothing_left (test ++ one) two h))))
           (known-append known (named_in_block a) (named_in_block b) first.1 (subst (λ k. AllKnown k (named_in_block b)) first.0 last.1)),
     )
 plain-stays n (act.While e a) c g at known p h =
     let q : NameSet = union p (after a p) in
-    let test = wanted Int (read e) known q in
+    let test = wanted Int (reading_of e) known q in
     let body = all-stay a g (inside at) refl known q (nothing_right test (block_violations (judge_all a) at known q) h) in (
       body.0,
-      known-append known (named_in e) (named_in_block a) (read-known e known q (wanted-left Int (read e) known q (nothing_left test (block_violations (judge_all a) at known q) h))) body.1,
+      known-append known (named_in e) (named_in_block a) (read-known e known q (wanted-left Int (reading_of e) known q (nothing_left test (block_violations (judge_all a) at known q) h))) body.1,
     )
 plain-stays n (act.Pfor x lo hi target c) u g at known p h =
-    let bounds = two_wanted Int (read lo) (read hi) known p in
+    let bounds = two_wanted Int (reading_of lo) (reading_of hi) known p in
     let into = target_use target known p in
     let call = loop_call_of (function_named at.functions c.name.bytes) (is_some target) c known p in
-    let two = two-known Int (named_in lo) (named_in hi) (read lo) (read hi) (read-known lo) (read-known hi) known p (nothing_left bounds into (nothing_left (bounds ++ into) call h)) in
+    let two = two-known Int (named_in lo) (named_in hi) (reading_of lo) (reading_of hi) (read-known lo) (read-known hi) known p (nothing_left bounds into (nothing_left (bounds ++ into) call h)) in
     let last =
     known-append known (named_in_target target) (named_in_all c.args) (target-known target known p (nothing_right bounds into (nothing_left (bounds ++ into) call h)))
     (loop-call-known (function_named at.functions c.name.bytes) (is_some target) c known p (nothing_right (bounds ++ into) call h)) in (
@@ -245,7 +245,7 @@ one-listed names known x v xs l h all =
 
 open-listed : (n : ℕ) (d : Act-F Act Stmt) → Inside InBlock d → Listed (told d n) (names_of d)
 open-listed n (act.Let x r) g functions names known p l h =
-    one-listed names known x (Scalar (kind_or_int ((read_right functions r).kind known))) (named_in_right r) l
+    one-listed names known x (Scalar (declared_kind ((read_right functions r).kind known))) (named_in_right r) l
     (nothing_right (let_in_a_block false n ++ (read_right functions r).violations known p) (declaration known x) h)
     (right-known functions r known p (nothing_right (let_in_a_block false n) ((read_right functions r).violations known p)
     (nothing_left (let_in_a_block false n ++ (read_right functions r).violations known p) (declaration known x) h)))
@@ -310,11 +310,11 @@ function-few functions f h =
     let start : List (List ℕ) = map (λ q. q.name.bytes) f.params in
     let params : List Violation = param_violations f.params no_entries in
     let body : List Violation = violations_each (judge_all f.body) (context functions false) known no_names in
-    let last : List Violation = wanted f.answer (read f.result) ends no_names in
+    let last : List Violation = wanted f.answer (reading_of f.result) ends no_names in
     let none : Lists [] no_entries = record { same = λ q. refl; count = refl; few = omega arith } in
     let first = params-listed f.params [] no_entries none (nothing_left params body (nothing_left (params ++ body) last h)) in
     let ended_block = body-listed f.body functions start known no_names first (nothing_right params body (nothing_left (params ++ body) last h)) in
-    let result = read-known f.result ends no_names (wanted-left f.answer (read f.result) ends no_names (nothing_right (params ++ body) last h)) in
+    let result = read-known f.result ends no_names (wanted-left f.answer (reading_of f.result) ends no_names (nothing_right (params ++ body) last h)) in
     subst (λ m. length m ≤ most_variables)
     (sym (with-append start (named_in_block f.body) (named_in f.result) ∙ with-known (with_new_names start (named_in_block f.body)) ends ended_block (named_in f.result) result)) ended_block.few
 

@@ -14,7 +14,7 @@ use Rattle.script_check.specs.declared.variable.Variable.TheVariants.{Scalar}
 use Rattle.script_check.specs.Places.{agree, named_in_function, place_in, stand_from, variable_names, with_new_name, with_new_names}
 use Rattle.script_check.specs.Rules.{Declared, declaration, most_variables, variable_twice, too_many_variables}
 use Rattle.script_check.specs.Statements.{violations_each, judge_all, known_each, context}
-use Rattle.script_check.specs.Expressions.{read, wanted}
+use Rattle.script_check.specs.Expressions.{reading_of, wanted}
 use Rattle.script_check.specs.Names.{no_names}
 use Rattle.script_check.specs.Tables.{no_entries, with_first}
 use Rattle.script_check.specs.Valid.{function_violations, known_params, param_violations}
@@ -128,7 +128,7 @@ function-stands functions f h =
     let known : Declared = known_params f.params no_entries in
     let params : List Violation = param_violations f.params no_entries in
     let body : List Violation = violations_each (judge_all f.body) (context functions false) known no_names in
-    let last : List Violation = wanted f.answer (read f.result) (known_each (judge_all f.body) functions known) no_names in
+    let last : List Violation = wanted f.answer (reading_of f.result) (known_each (judge_all f.body) functions known) no_names in
     params-stand [] f.params no_entries (variable_names f) 0 refl (stays-each (map (λ q. q.name.bytes) f.params) (named_in_function f)) (λ q n. refl)
     (nothing_left params body (nothing_left (params ++ body) last h))
 

@@ -20,8 +20,8 @@ use Rattle.script_check.specs.Functions.{function_named}
 use Rattle.script_check.specs.Names.{NameSet}
 use Rattle.script_check.specs.Places.{joined, named_at, named_in, named_in_summand, named_in_factor, named_in_all, named_in_right, named_in_target}
 use Rattle.script_check.specs.Rules.{Declared, wrong_kind, unknown_function, wrong_number_of_arguments, scalar_use, array_use}
-use Rattle.script_check.specs.Expressions.{Reading, wanted, two_wanted, all_wanted, read_at, read, read_sum_part, read_product_part}
-use Rattle.script_check.specs.Statements.{arguments, call_of, read_right, wanted_as, loop_arguments, loop_call_of, taken_kind, target_use}
+use Rattle.script_check.specs.Expressions.{Reading, wanted, two_wanted, all_wanted, read_at, reading_of, read_sum_part, read_product_part}
+use Rattle.script_check.specs.Statements.{arguments, call_of, read_right, wanted_as, loop_arguments, loop_call_of, received_kind, target_use}
 use Rattle.script_check.proofs.FewerPending.Fewer.{nothing_left, nothing_right}
 use Rattle.script_check.proofs.FoundPlaces.Parts.{named-factor, named-summand}
 use Rattle.script_check.proofs.FoundPlaces.Named.{each_is, each-true, true-both}
@@ -73,25 +73,25 @@ abbrev node_names : {A B C : Type 0} → (A → List Name) → (B → List Name)
 node_names {A} {B} {C} expr times plus = map-Expr A B C (List Name) (List Name) (List Name) expr times plus
 
 abbrev LayerKnown : Expr-F Expr ProductPart SumPart → Type 0
-LayerKnown d = ReadsKnown (named_at (node_names named_in named_in_factor named_in_summand d)) (read_at (node_map read read_product_part read_sum_part d))
+LayerKnown d = ReadsKnown (named_at (node_names named_in named_in_factor named_in_summand d)) (read_at (node_map reading_of read_product_part read_sum_part d))
 
 abbrev TreeKnown : Expr → Type 0
-TreeKnown e = ReadsKnown (named_in e) (read e)
+TreeKnown e = ReadsKnown (named_in e) (reading_of e)
 
 layer-known : (d : Expr-F Expr ProductPart SumPart) → LayerKnown d → TreeKnown (roll-Expr d)
 layer-known d h known p none =
     let names : named_in (roll-Expr d) ≡ named_at (node_names named_in named_in_factor named_in_summand d) = fold-roll-Expr (List Name) (List Name) (List Name) named_at (λ p. p.operand) (λ p. p.operand) d in
-    let reading : read (roll-Expr d) ≡ read_at (node_map read read_product_part read_sum_part d) = fold-roll-Expr Reading Reading Reading read_at (λ p. p.operand) (λ p. p.operand) d in
+    let reading : reading_of (roll-Expr d) ≡ read_at (node_map reading_of read_product_part read_sum_part d) = fold-roll-Expr Reading Reading Reading read_at (λ p. p.operand) (λ p. p.operand) d in
     subst (AllKnown known) (sym names) (h known p (ap (λ (r : Reading). r.violations known p) (sym reading) ∙ none))
 
-sum_part_is : (p : SumPart) → read_sum_part p ≡ read p.operand
+sum_part_is : (p : SumPart) → read_sum_part p ≡ reading_of p.operand
 sum_part_is p = search (rules, the_lemmas)
 
-product_part_is : (p : ProductPart) → read_product_part p ≡ read p.operand
+product_part_is : (p : ProductPart) → read_product_part p ≡ reading_of p.operand
 product_part_is p = search (rules, the_lemmas)
 
 module _ {A B C : Type 0} (expr : A → Expr) (times : B → ProductPart) (plus : C → SumPart)
-    (e : (a : A) → ReadsKnown (named_in (expr a)) (read (expr a)))
+    (e : (a : A) → ReadsKnown (named_in (expr a)) (reading_of (expr a)))
     (t : (b : B) → ReadsKnown (named_in_factor (times b)) (read_product_part (times b)))
     (s : (c : C) → ReadsKnown (named_in_summand (plus c)) (read_sum_part (plus c))) where
   pluses-known : (xs : List C) (known : Declared) (p : NameSet) → all_wanted Int (map read_sum_part (map plus xs)) known p ≡ [] → AllKnown known (joined (map named_in_summand (map plus xs)))
@@ -113,20 +113,20 @@ module _ {A B C : Type 0} (expr : A → Expr) (times : B → ProductPart) (plus 
   node-known (node.Var x) known p h = known-cons known x [] (scalar-known (known.what x.bytes) p x h) refl
   node-known (node.Item x i) known p h =
       known-cons known x (named_in (expr i))
-      (array-known (known.what x.bytes) p x (nothing_left (array_use (known.what x.bytes) p x) (wanted Int (read (expr i)) known p) h))
-      (e i known p (wanted-left Int (read (expr i)) known p (nothing_right (array_use (known.what x.bytes) p x) (wanted Int (read (expr i)) known p) h)))
-  node-known (node.Neg at x) known p h = e x known p (wanted-left Int (read (expr x)) known p h)
-  node-known (node.Same at x y) known p h = two-known Id (named_in (expr x)) (named_in (expr y)) (read (expr x)) (read (expr y)) (e x) (e y) known p h
-  node-known (node.Older at x y) known p h = two-known Id (named_in (expr x)) (named_in (expr y)) (read (expr x)) (read (expr y)) (e x) (e y) known p h
-  node-known (node.Compare x how y) known p h = two-known Int (named_in (expr x)) (named_in (expr y)) (read (expr x)) (read (expr y)) (e x) (e y) known p h
+      (array-known (known.what x.bytes) p x (nothing_left (array_use (known.what x.bytes) p x) (wanted Int (reading_of (expr i)) known p) h))
+      (e i known p (wanted-left Int (reading_of (expr i)) known p (nothing_right (array_use (known.what x.bytes) p x) (wanted Int (reading_of (expr i)) known p) h)))
+  node-known (node.Neg at x) known p h = e x known p (wanted-left Int (reading_of (expr x)) known p h)
+  node-known (node.Same at x y) known p h = two-known Id (named_in (expr x)) (named_in (expr y)) (reading_of (expr x)) (reading_of (expr y)) (e x) (e y) known p h
+  node-known (node.Older at x y) known p h = two-known Id (named_in (expr x)) (named_in (expr y)) (reading_of (expr x)) (reading_of (expr y)) (e x) (e y) known p h
+  node-known (node.Compare x how y) known p h = two-known Int (named_in (expr x)) (named_in (expr y)) (reading_of (expr x)) (reading_of (expr y)) (e x) (e y) known p h
   node-known (node.Sum first rest) known p h =
       known-append known (named_in (expr first)) (joined (map named_in_summand (map plus rest)))
-      (e first known p (wanted-left Int (read (expr first)) known p (nothing_left (wanted Int (read (expr first)) known p) (all_wanted Int (map read_sum_part (map plus rest)) known p) h)))
-      (pluses-known rest known p (nothing_right (wanted Int (read (expr first)) known p) (all_wanted Int (map read_sum_part (map plus rest)) known p) h))
+      (e first known p (wanted-left Int (reading_of (expr first)) known p (nothing_left (wanted Int (reading_of (expr first)) known p) (all_wanted Int (map read_sum_part (map plus rest)) known p) h)))
+      (pluses-known rest known p (nothing_right (wanted Int (reading_of (expr first)) known p) (all_wanted Int (map read_sum_part (map plus rest)) known p) h))
   node-known (node.Product first rest) known p h =
       known-append known (named_in (expr first)) (joined (map named_in_factor (map times rest)))
-      (e first known p (wanted-left Int (read (expr first)) known p (nothing_left (wanted Int (read (expr first)) known p) (all_wanted Int (map read_product_part (map times rest)) known p) h)))
-      (timeses-known rest known p (nothing_right (wanted Int (read (expr first)) known p) (all_wanted Int (map read_product_part (map times rest)) known p) h))
+      (e first known p (wanted-left Int (reading_of (expr first)) known p (nothing_left (wanted Int (reading_of (expr first)) known p) (all_wanted Int (map read_product_part (map times rest)) known p) h)))
+      (timeses-known rest known p (nothing_right (wanted Int (reading_of (expr first)) known p) (all_wanted Int (map read_product_part (map times rest)) known p) h))
 
 pub read-known : (e : Expr) → TreeKnown e
 read-known =
@@ -147,12 +147,12 @@ read-known =
 arguments-known : (params : List Param) (es : List Expr) (known : Declared) (p : NameSet) → arguments params es known p ≡ [] → AllKnown known (named_in_all es)
 arguments-known params [] known p h = refl
 arguments-known [] (e ∷ es) known p h =
-    known-append known (named_in e) (named_in_all es) (read-known e known p (nothing_left ((read e).violations known p) (arguments [] es known p) h))
-    (arguments-known [] es known p (nothing_right ((read e).violations known p) (arguments [] es known p) h))
+    known-append known (named_in e) (named_in_all es) (read-known e known p (nothing_left ((reading_of e).violations known p) (arguments [] es known p) h))
+    (arguments-known [] es known p (nothing_right ((reading_of e).violations known p) (arguments [] es known p) h))
 arguments-known (q ∷ params) (e ∷ es) known p h =
     known-append known (named_in e) (named_in_all es)
-    (read-known e known p (wanted-left q.kind (read e) known p (nothing_left (wanted q.kind (read e) known p) (arguments params es known p) h)))
-    (arguments-known params es known p (nothing_right (wanted q.kind (read e) known p) (arguments params es known p) h))
+    (read-known e known p (wanted-left q.kind (reading_of e) known p (nothing_left (wanted q.kind (reading_of e) known p) (arguments params es known p) h)))
+    (arguments-known params es known p (nothing_right (wanted q.kind (reading_of e) known p) (arguments params es known p) h))
 
 pub call-known : (o : Option Function) (c : CallText) (known : Declared) (p : NameSet) → call_of o c known p ≡ [] → AllKnown known (named_in_all c.args)
 call-known None c known p h = arguments-known [] c.args known p (nothing_right (unknown_function c.name) (arguments [] c.args known p) h)
@@ -168,7 +168,7 @@ loop-arguments-known (q ∷ params) c known p h =
 pub loop-call-known : (o : Option Function) (has_target : Bool) (c : CallText) (known : Declared) (p : NameSet) → loop_call_of o has_target c known p ≡ [] → AllKnown known (named_in_all c.args)
 loop-call-known None has_target c known p h = arguments-known [] c.args known p (nothing_right (unknown_function c.name) (arguments [] c.args known p) h)
 loop-call-known (Some f) has_target c known p h =
-    loop-arguments-known f.params c known p (nothing_right (wrong_kind Int (taken_kind has_target f.answer) c.name.at) (loop_arguments f.params c known p) h)
+    loop-arguments-known f.params c known p (nothing_right (wrong_kind Int (received_kind has_target f.answer) c.name.at) (loop_arguments f.params c known p) h)
 
 pub target-known : (target : Option Name) (known : Declared) (p : NameSet) → target_use target known p ≡ [] → AllKnown known (named_in_target target)
 target-known None known p h = refl

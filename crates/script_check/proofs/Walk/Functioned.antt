@@ -7,7 +7,7 @@ use Rattle.script_check.specs.Violations.{violation, earliest}
 use Rattle.script_check.specs.Tables.{no_entries}
 use Rattle.script_check.specs.Names.{no_names}
 use Rattle.script_check.specs.Rules.{Declared}
-use Rattle.script_check.specs.Expressions.{read, wanted}
+use Rattle.script_check.specs.Expressions.{reading_of, wanted}
 use Rattle.script_check.specs.Statements.{context, judge_all, known_each, violations_each}
 use Rattle.script_check.specs.Valid.{known_params, param_violations, function_violations, all_function_violations, functions_twice, main_violations, violations, CheckFault}
 use Rattle.script_check.specs.Functions.{function_named, main_name}
@@ -20,15 +20,15 @@ pub function_judged : (fs : List Function) (f : Function) (new params body end :
     new.known ≡ no_entries → new.names ≡ no_names →
     params ≡ record new { known = known_params f.params new.known } → first ≡ earliest found (param_violations f.params new.known) →
     body ≡ state_after_all fs f.body params → second ≡ earliest first (violations_each (judge_all f.body) (context fs false) params.known params.names) →
-    end ≡ record body { names = no_names; keeps = false } → third ≡ earliest second (wanted f.answer (read f.result) end.known end.names) →
+    end ≡ record body { names = no_names; keeps = false } → third ≡ earliest second (wanted f.answer (reading_of f.result) end.known end.names) →
     third ≡ earliest found (function_violations fs f)
 function_judged fs f new params body end found first second third k p s1 f1 s2 f2 s3 f3 =
     after_three found first second third (param_violations f.params no_entries)
     (violations_each (judge_all f.body) (context fs false) (known_params f.params no_entries) no_names)
-    (wanted f.answer (read f.result) (known_each (judge_all f.body) fs (known_params f.params no_entries)) no_names) (function_violations fs f)
+    (wanted f.answer (reading_of f.result) (known_each (judge_all f.body) fs (known_params f.params no_entries)) no_names) (function_violations fs f)
     (f1 ∙ ap (λ (m : Declared). earliest found (param_violations f.params m)) k)
     (f2 ∙ (λ i. earliest first (violations_each (judge_all f.body) (context fs false) (known1 i) (pending1 i))))
-    (f3 ∙ (λ i. earliest second (wanted f.answer (read f.result) (known3 i) (pending3 i))))
+    (f3 ∙ (λ i. earliest second (wanted f.answer (reading_of f.result) (known3 i) (pending3 i))))
     refl
   where
     known1 : params.known ≡ known_params f.params no_entries

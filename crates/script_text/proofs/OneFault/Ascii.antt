@@ -20,7 +20,7 @@ use Rattle.script_tokens.specs.Lexing.{is_blank, gap_length, comment_length, Lex
 use Rattle.script_tokens.proofs.Longest.{word_spelled-none}
 use Rattle.script_tokens.proofs.LexingLemmas.{IsNext, lexeme_is_next}
 use Rattle.script_tokens.proofs.Versions.{begins_in}
-use Rattle.script_grammar.specs.Grammar.{Token}
+use Rattle.script_grammar.specs.Grammar.{Terminal}
 use Rattle.script_grammar.specs.Text.{tokens_of}
 
 -- Bytes below 128
@@ -159,11 +159,11 @@ place_of length (NotAscii place) = place
 place_of length (NoToken place) = place
 
 -- the tokens stand one after another, from an offset on and before the end
-abbrev pub InRow : ℕ → List Token → ℕ → Type 0
+abbrev pub InRow : ℕ → List Terminal → ℕ → Type 0
 InRow from [] end = from ≤ end
 InRow from (t ∷ ts) end = (from ≤ t.at) × InRow (suc t.at) ts end
 
-row-from : (ts : List Token) (from n end : ℕ) → n ≤ from → InRow from ts end → InRow n ts end
+row-from : (ts : List Terminal) (from n end : ℕ) → n ≤ from → InRow from ts end → InRow n ts end
 row-from [] from n end h r = omega (arith, h, r)
 row-from (t ∷ ts) from n end h r = (omega (arith, h, r.0), r.1)
 

@@ -11,7 +11,7 @@ use Rattle.script_tokens.specs.Version.{version_of, begins_at}
 use Rattle.script_tokens.specs.Lexing.{IsLexed}
 use Rattle.script_tokens.proofs.Cuts.{every_text}
 use Rattle.script_grammar.specs.declared.tree.Function.{Function}
-use Rattle.script_grammar.specs.Grammar.{Token, IsScript, AreOf, IsScriptOf, IsViable}
+use Rattle.script_grammar.specs.Grammar.{Terminal, IsScript, AreOf, IsScriptOf, IsViable}
 use Rattle.script_grammar.specs.Fault.{BreaksLimit, IsFault, unexpected, breaks_limit, TextEnd, FaultAtStop, FaultAfter, WithinAfter}
 use Rattle.script_grammar.specs.Text.{tokens_of, SyntaxFault}
 use Rattle.script_grammar.proofs.Versions.{are_of_cut}
@@ -37,17 +37,17 @@ no-greater : (number at n : ℕ) → NotAfter number at n at → number ≤ n
 no-greater number at n (inl h) = absurd (omega (arith, h))
 no-greater number at n (inr h) = h.1
 
-row-later : (ts : List Token) (from end : ℕ) → InRow from ts end → from ≤ end
+row-later : (ts : List Terminal) (from end : ℕ) → InRow from ts end → from ≤ end
 row-later [] from end r = r
 row-later (t ∷ ts) from end r = let l = row-later ts (suc t.at) end r.1 in omega (arith, r.0, l)
 
-row-at : (b after : List Token) (t : Token) (from end : ℕ) → InRow from (b ++ t ∷ after) end → from ≤ t.at
+row-at : (b after : List Terminal) (t : Terminal) (from end : ℕ) → InRow from (b ++ t ∷ after) end → from ≤ t.at
 row-at [] after t from end r = r.0
 row-at (u ∷ b) after t from end r = let l = row-at b after t (suc u.at) end r.1 in omega (arith, r.0, l)
 
 module _ (version : Version) (ending : TextEnd) where
   -- the fault of some tokens isn't after that of one of them
-  first-token : (b before after : List Token) (t : Token) (s : List Sym) → AreOf version before → AreOf version (b ++ t ∷ after) → StandsAfter before s → nesting s ≤ 64 → (from end : ℕ) → InRow from (b ++ t ∷ after) end →
+  first-token : (b before after : List Terminal) (t : Terminal) (s : List Sym) → AreOf version before → AreOf version (b ++ t ∷ after) → StandsAfter before s → nesting s ≤ 64 → (from end : ℕ) → InRow from (b ++ t ∷ after) end →
       (number at n : ℕ) → FaultAfter version ending before (b ++ t ∷ after) number at → IsFault version (before ++ b) t n → NotAfter number at n t.at
   first-token [] before after t s of more st low from end r number at n f g = go f
     where
@@ -75,7 +75,7 @@ module _ (version : Version) (ending : TextEnd) where
       go (inr x) later = let q = taken_low version before u s of' st x.0 in later q.0 q.1 q.2 (suc u.at) end r.1 number at n x.1 there
 
   -- it stands before the end, or is that of the end
-  before-stop : (ts before : List Token) (from end : ℕ) → InRow from ts end → (number at : ℕ) → FaultAfter version ending before ts number at →
+  before-stop : (ts before : List Terminal) (from end : ℕ) → InRow from ts end → (number at : ℕ) → FaultAfter version ending before ts number at →
       (at < end) ⊎ FaultAtStop version ending.end ending.stop (before ++ ts) number at
   before-stop [] before from end r number at f = inr (subst (λ l. FaultAtStop version ending.end ending.stop l number at) (sym (append-nil before)) f)
   before-stop (t ∷ ts) before from end r number at f = go f (λ g. before-stop ts (before ++ t ∷ []) (suc t.at) end r.1 number at g)
@@ -86,7 +86,7 @@ module _ (version : Version) (ending : TextEnd) where
       go (inr x) later = subst (λ l. (at < end) ⊎ FaultAtStop version ending.end ending.stop l number at) (append_assoc before (t ∷ []) ts) (later x.1)
 
   -- a token of a script within the limits is at no fault
-  within-at : (b before after : List Token) (t : Token) (n : ℕ) → WithinAfter version before (b ++ t ∷ after) → BreaksLimit version (before ++ b) t n → ⊥
+  within-at : (b before after : List Terminal) (t : Terminal) (n : ℕ) → WithinAfter version before (b ++ t ∷ after) → BreaksLimit version (before ++ b) t n → ⊥
   within-at [] before after t n w g = w.0 n (subst (λ l. BreaksLimit version l t n) (append-nil before) g)
   within-at (u ∷ b) before after t n w g = within-at b (before ++ u ∷ []) after t n w.1 (subst (λ l. BreaksLimit version l t n) (sym (append_assoc before (u ∷ []) b)) g)
 
@@ -98,7 +98,7 @@ module _ (bytes : List ℕ) (ls : List Lexeme) (stop : LexEnd) (cut : IsLexed by
   abbrev ending : TextEnd
   ending = record { end = length bytes; stop = stop }
 
-  abbrev tokens : List Token
+  abbrev tokens : List Terminal
   tokens = tokens_of bytes ls
 
   tokens-of : AreOf version tokens
@@ -107,7 +107,7 @@ module _ (bytes : List ℕ) (ls : List Lexeme) (stop : LexEnd) (cut : IsLexed by
   has-tokens : HasTokens bytes tokens stop
   has-tokens = record { lexemes = ls; cut = cut; same = refl }
 
-  has-stop : (end : LexEnd) → stop ≡ end → (before : List Token) (s : List Sym) → AreOf version before → StandsAfter before s → before ≡ tokens → (number at : ℕ) → FaultAtStop version (length bytes) end before number at → HasFault bytes number at
+  has-stop : (end : LexEnd) → stop ≡ end → (before : List Terminal) (s : List Sym) → AreOf version before → StandsAfter before s → before ≡ tokens → (number at : ℕ) → FaultAtStop version (length bytes) end before number at → HasFault bytes number at
   has-stop End e before s of st same number at f =
       let here : HasFault bytes 6 (length bytes) =
       unexpected_end (subst (HasTokens bytes tokens) e has-tokens) (subst (IsViable version) same (viable version before s of st)) (subst (λ l. (fs : List Function) → IsScriptOf version l fs → ⊥) same f.2) in
@@ -119,7 +119,7 @@ module _ (bytes : List ℕ) (ls : List Lexeme) (stop : LexEnd) (cut : IsLexed by
   has-stop (NoToken place) e before s of st same number at f =
       subst (λ n. HasFault bytes n at) (sym f.0) (subst (HasFault bytes 2) (sym f.1) (no_token (subst (HasTokens bytes tokens) e has-tokens)))
 
-  has-of : (ts before : List Token) (s : List Sym) → AreOf version before → AreOf version ts → StandsAfter before s → nesting s ≤ 64 → before ++ ts ≡ tokens → (number at : ℕ) → FaultAfter version ending before ts number at → HasFault bytes number at
+  has-of : (ts before : List Terminal) (s : List Sym) → AreOf version before → AreOf version ts → StandsAfter before s → nesting s ≤ 64 → before ++ ts ≡ tokens → (number at : ℕ) → FaultAfter version ending before ts number at → HasFault bytes number at
   has-of [] before s of more st low same number at f = has-stop stop refl before s of st (sym (append-nil before) ∙ same) number at f
   has-of (t ∷ ts) before s of more st low same number at f = go f (λ x. has-of ts (before ++ t ∷ []) x of' (are-first version t ts more).1)
     where

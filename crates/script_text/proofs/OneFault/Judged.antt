@@ -11,20 +11,20 @@ use Rattle.script_tokens.specs.declared.token.Word.TheVariants as word
 use Rattle.script_tokens.specs.declared.lexing.LexEnd.{LexEnd}
 use Rattle.script_tokens.specs.declared.lexing.LexEnd.TheVariants.{End, NotAscii, NoToken}
 use Rattle.script_grammar.specs.declared.tree.Function.{Function}
-use Rattle.script_grammar.specs.Grammar.{Token, tok, decimal, IsScript, AreOf, IsViable}
+use Rattle.script_grammar.specs.Grammar.{Terminal, tok, decimal, IsScript, AreOf, IsViable}
 use Rattle.script_grammar.specs.Nesting.{functions_nesting}
 use Rattle.script_grammar.specs.Fault.{is_fn, functions_begun, NestsAt, BreaksLimit, number_out_of_range, name_too_long, nested_too_deep, too_many_functions, IsFault, unexpected, breaks_limit, TextEnd, FaultAtStop, FaultAfter, WithinAfter, IsProgram}
-use Rattle.script_text.specs.Machine.{Sym, functions, same_word, is_empty, consume, run, nesting, Nestings, onward, nestings, all_empty, PlacedFault, broken, unless_broken, verdict, at_stop, begun, judge}
+use Rattle.script_text.specs.Machine.{Sym, functions, same_word, is_empty, consume, consume_all, nesting, Nestings, onward, nestings, all_empty, PlacedFault, broken, unless_broken, verdict, at_stop, begun_with, judge}
 use Rattle.script_text.proofs.Parsing.Words.{same_words}
 use Rattle.script_text.proofs.Nesting.Follows.{tail, script_traced, script_runs}
 use Rattle.script_text.proofs.Nesting.Sound.{Derives, run_sound, run-append, whole, left_out, viable, taken, are-append, are-first}
 
 -- the machine stands here after these tokens
-abbrev pub StandsAfter : List Token → List Sym → Type 0
-StandsAfter before s = run before (functions ∷ []) ≡ Some s
+abbrev pub StandsAfter : List Terminal → List Sym → Type 0
+StandsAfter before s = consume_all before (functions ∷ []) ≡ Some s
 
-pub one_more : (before : List Token) (t : Token) (s : List Sym) → StandsAfter before s → run (before ++ t ∷ []) (functions ∷ []) ≡ consume t.word t.text s
-one_more before t s e = run-append before (t ∷ []) (functions ∷ []) ∙ ap (option_and_then (run (t ∷ []))) e ∙ unit (consume t.word t.text s)
+pub one_more : (before : List Terminal) (t : Terminal) (s : List Sym) → StandsAfter before s → consume_all (before ++ t ∷ []) (functions ∷ []) ≡ consume t.word t.text s
+one_more before t s e = run-append before (t ∷ []) (functions ∷ []) ∙ ap (option_and_then (consume_all (t ∷ []))) e ∙ unit (consume t.word t.text s)
   where
     unit : (o : Option (List Sym)) → option_and_then Some o ≡ o
     unit None = refl
@@ -45,19 +45,19 @@ slice_get-seam [] n more = refl
 slice_get-seam (m ∷ ns) n more = slice_get-seam ns n more
 
 -- a run, step by step, with the nesting after each token
-data Steps : List Token → List Sym → List ℕ → List Sym → Type 0 where
+data Steps : List Terminal → List Sym → List ℕ → List Sym → Type 0 where
   stopped : {s : List Sym} → Steps [] s [] s
-  stepped : {t : Token} {ts : List Token} {s x s' : List Sym} {ns : List ℕ} → consume t.word t.text s ≡ Some x → Steps ts x ns s' → Steps (t ∷ ts) s (nesting x ∷ ns) s'
+  stepped : {t : Terminal} {ts : List Terminal} {s x s' : List Sym} {ns : List ℕ} → consume t.word t.text s ≡ Some x → Steps ts x ns s' → Steps (t ∷ ts) s (nesting x ∷ ns) s'
 
-steps : (ts : List Token) (s s' : List Sym) → run ts s ≡ Some s' → (ns : List ℕ) × Steps ts s ns s'
+steps : (ts : List Terminal) (s s' : List Sym) → consume_all ts s ≡ Some s' → (ns : List ℕ) × Steps ts s ns s'
 steps [] s s' e = ([], subst (λ x. Steps [] s [] x) (same_Some _ _ e) stopped)
-steps (t ∷ ts) s s' e = option_and_then_some (run ts) (consume t.word t.text s) s' e (λ x f g. let r = steps ts x s' g in (nesting x ∷ r.0, stepped f r.1))
+steps (t ∷ ts) s s' e = option_and_then_some (consume_all ts) (consume t.word t.text s) s' e (λ x f g. let r = steps ts x s' g in (nesting x ∷ r.0, stepped f r.1))
 
-length-steps : {ts : List Token} {s s' : List Sym} {ns : List ℕ} → Steps ts s ns s' → length ns ≡ length ts
+length-steps : {ts : List Terminal} {s s' : List Sym} {ns : List ℕ} → Steps ts s ns s' → length ns ≡ length ts
 length-steps stopped = refl
 length-steps (stepped e r) = ap suc (length-steps r)
 
-trace-append : {ts : List Token} {s s' : List Sym} {ns : List ℕ} (us : List Token) → Steps ts s ns s' → nestings (ts ++ us) s ≡ tail ns (nestings us s')
+trace-append : {ts : List Terminal} {s s' : List Sym} {ns : List ℕ} (us : List Terminal) → Steps ts s ns s' → nestings (ts ++ us) s ≡ tail ns (nestings us s')
 trace-append {s = s} us stopped = none (nestings us s)
   where
     none : (o : Nestings) → o ≡ tail [] o
@@ -77,7 +77,7 @@ none_of Two = tt
 
 module _ (version : Version) where
   -- the nesting after a token is its nesting in every script that goes on so
-  pub nested_so : (before : List Token) (t : Token) (s s' : List Sym) → StandsAfter before s → consume t.word t.text s ≡ Some s' → (n : ℕ) → NestsAt version before t n → n ≡ nesting s'
+  pub nested_so : (before : List Terminal) (t : Terminal) (s s' : List Sym) → StandsAfter before s → consume t.word t.text s ≡ Some s' → (n : ℕ) → NestsAt version before t n → n ≡ nesting s'
   nested_so before t s s' st e n h =
       let r = steps before (functions ∷ []) s st in
       let split : nestings (before ++ t ∷ h.0) (functions ∷ []) ≡ tail r.0 (onward (Some s') (nestings h.0)) =
@@ -95,7 +95,7 @@ module _ (version : Version) where
   of_none = none_of version
 
   -- and there is such a script
-  pub is_nested : (before : List Token) (t : Token) (s s' : List Sym) → AreOf version (before ++ t ∷ []) → StandsAfter before s → consume t.word t.text s ≡ Some s' → StandsAfter (before ++ t ∷ []) s' → NestsAt version before t (nesting s')
+  pub is_nested : (before : List Terminal) (t : Terminal) (s s' : List Sym) → AreOf version (before ++ t ∷ []) → StandsAfter before s → consume t.word t.text s ≡ Some s' → StandsAfter (before ++ t ∷ []) s' → NestsAt version before t (nesting s')
   is_nested before t s s' of st e st' =
       let v = viable version (before ++ t ∷ []) s' of st' in
       let d : IsScript (before ++ t ∷ v.0) v.1 = subst (λ x. IsScript x v.1) (append_assoc before (t ∷ []) v.0) v.2.1 in
@@ -113,7 +113,7 @@ module _ (version : Version) where
 
   -- Limits
 
-  begun-more : (before : List Token) (t : Token) → functions_begun (before ++ t ∷ []) ≡ begun t (functions_begun before)
+  begun-more : (before : List Terminal) (t : Terminal) → functions_begun (before ++ t ∷ []) ≡ begun_with t (functions_begun before)
   begun-more [] t = refl
   begun-more (b ∷ bs) t = go (is_fn b.word) (is_fn t.word) (functions_begun (bs ++ t ∷ [])) (functions_begun bs) (begun-more bs t)
     where
@@ -132,7 +132,7 @@ module _ (version : Version) where
   both false b e = cc
 
   -- a broken limit, and none
-  is_broken : (before : List Token) (t : Token) (d k : ℕ) → NestsAt version before t d → broken (functions_begun before) t d ≡ Some k → BreaksLimit version before t k
+  is_broken : (before : List Terminal) (t : Terminal) (d k : ℕ) → NestsAt version before t d → broken (functions_begun before) t d ≡ Some k → BreaksLimit version before t k
   is_broken before t d k nest e =
       go (same_word t.word word.Number && nat_lt 9223372036854775807 (decimal 0 t.text)) (same_word t.word word.Name && nat_lt 32 (length t.text))
       (is_fn t.word && nat_lt 1023 (functions_begun before)) (nat_lt 64 d) refl refl refl refl e
@@ -159,7 +159,7 @@ module _ (version : Version) where
   never_some : (k d : ℕ) (b : Bool) → b ≡ true → or_deep k d b ≡ None → ⊥
   never_some k d b e f = none-some k (sym f ∙ ap (or_deep k d) e)
 
-  not_broken : (before : List Token) (t : Token) (d : ℕ) → ((n : ℕ) → NestsAt version before t n → n ≡ d) → broken (functions_begun before) t d ≡ None → (k : ℕ) → BreaksLimit version before t k → ⊥
+  not_broken : (before : List Terminal) (t : Terminal) (d : ℕ) → ((n : ℕ) → NestsAt version before t n → n ≡ d) → broken (functions_begun before) t d ≡ None → (k : ℕ) → BreaksLimit version before t k → ⊥
   not_broken before t d nest e k (number_out_of_range w h) =
       let f : broken (functions_begun before) (tok t.at word.Number t.text) d ≡ None = subst (λ v. broken (functions_begun before) (tok t.at v t.text) d ≡ None) w e in
       never_some 3 d _ (lt-ltb 9223372036854775807 (decimal 0 t.text) h) f
@@ -183,15 +183,15 @@ module _ (version : Version) where
       last false false false false e = refl
 
   -- what an answer says of the tokens after these
-  abbrev pub Says : TextEnd → List Token → List Token → Option PlacedFault → Type 0
+  abbrev pub Says : TextEnd → List Terminal → List Terminal → Option PlacedFault → Type 0
   Says ending before ts (Some f) = FaultAfter version ending before ts f.0 f.1
   Says ending before ts None = (ending.stop ≡ End) × WithinAfter version before ts × ((fs : List Function) × IsScript (before ++ ts) fs)
 
-  no_fault : (before : List Token) (t : Token) → IsViable version (before ++ t ∷ []) → ((n : ℕ) → BreaksLimit version before t n → ⊥) → (n : ℕ) → IsFault version before t n → ⊥
+  no_fault : (before : List Terminal) (t : Terminal) → IsViable version (before ++ t ∷ []) → ((n : ℕ) → BreaksLimit version before t n → ⊥) → (n : ℕ) → IsFault version before t n → ⊥
   no_fault before t v h n (unexpected f) = f v
   no_fault before t v h n (breaks_limit v' b) = h n b
 
-  judged_end : (ending : TextEnd) (before : List Token) (s : List Sym) → StandsAfter before s → Says ending before [] (at_stop ending.end ending.stop s)
+  judged_end : (ending : TextEnd) (before : List Terminal) (s : List Sym) → StandsAfter before s → Says ending before [] (at_stop ending.end ending.stop s)
   judged_end ending before s st = at ending.stop refl
     where
       at_end : (b : Bool) → all_empty s ≡ b → ending.stop ≡ End → Says ending before [] (if b then None else Some (6, ending.end))
@@ -210,19 +210,19 @@ module _ (version : Version) where
       at (NotAscii place) e = subst (λ w. FaultAtStop version ending.end w before 1 place) (sym e) (refl, refl)
       at (NoToken place) e = subst (λ w. FaultAtStop version ending.end w before 2 place) (sym e) (refl, refl)
 
-  pub judged : (ending : TextEnd) (ts before : List Token) (n : ℕ) (s : List Sym) → AreOf version before → AreOf version ts → n ≡ functions_begun before → StandsAfter before s → Says ending before ts (judge ending n s ts)
+  pub judged : (ending : TextEnd) (ts before : List Terminal) (n : ℕ) (s : List Sym) → AreOf version before → AreOf version ts → n ≡ functions_begun before → StandsAfter before s → Says ending before ts (judge ending n s ts)
   judged ending [] before n s of more e st = judged_end ending before s st
-  judged ending (t ∷ ts) before n s of more e st = go (consume t.word t.text s) refl (λ x. judged ending ts (before ++ t ∷ []) (begun t n) x of' (are-first version t ts more).1 (ap (begun t) e ∙ sym (begun-more before t)))
+  judged ending (t ∷ ts) before n s of more e st = go (consume t.word t.text s) refl (λ x. judged ending ts (before ++ t ∷ []) (begun_with t n) x of' (are-first version t ts more).1 (ap (begun_with t) e ∙ sym (begun-more before t)))
     where
       of' : AreOf version (before ++ t ∷ [])
       of' = are-append version before (t ∷ []) of (are-first version t ts more).0
 
-      within : (s' : List Sym) → consume t.word t.text s ≡ Some s' → StandsAfter (before ++ t ∷ []) s' → (o : Option ℕ) → broken n t (nesting s') ≡ o → Says ending (before ++ t ∷ []) ts (judge ending (begun t n) s' ts)
-          → Says ending before (t ∷ ts) (unless_broken o t.at (judge ending (begun t n) s' ts))
+      within : (s' : List Sym) → consume t.word t.text s ≡ Some s' → StandsAfter (before ++ t ∷ []) s' → (o : Option ℕ) → broken n t (nesting s') ≡ o → Says ending (before ++ t ∷ []) ts (judge ending (begun_with t n) s' ts)
+          → Says ending before (t ∷ ts) (unless_broken o t.at (judge ending (begun_with t n) s' ts))
       within s' f st' (Some k) g r =
           let g' : broken (functions_begun before) t (nesting s') ≡ Some k = ap (λ m. broken m t (nesting s')) (sym e) ∙ g in
           inl (breaks_limit (viable version _ s' of' st') (is_broken before t (nesting s') k (is_nested before t s s' of' st f st') g'), refl)
-      within s' f st' None g r = on_rest (judge ending (begun t n) s' ts) r
+      within s' f st' None g r = on_rest (judge ending (begun_with t n) s' ts) r
         where
           fine : (k : ℕ) → BreaksLimit version before t k → ⊥
           fine = not_broken before t (nesting s') (nested_so before t s s' st f) (ap (λ m. broken m t (nesting s')) (sym e) ∙ g)
@@ -231,13 +231,13 @@ module _ (version : Version) where
           on_rest None q = (q.0, (fine, q.1), (q.2.0, subst (λ x. IsScript x q.2.0) (append_assoc before (t ∷ []) ts) q.2.1))
           on_rest (Some x) q = inr (no_fault before t (viable version _ s' of' st') fine, q)
 
-      go : (o : Option (List Sym)) → consume t.word t.text s ≡ o → ((x : List Sym) → StandsAfter (before ++ t ∷ []) x → Says ending (before ++ t ∷ []) ts (judge ending (begun t n) x ts))
-          → Says ending before (t ∷ ts) (verdict n t o (λ s'. judge ending (begun t n) s' ts))
+      go : (o : Option (List Sym)) → consume t.word t.text s ≡ o → ((x : List Sym) → StandsAfter (before ++ t ∷ []) x → Says ending (before ++ t ∷ []) ts (judge ending (begun_with t n) x ts))
+          → Says ending before (t ∷ ts) (verdict n t o (λ s'. judge ending (begun_with t n) s' ts))
       go None f ih = inl (unexpected (λ v. let q = taken version (before ++ t ∷ []) v in none-some _ (sym (one_more before t s st ∙ f) ∙ q.1)), refl)
       go (Some s') f ih = let st' = one_more before t s st ∙ f in within s' f st' (broken n t (nesting s')) refl (ih s' st')
 
   -- a script within the limits has no fault
-  no_fault_in_script : (ending : TextEnd) (ts before : List Token) (fs : List Function) (number at : ℕ) → ending.stop ≡ End → AreOf version (before ++ ts) → IsScript (before ++ ts) fs → WithinAfter version before ts → FaultAfter version ending before ts number at → ⊥
+  no_fault_in_script : (ending : TextEnd) (ts before : List Terminal) (fs : List Function) (number at : ℕ) → ending.stop ≡ End → AreOf version (before ++ ts) → IsScript (before ++ ts) fs → WithinAfter version before ts → FaultAfter version ending before ts number at → ⊥
   no_fault_in_script ending [] before fs number at e of d w f =
       let g : FaultAtStop version ending.end End before number at = subst (λ w. FaultAtStop version ending.end w before number at) e f in
       g.2 fs (subst (AreOf version) (append-nil before) of, subst (λ x. IsScript x fs) (append-nil before) d)
@@ -251,13 +251,13 @@ module _ (version : Version) where
       no_fault_in_script ending ts (before ++ t ∷ []) fs number at e of' d' w.1 f.1
 
   -- the machine's answer, for the whole list
-  pub bad_is_fault : (ending : TextEnd) (ts : List Token) (n at : ℕ) → AreOf version ts → judge ending 0 (functions ∷ []) ts ≡ Some (n, at) → FaultAfter version ending [] ts n at
+  pub bad_is_fault : (ending : TextEnd) (ts : List Terminal) (n at : ℕ) → AreOf version ts → judge ending 0 (functions ∷ []) ts ≡ Some (n, at) → FaultAfter version ending [] ts n at
   bad_is_fault ending ts n at of e = subst (Says ending [] ts) e (judged ending ts [] 0 (functions ∷ []) of_none of refl refl)
 
-  pub none_is_program : (ending : TextEnd) (ts : List Token) (fs : List Function) → AreOf version ts → judge ending 0 (functions ∷ []) ts ≡ None → IsScript ts fs → (ending.stop ≡ End) × IsProgram version ts fs
+  pub none_is_program : (ending : TextEnd) (ts : List Terminal) (fs : List Function) → AreOf version ts → judge ending 0 (functions ∷ []) ts ≡ None → IsScript ts fs → (ending.stop ≡ End) × IsProgram version ts fs
   none_is_program ending ts fs of e d =
       let w = subst (Says ending [] ts) e (judged ending ts [] 0 (functions ∷ []) of_none of refl refl) in
       (w.0, record { of_version = of; derives = d; within = w.1 })
 
-  pub never_bad : (ending : TextEnd) (ts : List Token) (fs : List Function) (n at : ℕ) → ending.stop ≡ End → IsProgram version ts fs → FaultAfter version ending [] ts n at → ⊥
+  pub never_bad : (ending : TextEnd) (ts : List Terminal) (fs : List Function) (n at : ℕ) → ending.stop ≡ End → IsProgram version ts fs → FaultAfter version ending [] ts n at → ⊥
   never_bad ending ts fs n at e t f = no_fault_in_script ending ts [] fs n at e t.of_version t.derives t.within f

@@ -9,7 +9,7 @@ use Rattle.script_tokens.specs.declared.token.Word.{Word}
 use Rattle.script_tokens.specs.declared.token.Word.TheVariants as word
 use Rattle.script_tokens.specs.declared.lexing.LexEnd.{LexEnd}
 use Rattle.script_tokens.specs.declared.lexing.LexEnd.TheVariants.{End, NotAscii, NoToken}
-use Rattle.script_grammar.specs.Grammar.{Token, AreOf, IsViable}
+use Rattle.script_grammar.specs.Grammar.{Terminal, AreOf, IsViable}
 use Rattle.script_grammar.specs.Fault.{NestsAt, BreaksLimit, number_out_of_range, name_too_long, nested_too_deep, too_many_functions, IsFault, unexpected, breaks_limit, TextEnd, FaultAtStop, FaultAfter}
 use Rattle.script_text.specs.Machine.{Sym, only, exactly, factor, index, pair, more_factors, more_terms, comparison, minus_end, args, more_args, call_args, right, into, loop_name, loop_args, stmts, after_let, after_name, block, otherwise, functions, param_list, params, more_params, param, answer, body, same_word, Production, rules, is_empty, find_rule, choose, consume, is_closer, nesting}
 use Rattle.script_text.proofs.Parsing.Words.{same_words}
@@ -122,10 +122,10 @@ name_fn : (w : Word) → w ≡ word.Name → w ≡ word.Fn → ⊥
 name_fn w e f = let g : word.Name ≡ word.Fn = sym e ∙ f in cc
 
 module _ (version : Version) where
-  abbrev Limit : List Token → Token → ℕ → Type 0
+  abbrev Limit : List Terminal → Terminal → ℕ → Type 0
   Limit before t n = BreaksLimit version before t n
 
-  module _ (before : List Token) (t : Token) (d : ℕ) (nest : (n : ℕ) → NestsAt version before t n → n ≡ d) (flat : is_flat t.word ≡ true → d ≤ 64) where
+  module _ (before : List Terminal) (t : Terminal) (d : ℕ) (nest : (n : ℕ) → NestsAt version before t n → n ≡ d) (flat : is_flat t.word ≡ true → d ≤ 64) where
     deep_flat : (n : ℕ) → NestsAt version before t n → 64 < n → is_flat t.word ≡ true → ⊥
     deep_flat n h deep f = let same = nest n h in let low = flat f in omega (arith, same, low, deep)
 
@@ -148,17 +148,17 @@ module _ (version : Version) where
     one_limit m n (too_many_functions w h) (too_many_functions v i) = refl
 
   -- not viable, or viable
-  one_unexpected : (before : List Token) (t : Token) → (IsViable version (before ++ t ∷ []) → ⊥) → (m n : ℕ) → IsFault version before t m → IsFault version before t n → m ≡ n
+  one_unexpected : (before : List Terminal) (t : Terminal) → (IsViable version (before ++ t ∷ []) → ⊥) → (m n : ℕ) → IsFault version before t m → IsFault version before t n → m ≡ n
   one_unexpected before t never m n (unexpected f) (unexpected g) = refl
   one_unexpected before t never m n (unexpected f) (breaks_limit v g) = absurd (never v)
   one_unexpected before t never m n (breaks_limit v f) g = absurd (never v)
 
-  one_broken : (before : List Token) (t : Token) → IsViable version (before ++ t ∷ []) → ((m n : ℕ) → Limit before t m → Limit before t n → m ≡ n) → (m n : ℕ) → IsFault version before t m → IsFault version before t n → m ≡ n
+  one_broken : (before : List Terminal) (t : Terminal) → IsViable version (before ++ t ∷ []) → ((m n : ℕ) → Limit before t m → Limit before t n → m ≡ n) → (m n : ℕ) → IsFault version before t m → IsFault version before t n → m ≡ n
   one_broken before t able once m n (unexpected f) g = absurd (f able)
   one_broken before t able once m n (breaks_limit v f) (unexpected g) = absurd (g able)
   one_broken before t able once m n (breaks_limit v f) (breaks_limit w g) = once m n f g
 
-  module _ (before : List Token) (t : Token) (s : List Sym) (of : AreOf version (before ++ t ∷ [])) (st : StandsAfter before s) where
+  module _ (before : List Terminal) (t : Terminal) (s : List Sym) (of : AreOf version (before ++ t ∷ [])) (st : StandsAfter before s) where
     no_more : consume t.word t.text s ≡ None → IsViable version (before ++ t ∷ []) → ⊥
     no_more e v = let q = taken version (before ++ t ∷ []) v in none-some _ (sym (one_more before t s st ∙ e) ∙ q.1)
 
@@ -184,17 +184,17 @@ module _ (version : Version) where
         go None e = absurd (fine 2 (unexpected (no_more e)))
         go (Some s') e = let st' = one_more before t s st ∙ e in (s', st', low s' e st' (cases_lt 64 (nesting s')))
 
-  one_stop : (end : ℕ) (stop : LexEnd) (before : List Token) (m at n place : ℕ) → FaultAtStop version end stop before m at → FaultAtStop version end stop before n place → (m ≡ n) × (at ≡ place)
+  one_stop : (end : ℕ) (stop : LexEnd) (before : List Terminal) (m at n place : ℕ) → FaultAtStop version end stop before m at → FaultAtStop version end stop before n place → (m ≡ n) × (at ≡ place)
   one_stop end End before m at n place f g = (f.0 ∙ sym g.0, f.1 ∙ sym g.1)
   one_stop end (NotAscii p) before m at n place f g = (f.0 ∙ sym g.0, f.1 ∙ sym g.1)
   one_stop end (NoToken p) before m at n place f g = (f.0 ∙ sym g.0, f.1 ∙ sym g.1)
 
   -- what holds of the tokens after some that are at no fault
-  abbrev Later : TextEnd → List Token → List Token → Type 0
+  abbrev Later : TextEnd → List Terminal → List Terminal → Type 0
   Later ending ts before =
       (x : List Sym) → StandsAfter before x → nesting x ≤ 64 → (m at n place : ℕ) → FaultAfter version ending before ts m at → FaultAfter version ending before ts n place → (m ≡ n) × (at ≡ place)
 
-  pub one_fault : (ending : TextEnd) (ts before : List Token) (s : List Sym) → AreOf version before → AreOf version ts → StandsAfter before s → nesting s ≤ 64 → (m at n place : ℕ) →
+  pub one_fault : (ending : TextEnd) (ts before : List Terminal) (s : List Sym) → AreOf version before → AreOf version ts → StandsAfter before s → nesting s ≤ 64 → (m at n place : ℕ) →
       FaultAfter version ending before ts m at → FaultAfter version ending before ts n place → (m ≡ n) × (at ≡ place)
   one_fault ending [] before s of more st low m at n place f g = one_stop ending.end ending.stop before m at n place f g
   one_fault ending (t ∷ ts) before s of more st low m at n place f g = go f g (λ x. one_fault ending ts (before ++ t ∷ []) x of' (are-first version t ts more).1)

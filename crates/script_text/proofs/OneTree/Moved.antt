@@ -7,17 +7,17 @@ use Rattle.script_grammar.specs.declared.tree.Expr.{Expr}
 use Rattle.script_grammar.specs.declared.tree.CallText.{CallText}
 use Rattle.script_grammar.specs.declared.tree.Stmt.{Stmt}
 use Rattle.script_grammar.specs.declared.tree.Act.TheVariants as act
-use Rattle.script_grammar.specs.Grammar.{Token}
+use Rattle.script_grammar.specs.Grammar.{Terminal}
 use Rattle.script_text.specs.Reads.{IsElement, IsBounds, IsBody}
 use Rattle.script_text.proofs.Parsing.Statements.{ComesAct}
 
-pub element_moved : {ts us : List Token} {x x' y : Expr} {L : Type 0} → x' ≡ x → IsElement ts x y us × L → IsElement ts x' y us × L
+pub element_moved : {ts us : List Terminal} {x x' y : Expr} {L : Type 0} → x' ≡ x → IsElement ts x y us × L → IsElement ts x' y us × L
 element_moved {ts = ts} {us = us} {y = y} e m = (subst (λ z. IsElement ts z y us) (sym e) m.0, m.1)
 
-pub bounds_moved : {ts us : List Token} {x x' y : Expr} {L : Type 0} → x' ≡ x → IsBounds ts x y us × L → IsBounds ts x' y us × L
+pub bounds_moved : {ts us : List Terminal} {x x' y : Expr} {L : Type 0} → x' ≡ x → IsBounds ts x y us × L → IsBounds ts x' y us × L
 bounds_moved {ts = ts} {us = us} {y = y} e m = (subst (λ z. IsBounds ts z y us) (sym e) m.0, m.1)
 
-pub body_moved : {ts us : List Token} {p : List Stmt} {at : ℕ} {x x' : Expr} {L : Type 0} → x' ≡ x → IsBody ts p at x us × L → IsBody ts p at x' us × L
+pub body_moved : {ts us : List Terminal} {p : List Stmt} {at : ℕ} {x x' : Expr} {L : Type 0} → x' ≡ x → IsBody ts p at x us × L → IsBody ts p at x' us × L
 body_moved {ts = ts} {us = us} {p = p} {at = at} e m = (subst (λ z. IsBody ts p at z us) (sym e) m.0, m.1)
 
 module _ (source : LexedText) (d : ℕ) (l : Lexeme) (rest last : List Lexeme) where

@@ -16,7 +16,7 @@ use Rattle.script_grammar.specs.declared.tree.Function.{Function}
 use Rattle.script_grammar.specs.Grammar.{AreOf}
 use Rattle.script_grammar.specs.Fault.{FaultAfter, IsProgram}
 use Rattle.script_grammar.specs.Text.{tokens_of, Text, SyntaxFault}
-use Rattle.script_text.specs.Reads.{seen, text_end, Judges}
+use Rattle.script_text.specs.Reads.{terminals_of, text_end, Judges}
 use Rattle.script_text.specs.Machine.{functions}
 use Rattle.script_text.specs.Laws.{FaultIsUnique}
 use Rattle.script_text.proofs.OneFault.Judged.{bad_is_fault, none_is_program, never_bad, of_none}
@@ -25,13 +25,13 @@ use Rattle.script_text.proofs.OneFault.Unique.{one_fault}
 
 module _ (source : LexedText) (bytes : List ℕ) (ls : List Lexeme) (stop : LexEnd) (b : source.bytes.now ≡ bytes) (e : source.end ≡ length bytes) (s : source.stop ≡ stop)
     (cut : IsLexed bytes source.version ls stop) where
-  of_source : AreOf source.version (seen source ls)
+  of_source : AreOf source.version (terminals_of source ls)
   of_source = subst (λ z. AreOf source.version (tokens_of z ls)) (sym b) (are_of_cut bytes source.version ls stop cut)
 
   pub ok_is_text : (r : Result Script SyntaxError) → Judges source ls r → IfOk r (λ x. Text bytes x)
   ok_is_text (Err g) j = tt
   ok_is_text (Ok x) j =
-      let p = none_is_program source.version (text_end source) (seen source ls) x.functions of_source j.2 j.1 in
+      let p = none_is_program source.version (text_end source) (terminals_of source ls) x.functions of_source j.2 j.1 in
       record {
         lexemes = ls;
         cut = subst (λ z. IsLexed bytes z ls End) (sym j.0) (subst (λ z. IsLexed bytes source.version ls z) (sym s ∙ p.0) cut);
@@ -41,7 +41,7 @@ module _ (source : LexedText) (bytes : List ℕ) (ls : List Lexeme) (stop : LexE
   pub bad_is_syntax_fault : (r : Result Script SyntaxError) → Judges source ls r → (number at : ℕ) → r ≡ Err (Bad number at) → SyntaxFault bytes number at
   bad_is_syntax_fault r j number at g =
       let j' : Judges source ls (Err (Bad number at)) = subst (Judges source ls) g j in
-      let f = bad_is_fault source.version (text_end source) (seen source ls) number at of_source j' in
+      let f = bad_is_fault source.version (text_end source) (terminals_of source ls) number at of_source j' in
       let f' = subst (λ z. FaultAfter source.version (record { end = z; stop = stop }) [] (tokens_of bytes ls) number at) e
       (subst (λ z. FaultAfter source.version (record { end = source.end; stop = z }) [] (tokens_of bytes ls) number at) s
       (subst (λ z. FaultAfter source.version (text_end source) [] (tokens_of z ls) number at) b f)) in

@@ -15,9 +15,9 @@ use Rattle.script_grammar.specs.declared.tree.SumPart.{SumPart}
 use Rattle.script_grammar.specs.declared.tree.ProductPart.{ProductPart}
 use Rattle.script_grammar.specs.declared.tree.ProductSign.{ProductSign}
 use Rattle.script_grammar.specs.declared.tree.Comparison.{Comparison}
-use Rattle.script_grammar.specs.Grammar.{Token, tok, name_at, number_at, sum_of, product_of, IsSumSign, a_plus, a_minus, IsProductSign, a_times, an_over, a_modulo, IsComparison, an_eq, a_ne, a_lt, a_le, a_gt, a_ge, IsFactor, a_neg, a_number, a_name, an_item, a_group, a_same, an_older, IsTerm, factors, IsFactors, no_factors, one_factor, IsSum, terms, IsTerms, no_terms, one_term, IsExpr, alone, compared}
+use Rattle.script_grammar.specs.Grammar.{Terminal, tok, name_at, number_at, sum_of, product_of, IsSumSign, a_plus, a_minus, IsProductSign, a_times, an_over, a_modulo, IsComparison, an_eq, a_ne, a_lt, a_le, a_gt, a_ge, IsFactor, a_neg, a_number, a_name, an_item, a_group, a_same, an_older, IsTerm, factors, IsFactors, no_factors, one_factor, IsSum, terms, IsTerms, no_terms, one_term, IsExpr, alone, compared}
 use Rattle.script_text.specs.Machine.{Sym, only, factor, index, pair, more_factors, more_terms, comparison, minus_end, sum_then, expr_then, consume, nesting, judge}
-use Rattle.script_text.specs.Reads.{seen, text_end, Leads, Errs, NextIs, NextIsNot, is_unlimited, SignNext, Deepens, IsBracket, ReadsName, ReadsNumber, IsOperands, an_operands}
+use Rattle.script_text.specs.Reads.{terminals_of, text_end, ReadsTo, Errs, NextIs, NextIsNot, is_unlimited, SignNext, Deepens, IsBracket, ReadsName, ReadsNumber, IsOperands, an_operands}
 use Rattle.script_text.proofs.Nesting.Follows.{comparison_step, factors_step, terms_step}
 use Rattle.script_text.proofs.Parsing.Steps.{taken, deep, name_taken, name_long, number_taken, number_big, HasNone, skipped, has_none, seen-next, err_after, Comes, Passed, Opened}
 
@@ -48,15 +48,15 @@ pub expr_alone : (source : LexedText) (d : ℕ) (old rest : List Lexeme) (x : Ex
 expr_alone source d old rest x a k = (alone a.0, λ n s e. a.1 n (comparison ∷ s) e ∙ skipped source n comparison s rest refl (none_has comparison IsComparison source rest k))
 
 pub compares : (source : LexedText) (d : ℕ) (old mid tail : List Lexeme) (x : Expr) (s : Comparison) (l : Lexeme) → d ≤ 64 → Comes IsSum (sum_then []) source d old x mid → mid ≡ l ∷ tail → IsComparison l.word s
-    → Leads (expr_then []) (sum_then []) source d old tail
+    → ReadsTo (expr_then []) (sum_then []) source d old tail
 compares source d old mid tail x c l h a e k = λ n s f.
-    a.1 n (comparison ∷ s) f ∙ ap (λ z. judge (text_end source) n (comparison ∷ s) (seen source z)) e
-    ∙ taken (text_end source) n l.start l.word _ (comparison ∷ s) (sum_then s) (seen source tail) (comparison_plain k) (omega arith) (comparison_step _ s k)
+    a.1 n (comparison ∷ s) f ∙ ap (λ z. judge (text_end source) n (comparison ∷ s) (terminals_of source z)) e
+    ∙ taken (text_end source) n l.start l.word _ (comparison ∷ s) (sum_then s) (terminals_of source tail) (comparison_plain k) (omega arith) (comparison_step _ s k)
 
 pub expr_compared : (source : LexedText) (d : ℕ) (old mid tail rest : List Lexeme) (x y z : Expr) (s : Comparison) → d ≤ 64 → Comes IsSum (sum_then []) source d old x mid
     → (l : Lexeme) × (mid ≡ l ∷ tail) × IsComparison l.word s → Comes IsSum (sum_then []) source d tail y rest → z ≡ expr.Compare x s y → Comes IsExpr (expr_then []) source d old z rest
 expr_compared source d old mid tail rest x y z c h a k b e = (
-  subst (λ w. IsExpr (seen source old) w (seen source rest)) (sym e) (compared (subst (IsSum (seen source old) x) (ap (seen source) k.1) a.0) k.2 b.0),
+  subst (λ w. IsExpr (terminals_of source old) w (terminals_of source rest)) (sym e) (compared (subst (IsSum (terminals_of source old) x) (ap (terminals_of source) k.1) a.0) k.2 b.0),
   λ n s f. compares source d old mid tail x c k.0 h a k.1 k.2 n s f ∙ b.1 n s f,
 )
 
@@ -65,59 +65,59 @@ expr_compared source d old mid tail rest x y z c h a k b e = (
 pub sum_reads : (source : LexedText) (d : ℕ) (old mid rest : List Lexeme) (x y : Expr) (xs : List SumPart) → Comes IsTerm (factor ∷ more_factors ∷ []) source d old x mid → Comes IsTerms (more_terms ∷ []) source d mid xs rest → y ≡ sum_of x xs
     → Comes IsSum (sum_then []) source d old y rest
 sum_reads source d old mid rest x y xs a b e = (
-  subst (λ w. IsSum (seen source old) w (seen source rest)) (sym e) (terms a.0 b.0),
+  subst (λ w. IsSum (terminals_of source old) w (terminals_of source rest)) (sym e) (terms a.0 b.0),
   λ n s f. a.1 n (more_terms ∷ s) f ∙ b.1 n s f,
 )
 
 pub term_reads : (source : LexedText) (d : ℕ) (old mid rest : List Lexeme) (x y : Expr) (xs : List ProductPart) → Comes IsFactor (factor ∷ []) source d old x mid → Comes IsFactors (more_factors ∷ []) source d mid xs rest → y ≡ product_of x xs
     → Comes IsTerm (factor ∷ more_factors ∷ []) source d old y rest
 term_reads source d old mid rest x y xs a b e = (
-  subst (λ w. IsTerm (seen source old) w (seen source rest)) (sym e) (factors a.0 b.0),
+  subst (λ w. IsTerm (terminals_of source old) w (terminals_of source rest)) (sym e) (factors a.0 b.0),
   λ n s f. a.1 n (more_factors ∷ s) f ∙ b.1 n s f,
 )
 
 abbrev pub TermsSoFar : LexedText → ℕ → List Lexeme → List SumPart → List Lexeme → Type 0
 TermsSoFar source d old xs left = record {
-  so_far : (more : List SumPart) (rest : List Token) → IsTerms (seen source left) more rest → IsTerms (seen source old) (xs ++ more) rest;
-  goes : Leads (more_terms ∷ []) (more_terms ∷ []) source d old left;
+  so_far : (more : List SumPart) (rest : List Terminal) → IsTerms (terminals_of source left) more rest → IsTerms (terminals_of source old) (xs ++ more) rest;
+  goes : ReadsTo (more_terms ∷ []) (more_terms ∷ []) source d old left;
 }
 
 abbrev pub FactorsSoFar : LexedText → ℕ → List Lexeme → List ProductPart → List Lexeme → Type 0
 FactorsSoFar source d old xs left = record {
-  so_far : (more : List ProductPart) (rest : List Token) → IsFactors (seen source left) more rest → IsFactors (seen source old) (xs ++ more) rest;
-  goes : Leads (more_factors ∷ []) (more_factors ∷ []) source d old left;
+  so_far : (more : List ProductPart) (rest : List Terminal) → IsFactors (terminals_of source left) more rest → IsFactors (terminals_of source old) (xs ++ more) rest;
+  goes : ReadsTo (more_factors ∷ []) (more_factors ∷ []) source d old left;
 }
 
 pub terms_end : (source : LexedText) (d : ℕ) (old left : List Lexeme) (xs : List SumPart) → TermsSoFar source d old xs left → SignNext more_terms IsSumSign left None → Comes IsTerms (more_terms ∷ []) source d old xs left
 terms_end source d old left xs i k = (
-  subst (λ z. IsTerms (seen source old) z (seen source left)) (append-nil xs) (i.so_far [] (seen source left) no_terms),
+  subst (λ z. IsTerms (terminals_of source old) z (terminals_of source left)) (append-nil xs) (i.so_far [] (terminals_of source left) no_terms),
   λ n s f. i.goes n s f ∙ skipped source n more_terms s left refl (none_has more_terms IsSumSign source left k),
 )
 
 pub factors_end : (source : LexedText) (d : ℕ) (old left : List Lexeme) (xs : List ProductPart) → FactorsSoFar source d old xs left → SignNext more_factors IsProductSign left None → Comes IsFactors (more_factors ∷ []) source d old xs left
 factors_end source d old left xs i k = (
-  subst (λ z. IsFactors (seen source old) z (seen source left)) (append-nil xs) (i.so_far [] (seen source left) no_factors),
+  subst (λ z. IsFactors (terminals_of source old) z (terminals_of source left)) (append-nil xs) (i.so_far [] (terminals_of source left) no_factors),
   λ n s f. i.goes n s f ∙ skipped source n more_factors s left refl (none_has more_factors IsProductSign source left k),
 )
 
-pub terms_enter : (source : LexedText) (d : ℕ) (old left inner : List Lexeme) (g : Bool) → d ≤ 64 → Leads (more_terms ∷ []) (more_terms ∷ []) source d old left → (l : Lexeme) × (left ≡ l ∷ inner) × IsSumSign l.word g
-    → Leads (more_terms ∷ []) (factor ∷ more_factors ∷ more_terms ∷ []) source d old inner
+pub terms_enter : (source : LexedText) (d : ℕ) (old left inner : List Lexeme) (g : Bool) → d ≤ 64 → ReadsTo (more_terms ∷ []) (more_terms ∷ []) source d old left → (l : Lexeme) × (left ≡ l ∷ inner) × IsSumSign l.word g
+    → ReadsTo (more_terms ∷ []) (factor ∷ more_factors ∷ more_terms ∷ []) source d old inner
 terms_enter source d old left inner g h goes k = λ n s f.
-    goes n s f ∙ ap (λ z. judge (text_end source) n (more_terms ∷ s) (seen source z)) k.1
-    ∙ taken (text_end source) n k.0.start k.0.word _ (more_terms ∷ s) (sum_then s) (seen source inner) (sum_plain k.2) (omega arith) (terms_step _ s k.2)
+    goes n s f ∙ ap (λ z. judge (text_end source) n (more_terms ∷ s) (terminals_of source z)) k.1
+    ∙ taken (text_end source) n k.0.start k.0.word _ (more_terms ∷ s) (sum_then s) (terminals_of source inner) (sum_plain k.2) (omega arith) (terms_step _ s k.2)
 
-pub factors_enter : (source : LexedText) (d : ℕ) (old left inner : List Lexeme) (g : ProductSign) → d ≤ 64 → Leads (more_factors ∷ []) (more_factors ∷ []) source d old left → (l : Lexeme) × (left ≡ l ∷ inner) × IsProductSign l.word g
-    → Leads (more_factors ∷ []) (factor ∷ more_factors ∷ []) source d old inner
+pub factors_enter : (source : LexedText) (d : ℕ) (old left inner : List Lexeme) (g : ProductSign) → d ≤ 64 → ReadsTo (more_factors ∷ []) (more_factors ∷ []) source d old left → (l : Lexeme) × (left ≡ l ∷ inner) × IsProductSign l.word g
+    → ReadsTo (more_factors ∷ []) (factor ∷ more_factors ∷ []) source d old inner
 factors_enter source d old left inner g h goes k = λ n s f.
-    goes n s f ∙ ap (λ z. judge (text_end source) n (more_factors ∷ s) (seen source z)) k.1
-    ∙ taken (text_end source) n k.0.start k.0.word _ (more_factors ∷ s) (factor ∷ more_factors ∷ s) (seen source inner) (product_plain k.2) (omega arith) (factors_step _ s k.2)
+    goes n s f ∙ ap (λ z. judge (text_end source) n (more_factors ∷ s) (terminals_of source z)) k.1
+    ∙ taken (text_end source) n k.0.start k.0.word _ (more_factors ∷ s) (factor ∷ more_factors ∷ s) (terminals_of source inner) (product_plain k.2) (omega arith) (factors_step _ s k.2)
 
 pub one_more_term : (source : LexedText) (d : ℕ) (old left inner rest : List Lexeme) (xs ys : List SumPart) (g : Bool) (x : Expr) → ys ≡ xs ++ record { minus = g; operand = x } ∷ [] → d ≤ 64
     → TermsSoFar source d old xs left → (l : Lexeme) × (left ≡ l ∷ inner) × IsSumSign l.word g → Comes IsTerm (factor ∷ more_factors ∷ []) source d inner x rest → TermsSoFar source d old ys rest
 one_more_term source d old left inner rest xs ys g x p h i k a = record {
   so_far = λ more to m.
-      let one : IsTerms (seen source left) (record { minus = g; operand = x } ∷ more) to = subst (λ z. IsTerms z (record { minus = g; operand = x } ∷ more) to) (sym (ap (seen source) k.1)) (one_term k.2 a.0 m) in
-      subst (λ z. IsTerms (seen source old) z to) (sym (ap (λ z. z ++ more) p ∙ append_assoc xs (record { minus = g; operand = x } ∷ []) more)) (i.so_far (record { minus = g; operand = x } ∷ more) to one);
+      let one : IsTerms (terminals_of source left) (record { minus = g; operand = x } ∷ more) to = subst (λ z. IsTerms z (record { minus = g; operand = x } ∷ more) to) (sym (ap (terminals_of source) k.1)) (one_term k.2 a.0 m) in
+      subst (λ z. IsTerms (terminals_of source old) z to) (sym (ap (λ z. z ++ more) p ∙ append_assoc xs (record { minus = g; operand = x } ∷ []) more)) (i.so_far (record { minus = g; operand = x } ∷ more) to one);
   goes = λ n s f. terms_enter source d old left inner g h i.goes k n s f ∙ a.1 n (more_terms ∷ s) f;
 }
 
@@ -125,8 +125,8 @@ pub one_more_factor : (source : LexedText) (d : ℕ) (old left inner rest : List
     → FactorsSoFar source d old xs left → (l : Lexeme) × (left ≡ l ∷ inner) × IsProductSign l.word g → Comes IsFactor (factor ∷ []) source d inner x rest → FactorsSoFar source d old ys rest
 one_more_factor source d old left inner rest xs ys g x p h i k a = record {
   so_far = λ more to m.
-      let one : IsFactors (seen source left) (record { sign = g; operand = x } ∷ more) to = subst (λ z. IsFactors z (record { sign = g; operand = x } ∷ more) to) (sym (ap (seen source) k.1)) (one_factor k.2 a.0 m) in
-      subst (λ z. IsFactors (seen source old) z to) (sym (ap (λ z. z ++ more) p ∙ append_assoc xs (record { sign = g; operand = x } ∷ []) more)) (i.so_far (record { sign = g; operand = x } ∷ more) to one);
+      let one : IsFactors (terminals_of source left) (record { sign = g; operand = x } ∷ more) to = subst (λ z. IsFactors z (record { sign = g; operand = x } ∷ more) to) (sym (ap (terminals_of source) k.1)) (one_factor k.2 a.0 m) in
+      subst (λ z. IsFactors (terminals_of source old) z to) (sym (ap (λ z. z ++ more) p ∙ append_assoc xs (record { sign = g; operand = x } ∷ []) more)) (i.so_far (record { sign = g; operand = x } ∷ more) to one);
   goes = λ n s f. factors_enter source d old left inner g h i.goes k n s f ∙ a.1 n (more_factors ∷ s) f;
 }
 
@@ -139,9 +139,9 @@ first_is l old rest e f = (l, e, f, refl)
 pub factor_number : (source : LexedText) (d : ℕ) (rest : List Lexeme) (l : Lexeme) (x : Number) → l.word ≡ word.Number → d ≤ 64 → ReadsNumber source l (Ok x) → Comes IsFactor (factor ∷ []) source d (l ∷ rest) (expr.Number x) rest
 factor_number source d rest l x e h k =
     let t = seen-next word.Number source l.start (l ∷ rest) rest (first_is l (l ∷ rest) rest refl e) in (
-      subst (λ z. IsFactor (seen source (l ∷ rest)) (expr.Number z) (seen source rest)) (sym k.0)
-          (subst (λ q. IsFactor q (expr.Number (number_at l.start (text_of source.bytes.now l))) (seen source rest)) (sym t) a_number),
-      λ n s f. ap (judge (text_end source) n (factor ∷ s)) t ∙ number_taken (text_end source) n l.start (text_of source.bytes.now l) (factor ∷ s) s (seen source rest) k.1 (omega arith) refl,
+      subst (λ z. IsFactor (terminals_of source (l ∷ rest)) (expr.Number z) (terminals_of source rest)) (sym k.0)
+          (subst (λ q. IsFactor q (expr.Number (number_at l.start (text_of source.bytes.now l))) (terminals_of source rest)) (sym t) a_number),
+      λ n s f. ap (judge (text_end source) n (factor ∷ s)) t ∙ number_taken (text_end source) n l.start (text_of source.bytes.now l) (factor ∷ s) s (terminals_of source rest) k.1 (omega arith) refl,
     )
 
 pub factor_number_err : (source : LexedText) (d : ℕ) (rest : List Lexeme) (l : Lexeme) (e : SyntaxError) → l.word ≡ word.Number → ReadsNumber source l (Err e) → Errs (factor ∷ []) source d (l ∷ rest) e
@@ -149,19 +149,19 @@ factor_number_err source d rest l Memory e k = tt
 factor_number_err source d rest l (Bad number at) e k = λ n s f.
     let t = seen-next word.Number source l.start (l ∷ rest) rest (first_is l (l ∷ rest) rest refl e) in
     let fault : ◌≡◌ {A = Option (ℕ × ℕ)} (Some (3, l.start)) (Some (number, at)) = cc in
-    ap (judge (text_end source) n (factor ∷ s)) t ∙ number_big (text_end source) n l.start (text_of source.bytes.now l) (factor ∷ s) s (seen source rest) k.0 refl ∙ fault
+    ap (judge (text_end source) n (factor ∷ s)) t ∙ number_big (text_end source) n l.start (text_of source.bytes.now l) (factor ∷ s) s (terminals_of source rest) k.0 refl ∙ fault
 
 -- the machine after a factor's name
-pub names : (source : LexedText) (d : ℕ) (rest : List Lexeme) (l : Lexeme) (x : Name) → l.word ≡ word.Name → d ≤ 64 → ReadsName source l (Ok x) → Leads (factor ∷ []) (index ∷ []) source d (l ∷ rest) rest
+pub names : (source : LexedText) (d : ℕ) (rest : List Lexeme) (l : Lexeme) (x : Name) → l.word ≡ word.Name → d ≤ 64 → ReadsName source l (Ok x) → ReadsTo (factor ∷ []) (index ∷ []) source d (l ∷ rest) rest
 names source d rest l x e h k = λ n s f.
     ap (judge (text_end source) n (factor ∷ s)) (seen-next word.Name source l.start (l ∷ rest) rest (first_is l (l ∷ rest) rest refl e))
-    ∙ name_taken (text_end source) n l.start (text_of source.bytes.now l) (factor ∷ s) (index ∷ s) (seen source rest) k.1 (omega arith) refl
+    ∙ name_taken (text_end source) n l.start (text_of source.bytes.now l) (factor ∷ s) (index ∷ s) (terminals_of source rest) k.1 (omega arith) refl
 
 pub factor_name : (source : LexedText) (d : ℕ) (rest : List Lexeme) (l : Lexeme) (x : Name) → l.word ≡ word.Name → d ≤ 64 → ReadsName source l (Ok x) → NextIsNot word.OpenItem rest → Comes IsFactor (factor ∷ []) source d (l ∷ rest) (expr.Var x) rest
 factor_name source d rest l x e h k g =
     let t = seen-next word.Name source l.start (l ∷ rest) rest (first_is l (l ∷ rest) rest refl e) in (
-      subst (λ z. IsFactor (seen source (l ∷ rest)) (expr.Var z) (seen source rest)) (sym k.0)
-          (subst (λ q. IsFactor q (expr.Var (name_at l.start (text_of source.bytes.now l))) (seen source rest)) (sym t) a_name),
+      subst (λ z. IsFactor (terminals_of source (l ∷ rest)) (expr.Var z) (terminals_of source rest)) (sym k.0)
+          (subst (λ q. IsFactor q (expr.Var (name_at l.start (text_of source.bytes.now l))) (terminals_of source rest)) (sym t) a_name),
       λ n s f. names source d rest l x e h k n s f ∙ skipped source n index s rest refl (has_none index word.OpenItem _ rest source.bytes.now refl g),
     )
 
@@ -170,14 +170,14 @@ factor_name_err source d rest l Memory e k = tt
 factor_name_err source d rest l (Bad number at) e k = λ n s f.
     let t = seen-next word.Name source l.start (l ∷ rest) rest (first_is l (l ∷ rest) rest refl e) in
     let fault : ◌≡◌ {A = Option (ℕ × ℕ)} (Some (4, l.start)) (Some (number, at)) = cc in
-    ap (judge (text_end source) n (factor ∷ s)) t ∙ name_long (text_end source) n l.start (text_of source.bytes.now l) (factor ∷ s) (index ∷ s) (seen source rest) k.0 refl ∙ fault
+    ap (judge (text_end source) n (factor ∷ s)) t ∙ name_long (text_end source) n l.start (text_of source.bytes.now l) (factor ∷ s) (index ∷ s) (terminals_of source rest) k.0 refl ∙ fault
 
 -- the machine after the bracket of an item
 pub item_enters : (source : LexedText) (d at : ℕ) (rest tail : List Lexeme) (l : Lexeme) (x : Name) → l.word ≡ word.Name → d < 64 → ReadsName source l (Ok x) → NextIs word.OpenItem at rest tail
-    → Leads (factor ∷ []) (expr_then (only word.CloseItem ∷ [])) source d (l ∷ rest) tail
+    → ReadsTo (factor ∷ []) (expr_then (only word.CloseItem ∷ [])) source d (l ∷ rest) tail
 item_enters source d at rest tail l x e h k g = λ n s f.
     names source d rest l x e (omega arith) k n s f ∙ ap (judge (text_end source) n (index ∷ s)) (seen-next word.OpenItem source at rest tail g)
-    ∙ taken (text_end source) n at word.OpenItem (text_of source.bytes.now g.0) (index ∷ s) (expr_then (only word.CloseItem ∷ s)) (seen source tail) refl (omega arith) refl
+    ∙ taken (text_end source) n at word.OpenItem (text_of source.bytes.now g.0) (index ∷ s) (expr_then (only word.CloseItem ∷ s)) (terminals_of source tail) refl (omega arith) refl
 
 pub item_deep : (source : LexedText) (d at : ℕ) (rest tail : List Lexeme) (l : Lexeme) (x : Name) (e : SyntaxError) → l.word ≡ word.Name → d ≤ 64 → ReadsName source l (Ok x) → NextIs word.OpenItem at rest tail → Deepens d at (Err e)
     → Errs (factor ∷ []) source d (l ∷ rest) e
@@ -185,7 +185,7 @@ item_deep source d at rest tail l x Memory e h k g q = tt
 item_deep source d at rest tail l x (Bad number place) e h k g q = λ n s f.
     let fault : ◌≡◌ {A = Option (ℕ × ℕ)} (Some (5, at)) (Some (number, place)) = cc in
     names source d rest l x e h k n s f ∙ ap (judge (text_end source) n (index ∷ s)) (seen-next word.OpenItem source at rest tail g)
-    ∙ deep (text_end source) n at word.OpenItem (text_of source.bytes.now g.0) (index ∷ s) (expr_then (only word.CloseItem ∷ s)) (seen source tail) refl (omega arith) refl ∙ fault
+    ∙ deep (text_end source) n at word.OpenItem (text_of source.bytes.now g.0) (index ∷ s) (expr_then (only word.CloseItem ∷ s)) (terminals_of source tail) refl (omega arith) refl ∙ fault
 
 pub factor_item : (source : LexedText) (d inside at : ℕ) (rest tail mid last : List Lexeme) (l : Lexeme) (x : Name) (y z : Expr) → l.word ≡ word.Name → Deepens d at (Ok inside) → ReadsName source l (Ok x) → NextIs word.OpenItem at rest tail
     → Comes IsExpr (expr_then []) source inside tail y mid → Passed word.CloseItem source d mid last → z ≡ expr.Item x y → Comes IsFactor (factor ∷ []) source d (l ∷ rest) z last
@@ -193,28 +193,28 @@ factor_item source d inside at rest tail mid last l x y z e h k g a b p =
     let t = seen-next word.Name source l.start (l ∷ rest) rest (first_is l (l ∷ rest) rest refl e) in
     let u = seen-next word.OpenItem source at rest tail g in
     let v = seen-next word.CloseItem source b.0.0 mid last b.0.1 in
-    let d' : IsFactor (tok l.start word.Name (text_of source.bytes.now l) ∷ tok at word.OpenItem (text_of source.bytes.now g.0) ∷ seen source tail) (expr.Item (name_at l.start (text_of source.bytes.now l)) y) (seen source last) =
-    an_item (subst (IsExpr (seen source tail) y) v a.0) in
-    let there : seen source (l ∷ rest) ≡ tok l.start word.Name (text_of source.bytes.now l) ∷ tok at word.OpenItem (text_of source.bytes.now g.0) ∷ seen source tail = t ∙ ap (λ q. tok l.start word.Name (text_of source.bytes.now l) ∷ q) u in (
-      subst (λ q. IsFactor (seen source (l ∷ rest)) q (seen source last)) (sym (p ∙ ap (λ q. expr.Item q y) k.0)) (subst (λ q. IsFactor q (expr.Item (name_at l.start (text_of source.bytes.now l)) y) (seen source last)) (sym there) d'),
+    let d' : IsFactor (tok l.start word.Name (text_of source.bytes.now l) ∷ tok at word.OpenItem (text_of source.bytes.now g.0) ∷ terminals_of source tail) (expr.Item (name_at l.start (text_of source.bytes.now l)) y) (terminals_of source last) =
+    an_item (subst (IsExpr (terminals_of source tail) y) v a.0) in
+    let there : terminals_of source (l ∷ rest) ≡ tok l.start word.Name (text_of source.bytes.now l) ∷ tok at word.OpenItem (text_of source.bytes.now g.0) ∷ terminals_of source tail = t ∙ ap (λ q. tok l.start word.Name (text_of source.bytes.now l) ∷ q) u in (
+      subst (λ q. IsFactor (terminals_of source (l ∷ rest)) q (terminals_of source last)) (sym (p ∙ ap (λ q. expr.Item q y) k.0)) (subst (λ q. IsFactor q (expr.Item (name_at l.start (text_of source.bytes.now l)) y) (terminals_of source last)) (sym there) d'),
       λ n s f. item_enters source d at rest tail l x e h.1 k g n s f ∙ a.1 n (only word.CloseItem ∷ s) (omega (arith, h.0)) ∙ b.1 n s f,
     )
 
 -- unary minus
 
-pub minus_enters : (source : LexedText) (d : ℕ) (rest : List Lexeme) (l : Lexeme) → l.word ≡ word.Minus → d < 64 → Leads (factor ∷ []) (factor ∷ minus_end ∷ []) source d (l ∷ rest) rest
+pub minus_enters : (source : LexedText) (d : ℕ) (rest : List Lexeme) (l : Lexeme) → l.word ≡ word.Minus → d < 64 → ReadsTo (factor ∷ []) (factor ∷ minus_end ∷ []) source d (l ∷ rest) rest
 minus_enters source d rest l e h = λ n s f.
     ap (judge (text_end source) n (factor ∷ s)) (seen-next word.Minus source l.start (l ∷ rest) rest (first_is l (l ∷ rest) rest refl e))
-    ∙ taken (text_end source) n l.start word.Minus (text_of source.bytes.now l) (factor ∷ s) (factor ∷ minus_end ∷ s) (seen source rest) refl (omega arith) refl
+    ∙ taken (text_end source) n l.start word.Minus (text_of source.bytes.now l) (factor ∷ s) (factor ∷ minus_end ∷ s) (terminals_of source rest) refl (omega arith) refl
 
 pub minus_deep : (source : LexedText) (d : ℕ) (rest : List Lexeme) (l : Lexeme) (e : SyntaxError) → l.word ≡ word.Minus → Deepens d l.start (Err e) → Errs (factor ∷ []) source d (l ∷ rest) e
 minus_deep source d rest l Memory e q = tt
 minus_deep source d rest l (Bad number at) e q = λ n s f.
     let fault : ◌≡◌ {A = Option (ℕ × ℕ)} (Some (5, l.start)) (Some (number, at)) = cc in
     ap (judge (text_end source) n (factor ∷ s)) (seen-next word.Minus source l.start (l ∷ rest) rest (first_is l (l ∷ rest) rest refl e))
-    ∙ deep (text_end source) n l.start word.Minus (text_of source.bytes.now l) (factor ∷ s) (factor ∷ minus_end ∷ s) (seen source rest) refl (omega arith) refl ∙ fault
+    ∙ deep (text_end source) n l.start word.Minus (text_of source.bytes.now l) (factor ∷ s) (factor ∷ minus_end ∷ s) (terminals_of source rest) refl (omega arith) refl ∙ fault
 
-skip_minus : (source : LexedText) (n : ℕ) (s : List Sym) (ls : List Lexeme) → judge (text_end source) n (minus_end ∷ s) (seen source ls) ≡ judge (text_end source) n s (seen source ls)
+skip_minus : (source : LexedText) (n : ℕ) (s : List Sym) (ls : List Lexeme) → judge (text_end source) n (minus_end ∷ s) (terminals_of source ls) ≡ judge (text_end source) n s (terminals_of source ls)
 skip_minus source n s ls = skipped source n minus_end s ls refl (none ls)
   where
     none : (ls : List Lexeme) → HasNone minus_end ls source.bytes.now
@@ -225,73 +225,73 @@ pub factor_minus : (source : LexedText) (d inside : ℕ) (rest last : List Lexem
     → Comes IsFactor (factor ∷ []) source d (l ∷ rest) z last
 factor_minus source d inside rest last l x z e h a p =
     let t = seen-next word.Minus source l.start (l ∷ rest) rest (first_is l (l ∷ rest) rest refl e) in (
-      subst (λ q. IsFactor (seen source (l ∷ rest)) q (seen source last)) (sym p) (subst (λ q. IsFactor q (expr.Neg l.start x) (seen source last)) (sym t) (a_neg a.0)),
+      subst (λ q. IsFactor (terminals_of source (l ∷ rest)) q (terminals_of source last)) (sym p) (subst (λ q. IsFactor q (expr.Neg l.start x) (terminals_of source last)) (sym t) (a_neg a.0)),
       λ n s f. minus_enters source d rest l e h.1 n s f ∙ a.1 n (minus_end ∷ s) (omega (arith, h.0)) ∙ skip_minus source n s last,
     )
 
 -- parentheses
 
-pub group_enters : (source : LexedText) (d : ℕ) (rest : List Lexeme) (l : Lexeme) → l.word ≡ word.Open → d < 64 → Leads (factor ∷ []) (expr_then (only word.Close ∷ [])) source d (l ∷ rest) rest
+pub group_enters : (source : LexedText) (d : ℕ) (rest : List Lexeme) (l : Lexeme) → l.word ≡ word.Open → d < 64 → ReadsTo (factor ∷ []) (expr_then (only word.Close ∷ [])) source d (l ∷ rest) rest
 group_enters source d rest l e h = λ n s f.
     ap (judge (text_end source) n (factor ∷ s)) (seen-next word.Open source l.start (l ∷ rest) rest (first_is l (l ∷ rest) rest refl e))
-    ∙ taken (text_end source) n l.start word.Open (text_of source.bytes.now l) (factor ∷ s) (expr_then (only word.Close ∷ s)) (seen source rest) refl (omega arith) refl
+    ∙ taken (text_end source) n l.start word.Open (text_of source.bytes.now l) (factor ∷ s) (expr_then (only word.Close ∷ s)) (terminals_of source rest) refl (omega arith) refl
 
 pub group_deep : (source : LexedText) (d : ℕ) (rest : List Lexeme) (l : Lexeme) (e : SyntaxError) → l.word ≡ word.Open → Deepens d l.start (Err e) → Errs (factor ∷ []) source d (l ∷ rest) e
 group_deep source d rest l Memory e q = tt
 group_deep source d rest l (Bad number at) e q = λ n s f.
     let fault : ◌≡◌ {A = Option (ℕ × ℕ)} (Some (5, l.start)) (Some (number, at)) = cc in
     ap (judge (text_end source) n (factor ∷ s)) (seen-next word.Open source l.start (l ∷ rest) rest (first_is l (l ∷ rest) rest refl e))
-    ∙ deep (text_end source) n l.start word.Open (text_of source.bytes.now l) (factor ∷ s) (expr_then (only word.Close ∷ s)) (seen source rest) refl (omega arith) refl ∙ fault
+    ∙ deep (text_end source) n l.start word.Open (text_of source.bytes.now l) (factor ∷ s) (expr_then (only word.Close ∷ s)) (terminals_of source rest) refl (omega arith) refl ∙ fault
 
 pub factor_group : (source : LexedText) (d inside : ℕ) (rest mid last : List Lexeme) (l : Lexeme) (x : Expr) → l.word ≡ word.Open → Deepens d l.start (Ok inside) → Comes IsExpr (expr_then []) source inside rest x mid → Passed word.Close source d mid last
     → Comes IsFactor (factor ∷ []) source d (l ∷ rest) x last
 factor_group source d inside rest mid last l x e h a b =
     let t = seen-next word.Open source l.start (l ∷ rest) rest (first_is l (l ∷ rest) rest refl e) in
     let v = seen-next word.Close source b.0.0 mid last b.0.1 in (
-      subst (λ q. IsFactor q x (seen source last)) (sym t) (a_group (subst (IsExpr (seen source rest) x) v a.0)),
+      subst (λ q. IsFactor q x (terminals_of source last)) (sym t) (a_group (subst (IsExpr (terminals_of source rest) x) v a.0)),
       λ n s f. group_enters source d rest l e h.1 n s f ∙ a.1 n (only word.Close ∷ s) (omega (arith, h.0)) ∙ b.1 n s f,
     )
 
 -- same and older
 
 pub word_enters : (source : LexedText) (d : ℕ) (rest : List Lexeme) (l : Lexeme) (w : Word) → l.word ≡ w → is_unlimited w ≡ true → ((text : List ℕ) (s : List Sym) → consume w text (factor ∷ s) ≡ Some (pair ∷ s)) → d ≤ 64
-    → Leads (factor ∷ []) (pair ∷ []) source d (l ∷ rest) rest
+    → ReadsTo (factor ∷ []) (pair ∷ []) source d (l ∷ rest) rest
 word_enters source d rest l w e p g h = λ n s f.
     ap (judge (text_end source) n (factor ∷ s)) (seen-next w source l.start (l ∷ rest) rest (first_is l (l ∷ rest) rest refl e))
-    ∙ taken (text_end source) n l.start w _ (factor ∷ s) (pair ∷ s) (seen source rest) p (omega arith) (g _ s)
+    ∙ taken (text_end source) n l.start w _ (factor ∷ s) (pair ∷ s) (terminals_of source rest) p (omega arith) (g _ s)
 
-pub factor_same : (source : LexedText) (d : ℕ) (rest last : List Lexeme) (l : Lexeme) (x y : Expr) → l.word ≡ word.Same → d ≤ 64 → IsOperands (seen source rest) x y (seen source last) → Leads (pair ∷ []) [] source d rest last
+pub factor_same : (source : LexedText) (d : ℕ) (rest last : List Lexeme) (l : Lexeme) (x y : Expr) → l.word ≡ word.Same → d ≤ 64 → IsOperands (terminals_of source rest) x y (terminals_of source last) → ReadsTo (pair ∷ []) [] source d rest last
     → Comes IsFactor (factor ∷ []) source d (l ∷ rest) (expr.Same l.start x y) last
 factor_same source d rest last l x y e h a b = (
-  subst (λ q. IsFactor q (expr.Same l.start x y) (seen source last)) (sym (seen-next word.Same source l.start (l ∷ rest) rest (first_is l (l ∷ rest) rest refl e))) (made a),
+  subst (λ q. IsFactor q (expr.Same l.start x y) (terminals_of source last)) (sym (seen-next word.Same source l.start (l ∷ rest) rest (first_is l (l ∷ rest) rest refl e))) (made a),
   λ n s f. word_enters source d rest l word.Same e refl (λ t s. refl) h n s f ∙ b n s f,
 )
   where
-    made : {a : ℕ} {t : List ℕ} {ts to : List Token} {x y : Expr} → IsOperands ts x y to → IsFactor (tok a word.Same t ∷ ts) (expr.Same a x y) to
+    made : {a : ℕ} {t : List ℕ} {ts to : List Terminal} {x y : Expr} → IsOperands ts x y to → IsFactor (tok a word.Same t ∷ ts) (expr.Same a x y) to
     made (an_operands p q) = a_same p q
 
-pub factor_older : (source : LexedText) (d : ℕ) (rest last : List Lexeme) (l : Lexeme) (x y : Expr) → l.word ≡ word.Older → d ≤ 64 → IsOperands (seen source rest) x y (seen source last) → Leads (pair ∷ []) [] source d rest last
+pub factor_older : (source : LexedText) (d : ℕ) (rest last : List Lexeme) (l : Lexeme) (x y : Expr) → l.word ≡ word.Older → d ≤ 64 → IsOperands (terminals_of source rest) x y (terminals_of source last) → ReadsTo (pair ∷ []) [] source d rest last
     → Comes IsFactor (factor ∷ []) source d (l ∷ rest) (expr.Older l.start x y) last
 factor_older source d rest last l x y e h a b = (
-  subst (λ q. IsFactor q (expr.Older l.start x y) (seen source last)) (sym (seen-next word.Older source l.start (l ∷ rest) rest (first_is l (l ∷ rest) rest refl e))) (made a),
+  subst (λ q. IsFactor q (expr.Older l.start x y) (terminals_of source last)) (sym (seen-next word.Older source l.start (l ∷ rest) rest (first_is l (l ∷ rest) rest refl e))) (made a),
   λ n s f. word_enters source d rest l word.Older e refl (λ t s. refl) h n s f ∙ b n s f,
 )
   where
-    made : {a : ℕ} {t : List ℕ} {ts to : List Token} {x y : Expr} → IsOperands ts x y to → IsFactor (tok a word.Older t ∷ ts) (expr.Older a x y) to
+    made : {a : ℕ} {t : List ℕ} {ts to : List Terminal} {x y : Expr} → IsOperands ts x y to → IsFactor (tok a word.Older t ∷ ts) (expr.Older a x y) to
     made (an_operands p q) = an_older p q
 
 pub pair_bracket : IsBracket pair word.Open (expr_then (only word.Comma ∷ expr_then (only word.Close ∷ [])))
 pair_bracket = record { needed = refl; only_rule = refl; one_level = λ s. refl }
 
 pub operands_read : (source : LexedText) (d : ℕ) (old t1 t2 t3 t4 last : List Lexeme) (x y : Expr) → Opened word.Open source d old t1 → Comes IsExpr (expr_then []) source (d + 1) t1 x t2 → Passed word.Comma source (d + 1) t2 t3
-    → Comes IsExpr (expr_then []) source (d + 1) t3 y t4 → Passed word.Close source d t4 last → (x' y' : Expr) → x' ≡ x → y' ≡ y → IsOperands (seen source old) x' y' (seen source last) × Leads (pair ∷ []) [] source d old last
+    → Comes IsExpr (expr_then []) source (d + 1) t3 y t4 → Passed word.Close source d t4 last → (x' y' : Expr) → x' ≡ x → y' ≡ y → IsOperands (terminals_of source old) x' y' (terminals_of source last) × ReadsTo (pair ∷ []) [] source d old last
 operands_read source d old t1 t2 t3 t4 last x y o a c b k x' y' p q =
     let t = seen-next word.Open source o.0.0 old t1 o.0.1 in
     let u = seen-next word.Comma source c.0.0 t2 t3 c.0.1 in
     let v = seen-next word.Close source k.0.0 t4 last k.0.1 in
-    let made : IsOperands (seen source old) x y (seen source last) =
-    subst (λ z. IsOperands z x y (seen source last)) (sym t) (an_operands (subst (IsExpr (seen source t1) x) u a.0) (subst (IsExpr (seen source t3) y) v b.0)) in (
-      subst (λ z. IsOperands (seen source old) z y' (seen source last)) (sym p) (subst (λ z. IsOperands (seen source old) x z (seen source last)) (sym q) made),
+    let made : IsOperands (terminals_of source old) x y (terminals_of source last) =
+    subst (λ z. IsOperands z x y (terminals_of source last)) (sym t) (an_operands (subst (IsExpr (terminals_of source t1) x) u a.0) (subst (IsExpr (terminals_of source t3) y) v b.0)) in (
+      subst (λ z. IsOperands (terminals_of source old) z y' (terminals_of source last)) (sym p) (subst (λ z. IsOperands (terminals_of source old) x z (terminals_of source last)) (sym q) made),
       λ n s f. let g : suc (nesting s) ≡ d + 1 = omega (arith, f) in
           o.2 pair _ pair_bracket n s f ∙ a.1 n (only word.Comma ∷ expr_then (only word.Close ∷ s)) g ∙ c.1 n (expr_then (only word.Close ∷ s)) g ∙ b.1 n (only word.Close ∷ s) g ∙ k.1 n s f,
     )
@@ -299,7 +299,7 @@ operands_read source d old t1 t2 t3 t4 last x y o a c b k x' y' p q =
 -- What was read is shorter
 
 mutual
-  pub factor_shorter : {ts rest : List Token} {x : Expr} → IsFactor ts x rest → length rest < length ts
+  pub factor_shorter : {ts rest : List Terminal} {x : Expr} → IsFactor ts x rest → length rest < length ts
   factor_shorter (a_neg d) = omega (arith, factor_shorter d)
   factor_shorter a_number = omega arith
   factor_shorter a_name = omega arith
@@ -308,34 +308,34 @@ mutual
   factor_shorter (a_same d e) = omega (arith, expr_shorter d, expr_shorter e)
   factor_shorter (an_older d e) = omega (arith, expr_shorter d, expr_shorter e)
 
-  pub term_shorter : {ts rest : List Token} {x : Expr} → IsTerm ts x rest → length rest < length ts
+  pub term_shorter : {ts rest : List Terminal} {x : Expr} → IsTerm ts x rest → length rest < length ts
   term_shorter (factors d e) = omega (arith, factor_shorter d, factors_shorter e)
 
-  factors_shorter : {ts rest : List Token} {xs : List ProductPart} → IsFactors ts xs rest → length rest ≤ length ts
+  factors_shorter : {ts rest : List Terminal} {xs : List ProductPart} → IsFactors ts xs rest → length rest ≤ length ts
   factors_shorter no_factors = omega arith
   factors_shorter (one_factor k d e) = omega (arith, factor_shorter d, factors_shorter e)
 
-  sum_shorter : {ts rest : List Token} {x : Expr} → IsSum ts x rest → length rest < length ts
+  sum_shorter : {ts rest : List Terminal} {x : Expr} → IsSum ts x rest → length rest < length ts
   sum_shorter (terms d e) = omega (arith, term_shorter d, terms_shorter e)
 
-  terms_shorter : {ts rest : List Token} {xs : List SumPart} → IsTerms ts xs rest → length rest ≤ length ts
+  terms_shorter : {ts rest : List Terminal} {xs : List SumPart} → IsTerms ts xs rest → length rest ≤ length ts
   terms_shorter no_terms = omega arith
   terms_shorter (one_term k d e) = omega (arith, term_shorter d, terms_shorter e)
 
-  pub expr_shorter : {ts rest : List Token} {x : Expr} → IsExpr ts x rest → length rest < length ts
+  pub expr_shorter : {ts rest : List Terminal} {x : Expr} → IsExpr ts x rest → length rest < length ts
   expr_shorter (alone d) = sum_shorter d
   expr_shorter (compared d k e) = omega (arith, sum_shorter d, sum_shorter e)
 
-pub length-seen : (source : LexedText) (ls : List Lexeme) → length (seen source ls) ≡ length ls
+pub length-seen : (source : LexedText) (ls : List Lexeme) → length (terminals_of source ls) ≡ length ls
 length-seen source [] = refl
 length-seen source (l ∷ ls) = ap suc (length-seen source ls)
 
-pub term_turn : (source : LexedText) (left inner rest : List Lexeme) (x : Expr) (l : Lexeme) → left ≡ l ∷ inner → IsTerm (seen source inner) x (seen source rest) → length rest < length left
+pub term_turn : (source : LexedText) (left inner rest : List Lexeme) (x : Expr) (l : Lexeme) → left ≡ l ∷ inner → IsTerm (terminals_of source inner) x (terminals_of source rest) → length rest < length left
 term_turn source left inner rest x l e a =
     let f : length left ≡ suc (length inner) = ap length e in
     omega (arith, f, term_shorter a, length-seen source inner, length-seen source rest)
 
-pub factor_turn : (source : LexedText) (left inner rest : List Lexeme) (x : Expr) (l : Lexeme) → left ≡ l ∷ inner → IsFactor (seen source inner) x (seen source rest) → length rest < length left
+pub factor_turn : (source : LexedText) (left inner rest : List Lexeme) (x : Expr) (l : Lexeme) → left ≡ l ∷ inner → IsFactor (terminals_of source inner) x (terminals_of source rest) → length rest < length left
 factor_turn source left inner rest x l e a =
     let f : length left ≡ suc (length inner) = ap length e in
     omega (arith, f, factor_shorter a, length-seen source inner, length-seen source rest)

@@ -5,7 +5,7 @@ use Rattle.script_tokens.specs.declared.token.Word.{Word}
 use Rattle.script_tokens.specs.declared.token.Lexeme.{Lexeme}
 use Rattle.script_text.specs.declared.error.SyntaxError.{SyntaxError}
 use Rattle.script_text.specs.declared.parser.source.LexedText.{LexedText}
-use Rattle.script_grammar.specs.Grammar.{Token}
+use Rattle.script_grammar.specs.Grammar.{Terminal}
 use Rattle.script_text.specs.Machine.{Sym, only}
 use Rattle.script_text.specs.Beside.{Beside}
 use Rattle.script_text.specs.Reads.{Errs, Reads, PassesWord}
@@ -17,7 +17,7 @@ passed w source d old r rest e f = subst (PassesWord w source d old) e f
 pub passed_not : (w : Word) (source : LexedText) (d : ℕ) (old : List Lexeme) (r : Result (Bor (List Lexeme)) SyntaxError) (fault : SyntaxError) → r ≡ Err fault → PassesWord w source d old r → Errs (only w ∷ []) source d old fault
 passed_not w source d old r fault e f = subst (PassesWord w source d old) e f
 
-module _ {X : Type 0} (R : List Token → X → List Token → Type 0) (front : List Sym) (source : LexedText) (d : ℕ) (old : List Lexeme) where
+module _ {X : Type 0} (R : List Terminal → X → List Terminal → Type 0) (front : List Sym) (source : LexedText) (d : ℕ) (old : List Lexeme) where
   pub came : (r : Result (X × Bor (List Lexeme)) SyntaxError) (p : X × Bor (List Lexeme)) → r ≡ Ok p → Reads R front source d old r → Comes R front source d old p.0 p.1.now
   came r p e f = subst (Reads R front source d old) e f
 

@@ -10,9 +10,9 @@ use Rattle.script_grammar.specs.declared.tree.Name.{Name}
 use Rattle.script_grammar.specs.declared.tree.Expr.{Expr}
 use Rattle.script_grammar.specs.declared.tree.CallText.{CallText}
 use Rattle.script_grammar.specs.declared.tree.Act.TheVariants as act
-use Rattle.script_grammar.specs.Grammar.{Token, tok, name_at, IsExpr, IsMoreArgs, IsInto, no_into, an_into, stmt_at, IsStmt, a_pfor}
+use Rattle.script_grammar.specs.Grammar.{Terminal, tok, name_at, IsExpr, IsMoreArgs, IsInto, no_into, an_into, stmt_at, IsStmt, a_pfor}
 use Rattle.script_text.specs.Machine.{Sym, only, exactly, loop_args, more_args, into, loop_name, stmts, expr_then, same_bytes, rules, find_rule, nesting, judge}
-use Rattle.script_text.specs.Reads.{seen, text_end, Leads, Errs, NextIs, NextIsNot, NextLexeme, IsBracket, ReadsName, unexpected_in, IsName, a_name_token, AddsArgs, IsBounds, bounds, IsLoopCall, loop_call}
+use Rattle.script_text.specs.Reads.{terminals_of, text_end, ReadsTo, Errs, NextIs, NextIsNot, NextLexeme, IsBracket, ReadsName, unexpected_in, IsName, a_name_token, AddsArgs, IsBounds, bounds, IsLoopCall, loop_call}
 use Rattle.script_text.proofs.Nesting.Sound.{same_name}
 use Rattle.script_text.proofs.Nesting.Follows.{exact_step}
 use Rattle.script_text.proofs.Parsing.Steps.{taken, name_taken, name_long, HasNone, skipped, has_none, other_word, seen-next, err_after, unexpected_err, Comes, Passed, Opened}
@@ -39,9 +39,9 @@ module _ (source : LexedText) (d : ℕ) (old : List Lexeme) where
       (λ n s r. a.1 n (expr_then (only word.Range ∷ expr_then s)) r ∙ b.1 n (only word.Range ∷ expr_then s) r ∙ c.1 n (expr_then s) r) (λ s r. r) f
 
   pub bounds_read : (t1 t2 t3 rest : List Lexeme) (x y : Expr) → Passed word.In source d old t1 → Comes IsExpr (expr_then []) source d t1 x t2 → Passed word.Range source d t2 t3 → Comes IsExpr (expr_then []) source d t3 y rest
-      → IsBounds (seen source old) x y (seen source rest) × Leads (only word.In ∷ expr_then (only word.Range ∷ expr_then [])) [] source d old rest
+      → IsBounds (terminals_of source old) x y (terminals_of source rest) × ReadsTo (only word.In ∷ expr_then (only word.Range ∷ expr_then [])) [] source d old rest
   bounds_read t1 t2 t3 rest x y a b c z = (
-    subst (λ q. IsBounds q x y (seen source rest)) (sym (seen-next word.In source a.0.0 old t1 a.0.1)) (bounds (subst (IsExpr (seen source t1) x) (seen-next word.Range source c.0.0 t2 t3 c.0.1) b.0) z.0),
+    subst (λ q. IsBounds q x y (terminals_of source rest)) (sym (seen-next word.In source a.0.0 old t1 a.0.1)) (bounds (subst (IsExpr (terminals_of source t1) x) (seen-next word.Range source c.0.0 t2 t3 c.0.1) b.0) z.0),
     λ n s r. a.1 n (expr_then (only word.Range ∷ expr_then s)) r ∙ b.1 n (only word.Range ∷ expr_then s) r ∙ c.1 n (expr_then s) r ∙ z.1 n s r,
   )
 
@@ -50,18 +50,18 @@ module _ (source : LexedText) (d : ℕ) (old : List Lexeme) where
   pub no_target : NextIsNot word.Into old → Comes IsInto (into ∷ []) source d old None old
   no_target k = (no_into, λ n s f. skipped source n into s old refl (has_none into word.Into _ old source.bytes.now refl k))
 
-  target_enters : (at : ℕ) (t1 : List Lexeme) → d ≤ 64 → NextIs word.Into at old t1 → Leads (into ∷ []) (only word.Name ∷ []) source d old t1
+  target_enters : (at : ℕ) (t1 : List Lexeme) → d ≤ 64 → NextIs word.Into at old t1 → ReadsTo (into ∷ []) (only word.Name ∷ []) source d old t1
   target_enters at t1 h k = λ n s f.
       ap (judge (text_end source) n (into ∷ s)) (seen-next word.Into source at old t1 k)
-      ∙ taken (text_end source) n at word.Into (text_of source.bytes.now k.0) (into ∷ s) (only word.Name ∷ s) (seen source t1) refl (omega arith) refl
+      ∙ taken (text_end source) n at word.Into (text_of source.bytes.now k.0) (into ∷ s) (only word.Name ∷ s) (terminals_of source t1) refl (omega arith) refl
 
   pub target_read : (at : ℕ) (t1 rest : List Lexeme) (x : Name) → d ≤ 64 → NextIs word.Into at old t1 → Comes IsName (only word.Name ∷ []) source d t1 x rest → Comes IsInto (into ∷ []) source d old (Some x) rest
   target_read at t1 rest x h k a = (
-    subst (λ q. IsInto q (Some x) (seen source rest)) (sym (seen-next word.Into source at old t1 k)) (made a.0),
+    subst (λ q. IsInto q (Some x) (terminals_of source rest)) (sym (seen-next word.Into source at old t1 k)) (made a.0),
     λ n s f. target_enters at t1 h k n s f ∙ a.1 n s f,
   )
     where
-      made : {o to : List Token} {x : Name} {a : ℕ} {t : List ℕ} → IsName o x to → IsInto (tok a word.Into t ∷ o) (Some x) to
+      made : {o to : List Terminal} {x : Name} {a : ℕ} {t : List ℕ} → IsName o x to → IsInto (tok a word.Into t ∷ o) (Some x) to
       made a_name_token = an_into
 
   pub target_err : (at : ℕ) (t1 : List Lexeme) (e : SyntaxError) → d ≤ 64 → NextIs word.Into at old t1 → Errs (only word.Name ∷ []) source d t1 e → Errs (into ∷ []) source d old e
@@ -71,13 +71,13 @@ module _ (source : LexedText) (d : ℕ) (old : List Lexeme) where
 
 module _ (source : LexedText) (d : ℕ) (n : List ℕ) (old : List Lexeme) where
   pub repeats : (rest : List Lexeme) (l : Lexeme) → length n ≤ 32 → d ≤ 64 → NextLexeme word.Name l old rest → text_of source.bytes.now l ≡ n
-      → ((l : Lexeme) × NextLexeme word.Name l old rest × (text_of source.bytes.now l ≡ n)) × Leads (exactly n ∷ []) [] source d old rest
+      → ((l : Lexeme) × NextLexeme word.Name l old rest × (text_of source.bytes.now l ≡ n)) × ReadsTo (exactly n ∷ []) [] source d old rest
   repeats rest l short h k e = (
     (l, k, e),
     λ m s f.
         ap (judge (text_end source) m (exactly n ∷ s)) (seen-next word.Name source l.start old rest (first_is l old rest k.0 k.1))
-        ∙ ap (λ z. judge (text_end source) m (exactly n ∷ s) (tok l.start word.Name z ∷ seen source rest)) e
-        ∙ name_taken (text_end source) m l.start n (exactly n ∷ s) s (seen source rest) short (omega arith) (exact_step n s),
+        ∙ ap (λ z. judge (text_end source) m (exactly n ∷ s) (tok l.start word.Name z ∷ terminals_of source rest)) e
+        ∙ name_taken (text_end source) m l.start n (exactly n ∷ s) s (terminals_of source rest) short (omega arith) (exact_step n s),
   )
 
   other_name : (text : List ℕ) → (text ≡ n → ⊥) → same_bytes n text ≡ false
@@ -110,7 +110,7 @@ loop_bracket n = record { needed = refl; only_rule = refl; one_level = λ s. ref
 
 -- what `repeated` shows
 abbrev pub Repeated : LexedText → ℕ → List ℕ → List Lexeme → List Lexeme → Type 0
-Repeated source d n old rest = ((l : Lexeme) × NextLexeme word.Name l old rest × (text_of source.bytes.now l ≡ n)) × Leads (exactly n ∷ []) [] source d old rest
+Repeated source d n old rest = ((l : Lexeme) × NextLexeme word.Name l old rest × (text_of source.bytes.now l ≡ n)) × ReadsTo (exactly n ∷ []) [] source d old rest
 
 module _ (source : LexedText) (d : ℕ) (n : List ℕ) (old t1 : List Lexeme) where
   pub loop_err_call : (e : SyntaxError) → Errs (only word.Call ∷ []) source d old e → Errs (loop_front n) source d old e
@@ -120,21 +120,21 @@ module _ (source : LexedText) (d : ℕ) (n : List ℕ) (old t1 : List Lexeme) wh
   loop_err_name e a f = err_after (loop_front n) (only word.Name ∷ []) (loop_args n ∷ only word.Semicolon ∷ []) source d d old t1 e (λ m s r. a.1 m (only word.Name ∷ loop_args n ∷ only word.Semicolon ∷ s) r) (λ s r. r) f
 
   module _ (t2 : List Lexeme) (x : Name) (a : Passed word.Call source d old t1) (b : Comes IsName (only word.Name ∷ []) source d t1 x t2) where
-    loop_named : Leads (loop_front n) (loop_args n ∷ only word.Semicolon ∷ []) source d old t2
+    loop_named : ReadsTo (loop_front n) (loop_args n ∷ only word.Semicolon ∷ []) source d old t2
     loop_named = λ m s r. a.1 m (only word.Name ∷ loop_args n ∷ only word.Semicolon ∷ s) r ∙ b.1 m (loop_args n ∷ only word.Semicolon ∷ s) r
 
     pub loop_err_open : (e : SyntaxError) → Errs (loop_args n ∷ []) source d t2 e → Errs (loop_front n) source d old e
     loop_err_open e f = err_after (loop_front n) (loop_args n ∷ []) (only word.Semicolon ∷ []) source d d old t2 e loop_named (λ s r. r) f
 
     module _ (t3 : List Lexeme) (o : Opened word.Open source d t2 t3) where
-      loop_opened : Leads (loop_front n) (exactly n ∷ more_args ∷ only word.Close ∷ only word.Semicolon ∷ []) source d old t3
+      loop_opened : ReadsTo (loop_front n) (exactly n ∷ more_args ∷ only word.Close ∷ only word.Semicolon ∷ []) source d old t3
       loop_opened = λ m s r. loop_named m s r ∙ o.2 (loop_args n) _ (loop_bracket n) m (only word.Semicolon ∷ s) r
 
       pub loop_err_again : (e : SyntaxError) → Errs (exactly n ∷ []) source (d + 1) t3 e → Errs (loop_front n) source d old e
       loop_err_again e f = err_after (loop_front n) (exactly n ∷ []) (more_args ∷ only word.Close ∷ only word.Semicolon ∷ []) source d (d + 1) old t3 e loop_opened (λ s r. omega (arith, r)) f
 
       module _ (t4 : List Lexeme) (g : Repeated source (d + 1) n t3 t4) where
-        loop_again : (m : ℕ) (s : List Sym) → nesting s ≡ d → judge (text_end source) m (loop_front n ++ s) (seen source old) ≡ judge (text_end source) m (more_args ∷ only word.Close ∷ only word.Semicolon ∷ s) (seen source t4)
+        loop_again : (m : ℕ) (s : List Sym) → nesting s ≡ d → judge (text_end source) m (loop_front n ++ s) (terminals_of source old) ≡ judge (text_end source) m (more_args ∷ only word.Close ∷ only word.Semicolon ∷ s) (terminals_of source t4)
         loop_again m s r = loop_opened m s r ∙ g.1 m (more_args ∷ only word.Close ∷ only word.Semicolon ∷ s) (omega (arith, r))
 
         pub loop_err_args : (e : SyntaxError) → Errs (more_args ∷ []) source (d + 1) t4 e → Errs (loop_front n) source d old e
@@ -152,13 +152,13 @@ module _ (source : LexedText) (d : ℕ) (n : List ℕ) (old t1 : List Lexeme) wh
           pub loop_call_read : (t6 last : List Lexeme) → found ≡ [] → Passed word.Close source d t5 t6 → Passed word.Semicolon source d t6 last → Comes (IsLoopCall n) (loop_front n) source d old (record { name = x; args = xs }) last
           loop_call_read t6 last p i j = (
             made (seen-next word.Call source a.0.0 old t1 a.0.1) b.0 (seen-next word.Open source o.0.0 t2 t3 o.0.1)
-                (seen-next word.Name source g.0.0.start t3 t4 (first_is g.0.0 t3 t4 g.0.1.0 g.0.1.1) ∙ ap (λ z. tok g.0.0.start word.Name z ∷ seen source t4) g.0.2)
-                (subst (λ z. IsMoreArgs (seen source t4) z (seen source t5)) (sym (h.0.1 ∙ ap (λ z. z ++ h.0.0) p)) h.0.2)
+                (seen-next word.Name source g.0.0.start t3 t4 (first_is g.0.0 t3 t4 g.0.1.0 g.0.1.1) ∙ ap (λ z. tok g.0.0.start word.Name z ∷ terminals_of source t4) g.0.2)
+                (subst (λ z. IsMoreArgs (terminals_of source t4) z (terminals_of source t5)) (sym (h.0.1 ∙ ap (λ z. z ++ h.0.0) p)) h.0.2)
                 (seen-next word.Close source i.0.0 t5 t6 i.0.1) (seen-next word.Semicolon source j.0.0 t6 last j.0.1),
             λ m s r. loop_again m s r ∙ h.1 m (only word.Close ∷ only word.Semicolon ∷ s) (omega (arith, r)) ∙ i.1 m (only word.Semicolon ∷ s) r ∙ j.1 m s r,
           )
             where
-              made : {s0 s1 s2 s3 s4 s5 s6 to : List Token} {x : Name} {xs : List Expr} {e g h i j : ℕ} {w y z o : List ℕ} → s0 ≡ tok e word.Call w ∷ s1 → IsName s1 x s2 → s2 ≡ tok g word.Open y ∷ s3 → s3 ≡ tok h word.Name n ∷ s4
+              made : {s0 s1 s2 s3 s4 s5 s6 to : List Terminal} {x : Name} {xs : List Expr} {e g h i j : ℕ} {w y z o : List ℕ} → s0 ≡ tok e word.Call w ∷ s1 → IsName s1 x s2 → s2 ≡ tok g word.Open y ∷ s3 → s3 ≡ tok h word.Name n ∷ s4
                   → IsMoreArgs s4 xs s5 → s5 ≡ tok i word.Close z ∷ s6 → s6 ≡ tok j word.Semicolon o ∷ to → IsLoopCall n s0 (record { name = x; args = xs }) to
               made {s4 = s4} {to = to} {xs = xs} {e = e} {g = g} {i = i} {w = w} {y = y} {z = z} p (a_name_token {a = f} {t = f'}) q r m u v =
                   subst (λ q. IsLoopCall n q (record { name = name_at f f'; args = xs }) to) (sym (p ∙ ap (λ k. tok e word.Call w ∷ tok f word.Name f' ∷ k) (q ∙ ap (λ k. tok g word.Open y ∷ k) r)))
@@ -170,7 +170,7 @@ abbrev loop_rest : List ℕ → List Sym → List Sym
 loop_rest n s = only word.In ∷ expr_then (only word.Range ∷ expr_then (into ∷ only word.Call ∷ only word.Name ∷ loop_args n ∷ only word.Semicolon ∷ s))
 
 module _ (source : LexedText) (d : ℕ) (l : Lexeme) (rest : List Lexeme) where
-  loop_enters : l.word ≡ word.Pfor → d ≤ 64 → Leads (stmts ∷ []) (loop_name ∷ stmts ∷ []) source d (l ∷ rest) rest
+  loop_enters : l.word ≡ word.Pfor → d ≤ 64 → ReadsTo (stmts ∷ []) (loop_name ∷ stmts ∷ []) source d (l ∷ rest) rest
   loop_enters p h = stmt_enters source d l rest word.Pfor (loop_name ∷ []) p refl (λ t s. refl) (λ s. refl) h
 
   pub pfor_missing : (e : SyntaxError) → l.word ≡ word.Pfor → d ≤ 64 → NextIsNot word.Name rest → e ≡ unexpected_in source rest → Errs (stmts ∷ []) source d (l ∷ rest) e
@@ -189,19 +189,19 @@ module _ (source : LexedText) (d : ℕ) (l : Lexeme) (rest : List Lexeme) where
         go (Bad number at) q = λ m s f.
             let fault : ◌≡◌ {A = Option (ℕ × ℕ)} (Some (4, v.start)) (Some (number, at)) = cc in
             ap (judge (text_end source) m (loop_name ∷ s)) (seen-next word.Name source v.start rest tail (first_is v rest tail k.0 k.1))
-            ∙ name_long (text_end source) m v.start (text_of source.bytes.now v) (loop_name ∷ s) (loop_rest (text_of source.bytes.now v) s) (seen source tail) q.0 refl ∙ fault
+            ∙ name_long (text_end source) m v.start (text_of source.bytes.now v) (loop_name ∷ s) (loop_rest (text_of source.bytes.now v) s) (terminals_of source tail) q.0 refl ∙ fault
 
     module _ (x : Name) (p : l.word ≡ word.Pfor) (h : d ≤ 64) (q : ReadsName source v (Ok x)) where
-      loop_begun : (m : ℕ) (s : List Sym) → nesting s ≡ d → judge (text_end source) m (stmts ∷ s) (seen source (l ∷ rest)) ≡ judge (text_end source) m (loop_rest x.bytes (stmts ∷ s)) (seen source tail)
+      loop_begun : (m : ℕ) (s : List Sym) → nesting s ≡ d → judge (text_end source) m (stmts ∷ s) (terminals_of source (l ∷ rest)) ≡ judge (text_end source) m (loop_rest x.bytes (stmts ∷ s)) (terminals_of source tail)
       loop_begun m s f =
           loop_enters p h m s f ∙ ap (judge (text_end source) m (loop_name ∷ stmts ∷ s)) (seen-next word.Name source v.start rest tail (first_is v rest tail k.0 k.1))
-          ∙ name_taken (text_end source) m v.start (text_of source.bytes.now v) (loop_name ∷ stmts ∷ s) (loop_rest (text_of source.bytes.now v) (stmts ∷ s)) (seen source tail) q.1 (omega arith) refl
-          ∙ ap (λ z. judge (text_end source) m (loop_rest z (stmts ∷ s)) (seen source tail)) (sym (ap (λ z. z.bytes) q.0))
+          ∙ name_taken (text_end source) m v.start (text_of source.bytes.now v) (loop_name ∷ stmts ∷ s) (loop_rest (text_of source.bytes.now v) (stmts ∷ s)) (terminals_of source tail) q.1 (omega arith) refl
+          ∙ ap (λ z. judge (text_end source) m (loop_rest z (stmts ∷ s)) (terminals_of source tail)) (sym (ap (λ z. z.bytes) q.0))
 
       pub pfor_err_bounds : (e : SyntaxError) → Errs (only word.In ∷ expr_then (only word.Range ∷ expr_then [])) source d tail e → Errs (stmts ∷ []) source d (l ∷ rest) e
       pfor_err_bounds e f = err_after (stmts ∷ []) (only word.In ∷ expr_then (only word.Range ∷ expr_then [])) (into ∷ only word.Call ∷ only word.Name ∷ loop_args x.bytes ∷ only word.Semicolon ∷ stmts ∷ []) source d d (l ∷ rest) tail e loop_begun (λ s r. r) f
 
-      module _ (lo hi : Expr) (t1 : List Lexeme) (a : IsBounds (seen source tail) lo hi (seen source t1)) (b : Leads (only word.In ∷ expr_then (only word.Range ∷ expr_then [])) [] source d tail t1) where
+      module _ (lo hi : Expr) (t1 : List Lexeme) (a : IsBounds (terminals_of source tail) lo hi (terminals_of source t1)) (b : ReadsTo (only word.In ∷ expr_then (only word.Range ∷ expr_then [])) [] source d tail t1) where
         pub pfor_err_target : (e : SyntaxError) → Errs (into ∷ []) source d t1 e → Errs (stmts ∷ []) source d (l ∷ rest) e
         pfor_err_target e f = err_after (stmts ∷ []) (into ∷ []) (only word.Call ∷ only word.Name ∷ loop_args x.bytes ∷ only word.Semicolon ∷ stmts ∷ []) source d d (l ∷ rest) t1 e
             (λ m s r. loop_begun m s r ∙ b m (into ∷ only word.Call ∷ only word.Name ∷ loop_args x.bytes ∷ only word.Semicolon ∷ stmts ∷ s) r) (λ s r. r) f
@@ -213,18 +213,18 @@ module _ (source : LexedText) (d : ℕ) (l : Lexeme) (rest : List Lexeme) where
 
           pub pfor_read : (call : CallText) (last : List Lexeme) → Comes (IsLoopCall x.bytes) (loop_front x.bytes) source d t2 call last → ComesAct source d l rest (act.Pfor x lo hi to call) last
           pfor_read call last g = (
-            subst (λ z. IsStmt z (stmt_at l.start (act.Pfor x lo hi to call)) (seen source last))
+            subst (λ z. IsStmt z (stmt_at l.start (act.Pfor x lo hi to call)) (terminals_of source last))
                 (sym (stmt_token source d l rest word.Pfor p ∙ ap (λ z. tok l.start word.Pfor (text_of source.bytes.now l) ∷ z) (seen-next word.Name source v.start rest tail (first_is v rest tail k.0 k.1))))
                 (named x q.0 g.0),
             λ m s r. loop_begun m s r ∙ b m (into ∷ only word.Call ∷ only word.Name ∷ loop_args x.bytes ∷ only word.Semicolon ∷ stmts ∷ s) r ∙ c.1 m (only word.Call ∷ only word.Name ∷ loop_args x.bytes ∷ only word.Semicolon ∷ stmts ∷ s) r ∙ g.1 m (stmts ∷ s) r,
           )
             where
-              made : {s0 s1 s2 to' : List Token} {lo hi : Expr} {o : Option Name} {call : CallText} {n : List ℕ} {a b : ℕ} {t : List ℕ} → IsBounds s0 lo hi s1 → IsInto s1 o s2 → IsLoopCall n s2 call to'
+              made : {s0 s1 s2 to' : List Terminal} {lo hi : Expr} {o : Option Name} {call : CallText} {n : List ℕ} {a b : ℕ} {t : List ℕ} → IsBounds s0 lo hi s1 → IsInto s1 o s2 → IsLoopCall n s2 call to'
                   → IsStmt (tok a word.Pfor t ∷ tok b word.Name n ∷ s0) (stmt_at a (act.Pfor (name_at b n) lo hi o call)) to'
               made (bounds p q) i (loop_call m) = a_pfor p q i m
 
-              named : (y : Name) → y ≡ name_at v.start (text_of source.bytes.now v) → IsLoopCall y.bytes (seen source t2) call (seen source last)
-                  → IsStmt (tok l.start word.Pfor (text_of source.bytes.now l) ∷ tok v.start word.Name (text_of source.bytes.now v) ∷ seen source tail) (stmt_at l.start (act.Pfor y lo hi to call)) (seen source last)
+              named : (y : Name) → y ≡ name_at v.start (text_of source.bytes.now v) → IsLoopCall y.bytes (terminals_of source t2) call (terminals_of source last)
+                  → IsStmt (tok l.start word.Pfor (text_of source.bytes.now l) ∷ tok v.start word.Name (text_of source.bytes.now v) ∷ terminals_of source tail) (stmt_at l.start (act.Pfor y lo hi to call)) (terminals_of source last)
               named y e m =
-                  subst (λ z. IsStmt (tok l.start word.Pfor (text_of source.bytes.now l) ∷ tok v.start word.Name (text_of source.bytes.now v) ∷ seen source tail) (stmt_at l.start (act.Pfor z lo hi to call)) (seen source last)) (sym e)
-                  (made a c.0 (subst (λ z. IsLoopCall z (seen source t2) call (seen source last)) (ap (λ z. z.bytes) e) m))
+                  subst (λ z. IsStmt (tok l.start word.Pfor (text_of source.bytes.now l) ∷ tok v.start word.Name (text_of source.bytes.now v) ∷ terminals_of source tail) (stmt_at l.start (act.Pfor z lo hi to call)) (terminals_of source last)) (sym e)
+                  (made a c.0 (subst (λ z. IsLoopCall z (terminals_of source t2) call (terminals_of source last)) (ap (λ z. z.bytes) e) m))

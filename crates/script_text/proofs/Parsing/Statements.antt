@@ -16,18 +16,18 @@ use Rattle.script_grammar.specs.declared.tree.Right.TheVariants as right
 use Rattle.script_grammar.specs.declared.tree.Act.{Act}
 use Rattle.script_grammar.specs.declared.tree.Act.TheVariants as act
 use Rattle.script_grammar.specs.declared.tree.Stmt.{Stmt}
-use Rattle.script_grammar.specs.Grammar.{Token, tok, name_at, number_at, IsExpr, IsMoreArgs, no_more_args, one_more_arg, IsArgs, no_args, some_args, IsCall, a_call, IsRight, right_value, right_draw, right_new, right_call, right_spawn, IsInto, no_into, an_into, stmt_at, IsStmt, a_let, an_array, a_set, a_store, a_spawn, a_call_stmt, a_sync, a_print, an_if, a_while, a_pfor, a_scope, IsStmts, no_stmts, one_stmt, IsBlock, a_block, IsElse, no_else, an_else}
+use Rattle.script_grammar.specs.Grammar.{Terminal, tok, name_at, number_at, IsExpr, IsMoreArgs, no_more_args, one_more_arg, IsArgs, no_args, some_args, IsCall, a_call, IsRight, right_value, right_draw, right_new, right_call, right_spawn, IsInto, no_into, an_into, stmt_at, IsStmt, a_let, an_array, a_set, a_store, a_spawn, a_call_stmt, a_sync, a_print, an_if, a_while, a_pfor, a_scope, IsStmts, no_stmts, one_stmt, IsBlock, a_block, IsElse, no_else, an_else}
 use Rattle.script_text.specs.Machine as machine
-use Rattle.script_text.specs.Machine.{Sym, only, exactly, loop_args, call_args, more_args, into, loop_name, stmts, after_let, after_name, block, otherwise, expr_then, rules, rule, is_empty, find_rule, consume, nesting, at_stop, verdict, begun, judge}
+use Rattle.script_text.specs.Machine.{Sym, only, exactly, loop_args, call_args, more_args, into, loop_name, stmts, after_let, after_name, block, otherwise, expr_then, rules, rule, is_empty, find_rule, consume, nesting, at_stop, verdict, begun_with, judge}
 use Rattle.script_grammar.specs.Text.{token_of}
-use Rattle.script_text.specs.Reads.{seen, text_end, Leads, Errs, NextIs, NextIsNot, IsBracket, Deepens, ReadsName, is_unlimited, unexpected_in, IsName, a_name_token, IsNumber, a_number_token, IsValueOf, value_of, IsEnded, ended, IsCallOf, call_of, IsSize, a_size, IsElement, an_element, begins_stmt, NoStmt}
+use Rattle.script_text.specs.Reads.{terminals_of, text_end, ReadsTo, Errs, NextIs, NextIsNot, IsBracket, Deepens, ReadsName, is_unlimited, unexpected_in, IsName, a_name_token, IsNumber, a_number_token, IsValueOf, value_of, IsEnded, ended, IsCallOf, call_of, IsSize, a_size, IsElement, an_element, begins_stmt, NoStmt}
 use Rattle.script_text.proofs.Parsing.Steps.{taken, deep, name_taken, name_long, HasNone, skipped, has_none, other_word, seen-next, err_after, unexpected_err, Comes, Passed, Opened}
 use Rattle.script_text.proofs.Parsing.Expressions.{first_is, expr_shorter, length-seen}
 
 -- Two in a row
 
 module _ (source : LexedText) (d : ℕ) where
-  pub err_first : (front next tail : List Sym) (d' : ℕ) (old : List Lexeme) (e : SyntaxError) → ((n : ℕ) (s : List Sym) → judge (text_end source) n (front ++ s) (seen source old) ≡ judge (text_end source) n ((next ++ tail) ++ s) (seen source old))
+  pub err_first : (front next tail : List Sym) (d' : ℕ) (old : List Lexeme) (e : SyntaxError) → ((n : ℕ) (s : List Sym) → judge (text_end source) n (front ++ s) (terminals_of source old) ≡ judge (text_end source) n ((next ++ tail) ++ s) (terminals_of source old))
       → ((s : List Sym) → nesting s ≡ d → nesting (tail ++ s) ≡ d') → Errs next source d' old e → Errs front source d old e
   err_first front next tail d' old e g h f = err_after front next tail source d d' old old e (λ n s r. g n s) h f
 
@@ -42,12 +42,12 @@ right_step _ text s a b c d = refl
 
 module _ (source : LexedText) (d : ℕ) (old rest : List Lexeme) (l : Lexeme) (e : old ≡ l ∷ rest) where
   right_same : (l.word ≡ word.Draw → ⊥) → (l.word ≡ word.New → ⊥) → (l.word ≡ word.Call → ⊥) → (l.word ≡ word.Spawn → ⊥) → (n : ℕ) (s : List Sym)
-      → judge (text_end source) n (machine.right ∷ s) (seen source old) ≡ judge (text_end source) n (expr_then s) (seen source old)
+      → judge (text_end source) n (machine.right ∷ s) (terminals_of source old) ≡ judge (text_end source) n (expr_then s) (terminals_of source old)
   right_same p q r u n s =
-      let t : Token = token_of source.bytes.now l in
-      ap (λ z. judge (text_end source) n (machine.right ∷ s) (seen source z)) e
-      ∙ ap (λ o. verdict n t o (λ s'. judge (text_end source) (begun t n) s' (seen source rest))) (right_step l.word (text_of source.bytes.now l) s p q r u)
-      ∙ ap (λ z. judge (text_end source) n (expr_then s) (seen source z)) (sym e)
+      let t : Terminal = token_of source.bytes.now l in
+      ap (λ z. judge (text_end source) n (machine.right ∷ s) (terminals_of source z)) e
+      ∙ ap (λ o. verdict n t o (λ s'. judge (text_end source) (begun_with t n) s' (terminals_of source rest))) (right_step l.word (text_of source.bytes.now l) s p q r u)
+      ∙ ap (λ z. judge (text_end source) n (expr_then s) (terminals_of source z)) (sym e)
 
   pub right_value_read : (last : List Lexeme) (x : Expr) → (l.word ≡ word.Draw → ⊥) → (l.word ≡ word.New → ⊥) → (l.word ≡ word.Call → ⊥) → (l.word ≡ word.Spawn → ⊥) → Comes IsExpr (expr_then []) source d old x last
       → Comes IsRight (machine.right ∷ []) source d old (right.Value x) last
@@ -58,33 +58,33 @@ module _ (source : LexedText) (d : ℕ) (old rest : List Lexeme) (l : Lexeme) (e
 
   -- the machine after a word that a right side may begin with
   right_enters : (w : Word) (next : List Sym) → l.word ≡ w → is_unlimited w ≡ true → ((text : List ℕ) (s : List Sym) → consume w text (machine.right ∷ s) ≡ Some (next ++ s)) → ((s : List Sym) → nesting (next ++ s) ≡ nesting s) → d ≤ 64
-      → Leads (machine.right ∷ []) next source d old rest
+      → ReadsTo (machine.right ∷ []) next source d old rest
   right_enters w next p q g k h = λ n s f.
       let same = k s in
       ap (judge (text_end source) n (machine.right ∷ s)) (seen-next w source l.start old rest (first_is l old rest e p))
-      ∙ taken (text_end source) n l.start w (text_of source.bytes.now l) (machine.right ∷ s) (next ++ s) (seen source rest) q (omega (arith, same)) (g (text_of source.bytes.now l) s)
+      ∙ taken (text_end source) n l.start w (text_of source.bytes.now l) (machine.right ∷ s) (next ++ s) (terminals_of source rest) q (omega (arith, same)) (g (text_of source.bytes.now l) s)
 
   pub right_draw_read : l.word ≡ word.Draw → d ≤ 64 → Comes IsRight (machine.right ∷ []) source d old (right.Draw l.start) rest
   right_draw_read p h = (
-    subst (λ q. IsRight q (right.Draw l.start) (seen source rest)) (sym (seen-next word.Draw source l.start old rest (first_is l old rest e p))) right_draw,
+    subst (λ q. IsRight q (right.Draw l.start) (terminals_of source rest)) (sym (seen-next word.Draw source l.start old rest (first_is l old rest e p))) right_draw,
     right_enters word.Draw [] p refl (λ t s. refl) (λ s. refl) h,
   )
 
   pub right_new_read : l.word ≡ word.New → d ≤ 64 → Comes IsRight (machine.right ∷ []) source d old (right.New l.start) rest
   right_new_read p h = (
-    subst (λ q. IsRight q (right.New l.start) (seen source rest)) (sym (seen-next word.New source l.start old rest (first_is l old rest e p))) right_new,
+    subst (λ q. IsRight q (right.New l.start) (terminals_of source rest)) (sym (seen-next word.New source l.start old rest (first_is l old rest e p))) right_new,
     right_enters word.New [] p refl (λ t s. refl) (λ s. refl) h,
   )
 
   pub right_call_read : (last : List Lexeme) (x : CallText) → l.word ≡ word.Call → d ≤ 64 → Comes IsCall (only word.Name ∷ call_args ∷ []) source d rest x last → Comes IsRight (machine.right ∷ []) source d old (right.Call l.start x) last
   right_call_read last x p h a = (
-    subst (λ q. IsRight q (right.Call l.start x) (seen source last)) (sym (seen-next word.Call source l.start old rest (first_is l old rest e p))) (right_call a.0),
+    subst (λ q. IsRight q (right.Call l.start x) (terminals_of source last)) (sym (seen-next word.Call source l.start old rest (first_is l old rest e p))) (right_call a.0),
     λ n s f. right_enters word.Call (only word.Name ∷ call_args ∷ []) p refl (λ t s. refl) (λ s. refl) h n s f ∙ a.1 n s f,
   )
 
   pub right_spawn_read : (last : List Lexeme) (x : CallText) → l.word ≡ word.Spawn → d ≤ 64 → Comes IsCall (only word.Name ∷ call_args ∷ []) source d rest x last → Comes IsRight (machine.right ∷ []) source d old (right.Spawn l.start x) last
   right_spawn_read last x p h a = (
-    subst (λ q. IsRight q (right.Spawn l.start x) (seen source last)) (sym (seen-next word.Spawn source l.start old rest (first_is l old rest e p))) (right_spawn a.0),
+    subst (λ q. IsRight q (right.Spawn l.start x) (terminals_of source last)) (sym (seen-next word.Spawn source l.start old rest (first_is l old rest e p))) (right_spawn a.0),
     λ n s f. right_enters word.Spawn (only word.Name ∷ call_args ∷ []) p refl (λ t s. refl) (λ s. refl) h n s f ∙ a.1 n s f,
   )
 
@@ -101,13 +101,13 @@ right_missing source d old e h f = unexpected_err machine.right [] source d old 
 
 module _ (source : LexedText) (d : ℕ) (old mid rest : List Lexeme) where
   pub value_read : (x : Right) → Comes IsRight (machine.right ∷ []) source d old x mid → Passed word.Semicolon source d mid rest → Comes IsValueOf (machine.right ∷ only word.Semicolon ∷ []) source d old x rest
-  value_read x a b = (value_of (subst (IsRight (seen source old) x) (seen-next word.Semicolon source b.0.0 mid rest b.0.1) a.0), λ n s f. a.1 n (only word.Semicolon ∷ s) f ∙ b.1 n s f)
+  value_read x a b = (value_of (subst (IsRight (terminals_of source old) x) (seen-next word.Semicolon source b.0.0 mid rest b.0.1) a.0), λ n s f. a.1 n (only word.Semicolon ∷ s) f ∙ b.1 n s f)
 
   pub ended_read : (x : Expr) → Comes IsExpr (expr_then []) source d old x mid → Passed word.Semicolon source d mid rest → Comes IsEnded (expr_then (only word.Semicolon ∷ [])) source d old x rest
-  ended_read x a b = (ended (subst (IsExpr (seen source old) x) (seen-next word.Semicolon source b.0.0 mid rest b.0.1) a.0), λ n s f. a.1 n (only word.Semicolon ∷ s) f ∙ b.1 n s f)
+  ended_read x a b = (ended (subst (IsExpr (terminals_of source old) x) (seen-next word.Semicolon source b.0.0 mid rest b.0.1) a.0), λ n s f. a.1 n (only word.Semicolon ∷ s) f ∙ b.1 n s f)
 
   pub call_of_read : (x : CallText) → Comes IsCall (only word.Name ∷ call_args ∷ []) source d old x mid → Passed word.Semicolon source d mid rest → Comes IsCallOf (only word.Name ∷ call_args ∷ only word.Semicolon ∷ []) source d old x rest
-  call_of_read x a b = (call_of (subst (IsCall (seen source old) x) (seen-next word.Semicolon source b.0.0 mid rest b.0.1) a.0), λ n s f. a.1 n (only word.Semicolon ∷ s) f ∙ b.1 n s f)
+  call_of_read x a b = (call_of (subst (IsCall (terminals_of source old) x) (seen-next word.Semicolon source b.0.0 mid rest b.0.1) a.0), λ n s f. a.1 n (only word.Semicolon ∷ s) f ∙ b.1 n s f)
 
 module _ (source : LexedText) (d : ℕ) (old : List Lexeme) (e : SyntaxError) where
   pub value_err : Errs (machine.right ∷ []) source d old e → Errs (machine.right ∷ only word.Semicolon ∷ []) source d old e
@@ -145,11 +145,11 @@ module _ (source : LexedText) (d : ℕ) (old : List Lexeme) (e : SyntaxError) wh
 
 -- a bracket that a symbol's second rule begins with
 module _ (source : LexedText) (d at : ℕ) (old rest : List Lexeme) (a : Sym) (inside : List Sym) (g : (text : List ℕ) (s : List Sym) → consume word.OpenItem text (a ∷ s) ≡ Some (inside ++ s)) (one : (s : List Sym) → nesting (inside ++ s) ≡ suc (nesting s)) (k : NextIs word.OpenItem at old rest) where
-  pub bracket_enters : d < 64 → Leads (a ∷ []) inside source d old rest
+  pub bracket_enters : d < 64 → ReadsTo (a ∷ []) inside source d old rest
   bracket_enters h = λ n s f.
       let level = one s in
       ap (judge (text_end source) n (a ∷ s)) (seen-next word.OpenItem source at old rest k)
-      ∙ taken (text_end source) n at word.OpenItem (text_of source.bytes.now k.0) (a ∷ s) (inside ++ s) (seen source rest) refl (omega (arith, level)) (g (text_of source.bytes.now k.0) s)
+      ∙ taken (text_end source) n at word.OpenItem (text_of source.bytes.now k.0) (a ∷ s) (inside ++ s) (terminals_of source rest) refl (omega (arith, level)) (g (text_of source.bytes.now k.0) s)
 
   pub bracket_deep : (e : SyntaxError) → Deepens d at (Err e) → Errs (a ∷ []) source d old e
   bracket_deep Memory q = tt
@@ -157,7 +157,7 @@ module _ (source : LexedText) (d at : ℕ) (old rest : List Lexeme) (a : Sym) (i
       let level = one s in
       let fault : ◌≡◌ {A = Option (ℕ × ℕ)} (Some (5, at)) (Some (number, place)) = cc in
       ap (judge (text_end source) n (a ∷ s)) (seen-next word.OpenItem source at old rest k)
-      ∙ deep (text_end source) n at word.OpenItem (text_of source.bytes.now k.0) (a ∷ s) (inside ++ s) (seen source rest) refl (omega (arith, level)) (g (text_of source.bytes.now k.0) s) ∙ fault
+      ∙ deep (text_end source) n at word.OpenItem (text_of source.bytes.now k.0) (a ∷ s) (inside ++ s) (terminals_of source rest) refl (omega (arith, level)) (g (text_of source.bytes.now k.0) s) ∙ fault
 
 abbrev pub size_inside : List Sym
 size_inside = only word.Number ∷ only word.CloseItem ∷ only word.Semicolon ∷ []
@@ -166,10 +166,10 @@ abbrev pub element_inside : List Sym
 element_inside = expr_then (only word.CloseItem ∷ only word.Assign ∷ expr_then (only word.Semicolon ∷ []))
 
 module _ (source : LexedText) (d at inside : ℕ) (old t1 : List Lexeme) (k : NextIs word.OpenItem at old t1) where
-  size_enters : d < 64 → Leads (after_let ∷ []) size_inside source d old t1
+  size_enters : d < 64 → ReadsTo (after_let ∷ []) size_inside source d old t1
   size_enters h = bracket_enters source d at old t1 after_let size_inside (λ t s. refl) (λ s. refl) k h
 
-  element_enters : d < 64 → Leads (after_name ∷ []) element_inside source d old t1
+  element_enters : d < 64 → ReadsTo (after_name ∷ []) element_inside source d old t1
   element_enters h = bracket_enters source d at old t1 after_name element_inside (λ t s. refl) (λ s. refl) k h
 
   pub size_deep : (e : SyntaxError) → Deepens d at (Err e) → Errs (after_let ∷ []) source d old e
@@ -185,7 +185,7 @@ module _ (source : LexedText) (d at inside : ℕ) (old t1 : List Lexeme) (k : Ne
     λ n s f. size_enters h.1 n s f ∙ a.1 n (only word.CloseItem ∷ only word.Semicolon ∷ s) (omega (arith, h.0, f)) ∙ b.1 n (only word.Semicolon ∷ s) f ∙ c.1 n s f,
   )
     where
-      made : {o s1 s2 s3 to : List Token} {x : Number} {a b c : ℕ} {t u v : List ℕ} → o ≡ tok a word.OpenItem t ∷ s1 → IsNumber s1 x s2 → s2 ≡ tok b word.CloseItem u ∷ s3 → s3 ≡ tok c word.Semicolon v ∷ to → IsSize o x to
+      made : {o s1 s2 s3 to : List Terminal} {x : Number} {a b c : ℕ} {t u v : List ℕ} → o ≡ tok a word.OpenItem t ∷ s1 → IsNumber s1 x s2 → s2 ≡ tok b word.CloseItem u ∷ s3 → s3 ≡ tok c word.Semicolon v ∷ to → IsSize o x to
       made {s3 = s3} {to = to} {a = a} {b = b} {c = c} {t = t} {u = u} {v = v} e (a_number_token {a = g} {t = w} {rest = s2}) p q =
           subst (λ z. IsSize z (number_at g w) to) (sym (e ∙ ap (λ z. tok a word.OpenItem t ∷ tok g word.Number w ∷ z) (p ∙ ap (λ z. tok b word.CloseItem u ∷ z) q))) a_size
 
@@ -202,14 +202,14 @@ module _ (source : LexedText) (d at inside : ℕ) (old t1 : List Lexeme) (k : Ne
       (λ n s r. size_enters h.1 n s r ∙ a.1 n (only word.CloseItem ∷ only word.Semicolon ∷ s) (omega (arith, h.0, r)) ∙ b.1 n (only word.Semicolon ∷ s) r) (λ s r. r) f
 
   pub element_read : (t2 t3 t4 rest : List Lexeme) (x y : Expr) → Deepens d at (Ok inside) → Comes IsExpr (expr_then []) source inside t1 x t2 → Passed word.CloseItem source d t2 t3 → Passed word.Assign source d t3 t4
-      → Comes IsEnded (expr_then (only word.Semicolon ∷ [])) source d t4 y rest → IsElement (seen source old) x y (seen source rest) × Leads (after_name ∷ []) [] source d old rest
+      → Comes IsEnded (expr_then (only word.Semicolon ∷ [])) source d t4 y rest → IsElement (terminals_of source old) x y (terminals_of source rest) × ReadsTo (after_name ∷ []) [] source d old rest
   element_read t2 t3 t4 rest x y h a b c z = (
     made (seen-next word.OpenItem source at old t1 k) a.0 (seen-next word.CloseItem source b.0.0 t2 t3 b.0.1) (seen-next word.Assign source c.0.0 t3 t4 c.0.1) z.0,
     λ n s f. element_enters h.1 n s f ∙ a.1 n (only word.CloseItem ∷ only word.Assign ∷ expr_then (only word.Semicolon ∷ s)) (omega (arith, h.0, f)) ∙ b.1 n (only word.Assign ∷ expr_then (only word.Semicolon ∷ s)) f
         ∙ c.1 n (expr_then (only word.Semicolon ∷ s)) f ∙ z.1 n s f,
   )
     where
-      made : {o s1 s2 s3 s4 to : List Token} {x y : Expr} {a b c : ℕ} {t u v : List ℕ} → o ≡ tok a word.OpenItem t ∷ s1 → IsExpr s1 x s2 → s2 ≡ tok b word.CloseItem u ∷ s3 → s3 ≡ tok c word.Assign v ∷ s4 → IsEnded s4 y to → IsElement o x y to
+      made : {o s1 s2 s3 s4 to : List Terminal} {x y : Expr} {a b c : ℕ} {t u v : List ℕ} → o ≡ tok a word.OpenItem t ∷ s1 → IsExpr s1 x s2 → s2 ≡ tok b word.CloseItem u ∷ s3 → s3 ≡ tok c word.Assign v ∷ s4 → IsEnded s4 y to → IsElement o x y to
       made {s1 = s1} {to = to} {x = x} {y = y} {b = b} {u = u} e p f g (ended q) =
           subst (λ z. IsElement z x y to) (sym e) (an_element (subst (IsExpr s1 x) (f ∙ ap (λ z. tok b word.CloseItem u ∷ z) g) p) q)
 
@@ -250,47 +250,47 @@ no_stmt (l ∷ ls) bytes h = go l.word h
     go _ h = refl
 
 abbrev pub ComesAct : LexedText → ℕ → Lexeme → List Lexeme → Act → List Lexeme → Type 0
-ComesAct source d l rest x last = IsStmt (seen source (l ∷ rest)) (stmt_at l.start x) (seen source last) × Leads (stmts ∷ []) (stmts ∷ []) source d (l ∷ rest) last
+ComesAct source d l rest x last = IsStmt (terminals_of source (l ∷ rest)) (stmt_at l.start x) (terminals_of source last) × ReadsTo (stmts ∷ []) (stmts ∷ []) source d (l ∷ rest) last
 
 module _ (source : LexedText) (d : ℕ) (l : Lexeme) (rest : List Lexeme) where
-  pub stmt_token : (w : Word) → l.word ≡ w → seen source (l ∷ rest) ≡ tok l.start w (text_of source.bytes.now l) ∷ seen source rest
+  pub stmt_token : (w : Word) → l.word ≡ w → terminals_of source (l ∷ rest) ≡ tok l.start w (text_of source.bytes.now l) ∷ terminals_of source rest
   stmt_token w p = seen-next w source l.start (l ∷ rest) rest (first_is l (l ∷ rest) rest refl p)
 
   pub stmt_enters : (w : Word) (next : List Sym) → l.word ≡ w → is_unlimited w ≡ true → ((text : List ℕ) (s : List Sym) → consume w text (stmts ∷ s) ≡ Some (next ++ stmts ∷ s)) → ((s : List Sym) → nesting (next ++ stmts ∷ s) ≡ nesting s) → d ≤ 64
-      → (n : ℕ) (s : List Sym) → nesting s ≡ d → judge (text_end source) n (stmts ∷ s) (seen source (l ∷ rest)) ≡ judge (text_end source) n (next ++ stmts ∷ s) (seen source rest)
+      → (n : ℕ) (s : List Sym) → nesting s ≡ d → judge (text_end source) n (stmts ∷ s) (terminals_of source (l ∷ rest)) ≡ judge (text_end source) n (next ++ stmts ∷ s) (terminals_of source rest)
   stmt_enters w next p q g k h = λ n s f.
       let same = k s in
       ap (judge (text_end source) n (stmts ∷ s)) (stmt_token w p)
-      ∙ taken (text_end source) n l.start w (text_of source.bytes.now l) (stmts ∷ s) (next ++ stmts ∷ s) (seen source rest) q (omega (arith, same)) (g (text_of source.bytes.now l) s)
+      ∙ taken (text_end source) n l.start w (text_of source.bytes.now l) (stmts ∷ s) (next ++ stmts ∷ s) (terminals_of source rest) q (omega (arith, same)) (g (text_of source.bytes.now l) s)
 
   -- let
 
-  let_enters : l.word ≡ word.Let → d ≤ 64 → Leads (stmts ∷ []) (only word.Name ∷ after_let ∷ stmts ∷ []) source d (l ∷ rest) rest
+  let_enters : l.word ≡ word.Let → d ≤ 64 → ReadsTo (stmts ∷ []) (only word.Name ∷ after_let ∷ stmts ∷ []) source d (l ∷ rest) rest
   let_enters p h = stmt_enters word.Let (only word.Name ∷ after_let ∷ []) p refl (λ t s. refl) (λ s. refl) h
 
   assign_enters : (a : Sym) (at : ℕ) (t1 t2 : List Lexeme) → ((text : List ℕ) (s : List Sym) → consume word.Assign text (a ∷ s) ≡ Some (machine.right ∷ only word.Semicolon ∷ s)) → d ≤ 64 → NextIs word.Assign at t1 t2
-      → Leads (a ∷ []) (machine.right ∷ only word.Semicolon ∷ []) source d t1 t2
+      → ReadsTo (a ∷ []) (machine.right ∷ only word.Semicolon ∷ []) source d t1 t2
   assign_enters a at t1 t2 g h k = λ n s f.
       ap (judge (text_end source) n (a ∷ s)) (seen-next word.Assign source at t1 t2 k)
-      ∙ taken (text_end source) n at word.Assign (text_of source.bytes.now k.0) (a ∷ s) (machine.right ∷ only word.Semicolon ∷ s) (seen source t2) refl (omega arith) (g (text_of source.bytes.now k.0) s)
+      ∙ taken (text_end source) n at word.Assign (text_of source.bytes.now k.0) (a ∷ s) (machine.right ∷ only word.Semicolon ∷ s) (terminals_of source t2) refl (omega arith) (g (text_of source.bytes.now k.0) s)
 
   pub let_read : (at : ℕ) (t1 t2 last : List Lexeme) (x : Name) (r : Right) → l.word ≡ word.Let → d ≤ 64 → Comes IsName (only word.Name ∷ []) source d rest x t1 → NextIs word.Assign at t1 t2
       → Comes IsValueOf (machine.right ∷ only word.Semicolon ∷ []) source d t2 r last → ComesAct source d l rest (act.Let x r) last
   let_read at t1 t2 last x r p h a k b = (
-    subst (λ z. IsStmt z (stmt_at l.start (act.Let x r)) (seen source last)) (sym (stmt_token word.Let p)) (made a.0 (seen-next word.Assign source at t1 t2 k) b.0),
+    subst (λ z. IsStmt z (stmt_at l.start (act.Let x r)) (terminals_of source last)) (sym (stmt_token word.Let p)) (made a.0 (seen-next word.Assign source at t1 t2 k) b.0),
     λ n s f. let_enters p h n s f ∙ a.1 n (after_let ∷ stmts ∷ s) f ∙ assign_enters after_let at t1 t2 (λ t s. refl) h k n (stmts ∷ s) f ∙ b.1 n (stmts ∷ s) f,
   )
     where
-      made : {o s1 s2 to : List Token} {x : Name} {r : Right} {a c : ℕ} {t v : List ℕ} → IsName o x s1 → s1 ≡ tok c word.Assign v ∷ s2 → IsValueOf s2 r to → IsStmt (tok a word.Let t ∷ o) (stmt_at a (act.Let x r)) to
+      made : {o s1 s2 to : List Terminal} {x : Name} {r : Right} {a c : ℕ} {t v : List ℕ} → IsName o x s1 → s1 ≡ tok c word.Assign v ∷ s2 → IsValueOf s2 r to → IsStmt (tok a word.Let t ∷ o) (stmt_at a (act.Let x r)) to
       made {to = to} {r = r} {a = a} {t = t} (a_name_token {a = b} {t = u}) e (value_of d) = subst (λ z. IsStmt (tok a word.Let t ∷ tok b word.Name u ∷ z) (stmt_at a (act.Let (name_at b u) r)) to) (sym e) (a_let d)
 
   pub array_read : (t1 last : List Lexeme) (x : Name) (m : Number) → l.word ≡ word.Let → d ≤ 64 → Comes IsName (only word.Name ∷ []) source d rest x t1 → Comes IsSize (after_let ∷ []) source d t1 m last → ComesAct source d l rest (act.Array x m) last
   array_read t1 last x m p h a b = (
-    subst (λ z. IsStmt z (stmt_at l.start (act.Array x m)) (seen source last)) (sym (stmt_token word.Let p)) (made a.0 b.0),
+    subst (λ z. IsStmt z (stmt_at l.start (act.Array x m)) (terminals_of source last)) (sym (stmt_token word.Let p)) (made a.0 b.0),
     λ n s f. let_enters p h n s f ∙ a.1 n (after_let ∷ stmts ∷ s) f ∙ b.1 n (stmts ∷ s) f,
   )
     where
-      made : {o s1 to : List Token} {x : Name} {m : Number} {a : ℕ} {t : List ℕ} → IsName o x s1 → IsSize s1 m to → IsStmt (tok a word.Let t ∷ o) (stmt_at a (act.Array x m)) to
+      made : {o s1 to : List Terminal} {x : Name} {m : Number} {a : ℕ} {t : List ℕ} → IsName o x s1 → IsSize s1 m to → IsStmt (tok a word.Let t ∷ o) (stmt_at a (act.Array x m)) to
       made a_name_token a_size = an_array
 
   pub let_err_name : (e : SyntaxError) → l.word ≡ word.Let → d ≤ 64 → Errs (only word.Name ∷ []) source d rest e → Errs (stmts ∷ []) source d (l ∷ rest) e
@@ -306,38 +306,38 @@ module _ (source : LexedText) (d : ℕ) (l : Lexeme) (rest : List Lexeme) where
 
   -- a name
 
-  named : (x : Name) → l.word ≡ word.Name → d ≤ 64 → ReadsName source l (Ok x) → Leads (stmts ∷ []) (after_name ∷ stmts ∷ []) source d (l ∷ rest) rest
+  named : (x : Name) → l.word ≡ word.Name → d ≤ 64 → ReadsName source l (Ok x) → ReadsTo (stmts ∷ []) (after_name ∷ stmts ∷ []) source d (l ∷ rest) rest
   named x p h k = λ n s f.
       ap (judge (text_end source) n (stmts ∷ s)) (stmt_token word.Name p)
-      ∙ name_taken (text_end source) n l.start (text_of source.bytes.now l) (stmts ∷ s) (after_name ∷ stmts ∷ s) (seen source rest) k.1 (omega arith) refl
+      ∙ name_taken (text_end source) n l.start (text_of source.bytes.now l) (stmts ∷ s) (after_name ∷ stmts ∷ s) (terminals_of source rest) k.1 (omega arith) refl
 
   pub stmt_name_err : (e : SyntaxError) → l.word ≡ word.Name → ReadsName source l (Err e) → Errs (stmts ∷ []) source d (l ∷ rest) e
   stmt_name_err Memory p k = tt
   stmt_name_err (Bad number at) p k = λ n s f.
       let fault : ◌≡◌ {A = Option (ℕ × ℕ)} (Some (4, l.start)) (Some (number, at)) = cc in
       ap (judge (text_end source) n (stmts ∷ s)) (stmt_token word.Name p)
-      ∙ name_long (text_end source) n l.start (text_of source.bytes.now l) (stmts ∷ s) (after_name ∷ stmts ∷ s) (seen source rest) k.0 refl ∙ fault
+      ∙ name_long (text_end source) n l.start (text_of source.bytes.now l) (stmts ∷ s) (after_name ∷ stmts ∷ s) (terminals_of source rest) k.0 refl ∙ fault
 
   pub set_read : (at : ℕ) (t1 last : List Lexeme) (x : Name) (r : Right) → l.word ≡ word.Name → d ≤ 64 → ReadsName source l (Ok x) → NextIs word.Assign at rest t1 → Comes IsValueOf (machine.right ∷ only word.Semicolon ∷ []) source d t1 r last
       → ComesAct source d l rest (act.Set x r) last
   set_read at t1 last x r p h k g b = (
-    subst (λ z. IsStmt z (stmt_at l.start (act.Set x r)) (seen source last)) (sym (stmt_token word.Name p))
-        (subst (λ z. IsStmt (tok l.start word.Name (text_of source.bytes.now l) ∷ seen source rest) (stmt_at l.start (act.Set z r)) (seen source last)) (sym k.0) (made (seen-next word.Assign source at rest t1 g) b.0)),
+    subst (λ z. IsStmt z (stmt_at l.start (act.Set x r)) (terminals_of source last)) (sym (stmt_token word.Name p))
+        (subst (λ z. IsStmt (tok l.start word.Name (text_of source.bytes.now l) ∷ terminals_of source rest) (stmt_at l.start (act.Set z r)) (terminals_of source last)) (sym k.0) (made (seen-next word.Assign source at rest t1 g) b.0)),
     λ n s f. named x p h k n s f ∙ assign_enters after_name at rest t1 (λ t s. refl) h g n (stmts ∷ s) f ∙ b.1 n (stmts ∷ s) f,
   )
     where
-      made : {o s1 to : List Token} {r : Right} {a c : ℕ} {t v : List ℕ} → o ≡ tok c word.Assign v ∷ s1 → IsValueOf s1 r to → IsStmt (tok a word.Name t ∷ o) (stmt_at a (act.Set (name_at a t) r)) to
+      made : {o s1 to : List Terminal} {r : Right} {a c : ℕ} {t v : List ℕ} → o ≡ tok c word.Assign v ∷ s1 → IsValueOf s1 r to → IsStmt (tok a word.Name t ∷ o) (stmt_at a (act.Set (name_at a t) r)) to
       made {to = to} {r = r} {a = a} {t = t} e (value_of d) = subst (λ z. IsStmt (tok a word.Name t ∷ z) (stmt_at a (act.Set (name_at a t) r)) to) (sym e) (a_set d)
 
-  pub store_read : (last : List Lexeme) (x : Name) (y z : Expr) → l.word ≡ word.Name → d ≤ 64 → ReadsName source l (Ok x) → IsElement (seen source rest) y z (seen source last) → Leads (after_name ∷ []) [] source d rest last
+  pub store_read : (last : List Lexeme) (x : Name) (y z : Expr) → l.word ≡ word.Name → d ≤ 64 → ReadsName source l (Ok x) → IsElement (terminals_of source rest) y z (terminals_of source last) → ReadsTo (after_name ∷ []) [] source d rest last
       → ComesAct source d l rest (act.Store x y z) last
   store_read last x y z p h k a b = (
-    subst (λ q. IsStmt q (stmt_at l.start (act.Store x y z)) (seen source last)) (sym (stmt_token word.Name p))
-        (subst (λ q. IsStmt (tok l.start word.Name (text_of source.bytes.now l) ∷ seen source rest) (stmt_at l.start (act.Store q y z)) (seen source last)) (sym k.0) (made a)),
+    subst (λ q. IsStmt q (stmt_at l.start (act.Store x y z)) (terminals_of source last)) (sym (stmt_token word.Name p))
+        (subst (λ q. IsStmt (tok l.start word.Name (text_of source.bytes.now l) ∷ terminals_of source rest) (stmt_at l.start (act.Store q y z)) (terminals_of source last)) (sym k.0) (made a)),
     λ n s f. named x p h k n s f ∙ b n (stmts ∷ s) f,
   )
     where
-      made : {o to : List Token} {y z : Expr} {a : ℕ} {t : List ℕ} → IsElement o y z to → IsStmt (tok a word.Name t ∷ o) (stmt_at a (act.Store (name_at a t) y z)) to
+      made : {o to : List Terminal} {y z : Expr} {a : ℕ} {t : List ℕ} → IsElement o y z to → IsStmt (tok a word.Name t ∷ o) (stmt_at a (act.Store (name_at a t) y z)) to
       made (an_element p q) = a_store p q
 
   pub set_err : (at : ℕ) (t1 : List Lexeme) (x : Name) (e : SyntaxError) → l.word ≡ word.Name → d ≤ 64 → ReadsName source l (Ok x) → NextIs word.Assign at rest t1 → Errs (machine.right ∷ only word.Semicolon ∷ []) source d t1 e → Errs (stmts ∷ []) source d (l ∷ rest) e
@@ -351,60 +351,60 @@ module _ (source : LexedText) (d : ℕ) (l : Lexeme) (rest : List Lexeme) where
 
   pub spawn_read : (last : List Lexeme) (x : CallText) → l.word ≡ word.Spawn → d ≤ 64 → Comes IsCallOf (only word.Name ∷ call_args ∷ only word.Semicolon ∷ []) source d rest x last → ComesAct source d l rest (act.Spawn x) last
   spawn_read last x p h a = (
-    subst (λ z. IsStmt z (stmt_at l.start (act.Spawn x)) (seen source last)) (sym (stmt_token word.Spawn p)) (made a.0),
+    subst (λ z. IsStmt z (stmt_at l.start (act.Spawn x)) (terminals_of source last)) (sym (stmt_token word.Spawn p)) (made a.0),
     λ n s f. stmt_enters word.Spawn (only word.Name ∷ call_args ∷ only word.Semicolon ∷ []) p refl (λ t s. refl) (λ s. refl) h n s f ∙ a.1 n (stmts ∷ s) f,
   )
     where
-      made : {o to : List Token} {x : CallText} {a : ℕ} {t : List ℕ} → IsCallOf o x to → IsStmt (tok a word.Spawn t ∷ o) (stmt_at a (act.Spawn x)) to
+      made : {o to : List Terminal} {x : CallText} {a : ℕ} {t : List ℕ} → IsCallOf o x to → IsStmt (tok a word.Spawn t ∷ o) (stmt_at a (act.Spawn x)) to
       made (call_of d) = a_spawn d
 
   pub call_stmt_read : (last : List Lexeme) (x : CallText) → l.word ≡ word.Call → d ≤ 64 → Comes IsCallOf (only word.Name ∷ call_args ∷ only word.Semicolon ∷ []) source d rest x last → ComesAct source d l rest (act.Call x) last
   call_stmt_read last x p h a = (
-    subst (λ z. IsStmt z (stmt_at l.start (act.Call x)) (seen source last)) (sym (stmt_token word.Call p)) (made a.0),
+    subst (λ z. IsStmt z (stmt_at l.start (act.Call x)) (terminals_of source last)) (sym (stmt_token word.Call p)) (made a.0),
     λ n s f. stmt_enters word.Call (only word.Name ∷ call_args ∷ only word.Semicolon ∷ []) p refl (λ t s. refl) (λ s. refl) h n s f ∙ a.1 n (stmts ∷ s) f,
   )
     where
-      made : {o to : List Token} {x : CallText} {a : ℕ} {t : List ℕ} → IsCallOf o x to → IsStmt (tok a word.Call t ∷ o) (stmt_at a (act.Call x)) to
+      made : {o to : List Terminal} {x : CallText} {a : ℕ} {t : List ℕ} → IsCallOf o x to → IsStmt (tok a word.Call t ∷ o) (stmt_at a (act.Call x)) to
       made (call_of d) = a_call_stmt d
 
   pub sync_read : (last : List Lexeme) → l.word ≡ word.Sync → d ≤ 64 → Passed word.Semicolon source d rest last → ComesAct source d l rest act.Sync last
   sync_read last p h a = (
-    subst (λ z. IsStmt z (stmt_at l.start act.Sync) (seen source last)) (sym (stmt_token word.Sync p ∙ ap (λ z. tok l.start word.Sync (text_of source.bytes.now l) ∷ z) (seen-next word.Semicolon source a.0.0 rest last a.0.1))) a_sync,
+    subst (λ z. IsStmt z (stmt_at l.start act.Sync) (terminals_of source last)) (sym (stmt_token word.Sync p ∙ ap (λ z. tok l.start word.Sync (text_of source.bytes.now l) ∷ z) (seen-next word.Semicolon source a.0.0 rest last a.0.1))) a_sync,
     λ n s f. stmt_enters word.Sync (only word.Semicolon ∷ []) p refl (λ t s. refl) (λ s. refl) h n s f ∙ a.1 n (stmts ∷ s) f,
   )
 
   pub print_read : (last : List Lexeme) (x : Expr) → l.word ≡ word.Print → d ≤ 64 → Comes IsEnded (expr_then (only word.Semicolon ∷ [])) source d rest x last → ComesAct source d l rest (act.Print x) last
   print_read last x p h a = (
-    subst (λ z. IsStmt z (stmt_at l.start (act.Print x)) (seen source last)) (sym (stmt_token word.Print p)) (made a.0),
+    subst (λ z. IsStmt z (stmt_at l.start (act.Print x)) (terminals_of source last)) (sym (stmt_token word.Print p)) (made a.0),
     λ n s f. stmt_enters word.Print (expr_then (only word.Semicolon ∷ [])) p refl (λ t s. refl) (λ s. refl) h n s f ∙ a.1 n (stmts ∷ s) f,
   )
     where
-      made : {o to : List Token} {x : Expr} {a : ℕ} {t : List ℕ} → IsEnded o x to → IsStmt (tok a word.Print t ∷ o) (stmt_at a (act.Print x)) to
+      made : {o to : List Terminal} {x : Expr} {a : ℕ} {t : List ℕ} → IsEnded o x to → IsStmt (tok a word.Print t ∷ o) (stmt_at a (act.Print x)) to
       made (ended d) = a_print d
 
   pub stmt_err : (w : Word) (next : List Sym) (e : SyntaxError) → l.word ≡ w → is_unlimited w ≡ true → ((text : List ℕ) (s : List Sym) → consume w text (stmts ∷ s) ≡ Some (next ++ stmts ∷ s)) → ((s : List Sym) → nesting (next ++ stmts ∷ s) ≡ nesting s) → d ≤ 64
       → Errs next source d rest e → Errs (stmts ∷ []) source d (l ∷ rest) e
   stmt_err w next e p q g k h f = err_after (stmts ∷ []) next (stmts ∷ []) source d d (l ∷ rest) rest e
-      (λ n s r. stmt_enters w next p q g k h n s r ∙ ap (λ z. judge (text_end source) n z (seen source rest)) (sym (append_assoc next (stmts ∷ []) s))) (λ s r. r) f
+      (λ n s r. stmt_enters w next p q g k h n s r ∙ ap (λ z. judge (text_end source) n z (terminals_of source rest)) (sym (append_assoc next (stmts ∷ []) s))) (λ s r. r) f
 
   -- if and while
 
-  if_enters : l.word ≡ word.If → d ≤ 64 → Leads (stmts ∷ []) (expr_then (block ∷ otherwise ∷ stmts ∷ [])) source d (l ∷ rest) rest
+  if_enters : l.word ≡ word.If → d ≤ 64 → ReadsTo (stmts ∷ []) (expr_then (block ∷ otherwise ∷ stmts ∷ [])) source d (l ∷ rest) rest
   if_enters p h = stmt_enters word.If (expr_then (block ∷ otherwise ∷ [])) p refl (λ t s. refl) (λ s. refl) h
 
-  while_enters : l.word ≡ word.While → d ≤ 64 → Leads (stmts ∷ []) (expr_then (block ∷ stmts ∷ [])) source d (l ∷ rest) rest
+  while_enters : l.word ≡ word.While → d ≤ 64 → ReadsTo (stmts ∷ []) (expr_then (block ∷ stmts ∷ [])) source d (l ∷ rest) rest
   while_enters p h = stmt_enters word.While (expr_then (block ∷ [])) p refl (λ t s. refl) (λ s. refl) h
 
   pub if_read : (t1 t2 last : List Lexeme) (x : Expr) (p q : List Stmt) → l.word ≡ word.If → d ≤ 64 → Comes IsExpr (expr_then []) source d rest x t1 → Comes IsBlock (block ∷ []) source d t1 p t2 → Comes IsElse (otherwise ∷ []) source d t2 q last
       → ComesAct source d l rest (act.If x p q) last
   if_read t1 t2 last x p q w h a b c = (
-    subst (λ z. IsStmt z (stmt_at l.start (act.If x p q)) (seen source last)) (sym (stmt_token word.If w)) (an_if a.0 b.0 c.0),
+    subst (λ z. IsStmt z (stmt_at l.start (act.If x p q)) (terminals_of source last)) (sym (stmt_token word.If w)) (an_if a.0 b.0 c.0),
     λ n s f. if_enters w h n s f ∙ a.1 n (block ∷ otherwise ∷ stmts ∷ s) f ∙ b.1 n (otherwise ∷ stmts ∷ s) f ∙ c.1 n (stmts ∷ s) f,
   )
 
   pub while_read : (t1 last : List Lexeme) (x : Expr) (p : List Stmt) → l.word ≡ word.While → d ≤ 64 → Comes IsExpr (expr_then []) source d rest x t1 → Comes IsBlock (block ∷ []) source d t1 p last → ComesAct source d l rest (act.While x p) last
   while_read t1 last x p w h a b = (
-    subst (λ z. IsStmt z (stmt_at l.start (act.While x p)) (seen source last)) (sym (stmt_token word.While w)) (a_while a.0 b.0),
+    subst (λ z. IsStmt z (stmt_at l.start (act.While x p)) (terminals_of source last)) (sym (stmt_token word.While w)) (a_while a.0 b.0),
     λ n s f. while_enters w h n s f ∙ a.1 n (block ∷ stmts ∷ s) f ∙ b.1 n (stmts ∷ s) f,
   )
 
@@ -427,12 +427,12 @@ module _ (source : LexedText) (d : ℕ) (l : Lexeme) (rest : List Lexeme) where
 
   -- scope
 
-  scope_enters : l.word ≡ word.Scope → d ≤ 64 → Leads (stmts ∷ []) (block ∷ stmts ∷ []) source d (l ∷ rest) rest
+  scope_enters : l.word ≡ word.Scope → d ≤ 64 → ReadsTo (stmts ∷ []) (block ∷ stmts ∷ []) source d (l ∷ rest) rest
   scope_enters p h = stmt_enters word.Scope (block ∷ []) p refl (λ t s. refl) (λ s. refl) h
 
   pub scope_read : (last : List Lexeme) (p : List Stmt) → l.word ≡ word.Scope → d ≤ 64 → Comes IsBlock (block ∷ []) source d rest p last → ComesAct source d l rest (act.Scope p) last
   scope_read last p w h b = (
-    subst (λ z. IsStmt z (stmt_at l.start (act.Scope p)) (seen source last)) (sym (stmt_token word.Scope w)) (a_scope b.0),
+    subst (λ z. IsStmt z (stmt_at l.start (act.Scope p)) (terminals_of source last)) (sym (stmt_token word.Scope w)) (a_scope b.0),
     λ n s f. scope_enters w h n s f ∙ b.1 n (stmts ∷ s) f,
   )
 
@@ -447,7 +447,7 @@ block_bracket = record { needed = refl; only_rule = refl; one_level = λ s. refl
 module _ (source : LexedText) (d : ℕ) (old t1 : List Lexeme) (o : Opened word.OpenBlock source d old t1) where
   pub block_read : (t2 rest : List Lexeme) (xs : List Stmt) → Comes IsStmts (stmts ∷ []) source (d + 1) t1 xs t2 → Passed word.CloseBlock source d t2 rest → Comes IsBlock (block ∷ []) source d old xs rest
   block_read t2 rest xs a b = (
-    subst (λ z. IsBlock z xs (seen source rest)) (sym (seen-next word.OpenBlock source o.0.0 old t1 o.0.1)) (a_block (subst (IsStmts (seen source t1) xs) (seen-next word.CloseBlock source b.0.0 t2 rest b.0.1) a.0)),
+    subst (λ z. IsBlock z xs (terminals_of source rest)) (sym (seen-next word.OpenBlock source o.0.0 old t1 o.0.1)) (a_block (subst (IsStmts (terminals_of source t1) xs) (seen-next word.CloseBlock source b.0.0 t2 rest b.0.1) a.0)),
     λ n s f. o.2 block _ block_bracket n s f ∙ a.1 n (only word.CloseBlock ∷ s) (omega (arith, f)) ∙ b.1 n s f,
   )
 
@@ -459,15 +459,15 @@ module _ (source : LexedText) (d : ℕ) (old t1 : List Lexeme) (o : Opened word.
 
 module _ (source : LexedText) (d : ℕ) (old : List Lexeme) where
   pub else_missing : (xs : List Stmt) → xs ≡ [] → NextIsNot word.Else old → Comes IsElse (otherwise ∷ []) source d old xs old
-  else_missing xs e k = (subst (λ z. IsElse (seen source old) z (seen source old)) (sym e) no_else, λ n s f. skipped source n otherwise s old refl (has_none otherwise word.Else _ old source.bytes.now refl k))
+  else_missing xs e k = (subst (λ z. IsElse (terminals_of source old) z (terminals_of source old)) (sym e) no_else, λ n s f. skipped source n otherwise s old refl (has_none otherwise word.Else _ old source.bytes.now refl k))
 
-  else_enters : (at : ℕ) (t1 : List Lexeme) → d ≤ 64 → NextIs word.Else at old t1 → Leads (otherwise ∷ []) (block ∷ []) source d old t1
+  else_enters : (at : ℕ) (t1 : List Lexeme) → d ≤ 64 → NextIs word.Else at old t1 → ReadsTo (otherwise ∷ []) (block ∷ []) source d old t1
   else_enters at t1 h k = λ n s f.
       ap (judge (text_end source) n (otherwise ∷ s)) (seen-next word.Else source at old t1 k)
-      ∙ taken (text_end source) n at word.Else (text_of source.bytes.now k.0) (otherwise ∷ s) (block ∷ s) (seen source t1) refl (omega arith) refl
+      ∙ taken (text_end source) n at word.Else (text_of source.bytes.now k.0) (otherwise ∷ s) (block ∷ s) (terminals_of source t1) refl (omega arith) refl
 
   pub else_read : (at : ℕ) (t1 rest : List Lexeme) (xs : List Stmt) → d ≤ 64 → NextIs word.Else at old t1 → Comes IsBlock (block ∷ []) source d t1 xs rest → Comes IsElse (otherwise ∷ []) source d old xs rest
-  else_read at t1 rest xs h k a = (subst (λ z. IsElse z xs (seen source rest)) (sym (seen-next word.Else source at old t1 k)) (an_else a.0), λ n s f. else_enters at t1 h k n s f ∙ a.1 n s f)
+  else_read at t1 rest xs h k a = (subst (λ z. IsElse z xs (terminals_of source rest)) (sym (seen-next word.Else source at old t1 k)) (an_else a.0), λ n s f. else_enters at t1 h k n s f ∙ a.1 n s f)
 
   pub else_err : (at : ℕ) (t1 : List Lexeme) (e : SyntaxError) → d ≤ 64 → NextIs word.Else at old t1 → Errs (block ∷ []) source d t1 e → Errs (otherwise ∷ []) source d old e
   else_err at t1 e h k f = err_after (otherwise ∷ []) (block ∷ []) [] source d d old t1 e (else_enters at t1 h k) (λ s r. r) f
@@ -476,13 +476,13 @@ module _ (source : LexedText) (d : ℕ) (old : List Lexeme) where
 
 abbrev pub StmtsSoFar : LexedText → ℕ → List Lexeme → List Stmt → List Lexeme → Type 0
 StmtsSoFar source d old xs left = record {
-  so_far : (more : List Stmt) (rest : List Token) → IsStmts (seen source left) more rest → IsStmts (seen source old) (xs ++ more) rest;
-  goes : Leads (stmts ∷ []) (stmts ∷ []) source d old left;
+  so_far : (more : List Stmt) (rest : List Terminal) → IsStmts (terminals_of source left) more rest → IsStmts (terminals_of source old) (xs ++ more) rest;
+  goes : ReadsTo (stmts ∷ []) (stmts ∷ []) source d old left;
 }
 
 pub stmts_end : (source : LexedText) (d : ℕ) (old left : List Lexeme) (xs : List Stmt) → StmtsSoFar source d old xs left → NoStmt left → Comes IsStmts (stmts ∷ []) source d old xs left
 stmts_end source d old left xs i k = (
-  subst (λ z. IsStmts (seen source old) z (seen source left)) (append-nil xs) (i.so_far [] (seen source left) no_stmts),
+  subst (λ z. IsStmts (terminals_of source old) z (terminals_of source left)) (append-nil xs) (i.so_far [] (terminals_of source left) no_stmts),
   λ n s f. i.goes n s f ∙ skipped source n stmts s left refl (no_stmt left source.bytes.now k),
 )
 
@@ -490,40 +490,40 @@ pub one_more_stmt : (source : LexedText) (d : ℕ) (old left inner rest : List L
     → StmtsSoFar source d old ys rest
 one_more_stmt source d old left inner rest l xs ys x p i e a = record {
   so_far = λ more to m.
-      let one : IsStmts (seen source left) (stmt_at l.start x ∷ more) to = subst (λ z. IsStmts (seen source z) (stmt_at l.start x ∷ more) to) (sym e) (one_stmt a.0 m) in
-      subst (λ z. IsStmts (seen source old) z to) (sym (ap (λ z. z ++ more) p ∙ append_assoc xs (stmt_at l.start x ∷ []) more)) (i.so_far (stmt_at l.start x ∷ more) to one);
-  goes = λ n s f. i.goes n s f ∙ ap (λ z. judge (text_end source) n (stmts ∷ s) (seen source z)) e ∙ a.1 n s f;
+      let one : IsStmts (terminals_of source left) (stmt_at l.start x ∷ more) to = subst (λ z. IsStmts (terminals_of source z) (stmt_at l.start x ∷ more) to) (sym e) (one_stmt a.0 m) in
+      subst (λ z. IsStmts (terminals_of source old) z to) (sym (ap (λ z. z ++ more) p ∙ append_assoc xs (stmt_at l.start x ∷ []) more)) (i.so_far (stmt_at l.start x ∷ more) to one);
+  goes = λ n s f. i.goes n s f ∙ ap (λ z. judge (text_end source) n (stmts ∷ s) (terminals_of source z)) e ∙ a.1 n s f;
 }
 
 pub stmts_err : (source : LexedText) (d : ℕ) (old left inner : List Lexeme) (l : Lexeme) (xs : List Stmt) (g : SyntaxError) → StmtsSoFar source d old xs left → left ≡ l ∷ inner → Errs (stmts ∷ []) source d (l ∷ inner) g → Errs (stmts ∷ []) source d old g
-stmts_err source d old left inner l xs g i e f = err_after (stmts ∷ []) (stmts ∷ []) [] source d d old (l ∷ inner) g (λ n s r. i.goes n s r ∙ ap (λ z. judge (text_end source) n (stmts ∷ s) (seen source z)) e) (λ s r. r) f
+stmts_err source d old left inner l xs g i e f = err_after (stmts ∷ []) (stmts ∷ []) [] source d d old (l ∷ inner) g (λ n s r. i.goes n s r ∙ ap (λ z. judge (text_end source) n (stmts ∷ s) (terminals_of source z)) e) (λ s r. r) f
 
 -- What was read is shorter
 
-more_args_shorter : {ts rest : List Token} {xs : List Expr} → IsMoreArgs ts xs rest → length rest ≤ length ts
+more_args_shorter : {ts rest : List Terminal} {xs : List Expr} → IsMoreArgs ts xs rest → length rest ≤ length ts
 more_args_shorter no_more_args = omega arith
 more_args_shorter (one_more_arg d e) = omega (arith, expr_shorter d, more_args_shorter e)
 
-args_shorter : {ts rest : List Token} {xs : List Expr} → IsArgs ts xs rest → length rest ≤ length ts
+args_shorter : {ts rest : List Terminal} {xs : List Expr} → IsArgs ts xs rest → length rest ≤ length ts
 args_shorter no_args = omega arith
 args_shorter (some_args d e) = omega (arith, expr_shorter d, more_args_shorter e)
 
-call_shorter : {ts rest : List Token} {c : CallText} → IsCall ts c rest → length rest < length ts
+call_shorter : {ts rest : List Terminal} {c : CallText} → IsCall ts c rest → length rest < length ts
 call_shorter (a_call d) = omega (arith, args_shorter d)
 
-right_shorter : {ts rest : List Token} {r : Right} → IsRight ts r rest → length rest < length ts
+right_shorter : {ts rest : List Terminal} {r : Right} → IsRight ts r rest → length rest < length ts
 right_shorter (right_value d) = expr_shorter d
 right_shorter right_draw = omega arith
 right_shorter right_new = omega arith
 right_shorter (right_call d) = omega (arith, call_shorter d)
 right_shorter (right_spawn d) = omega (arith, call_shorter d)
 
-into_shorter : {ts rest : List Token} {o : Option Name} → IsInto ts o rest → length rest ≤ length ts
+into_shorter : {ts rest : List Terminal} {o : Option Name} → IsInto ts o rest → length rest ≤ length ts
 into_shorter no_into = omega arith
 into_shorter an_into = omega arith
 
 mutual
-  pub stmt_shorter : {ts rest : List Token} {x : Stmt} → IsStmt ts x rest → length rest < length ts
+  pub stmt_shorter : {ts rest : List Terminal} {x : Stmt} → IsStmt ts x rest → length rest < length ts
   stmt_shorter (a_let d) = omega (arith, right_shorter d)
   stmt_shorter an_array = omega arith
   stmt_shorter (a_set d) = omega (arith, right_shorter d)
@@ -537,19 +537,19 @@ mutual
   stmt_shorter (a_pfor d e f g) = omega (arith, expr_shorter d, expr_shorter e, into_shorter f, more_args_shorter g)
   stmt_shorter (a_scope d) = omega (arith, block_shorter d)
 
-  pub stmts_shorter : {ts rest : List Token} {xs : List Stmt} → IsStmts ts xs rest → length rest ≤ length ts
+  pub stmts_shorter : {ts rest : List Terminal} {xs : List Stmt} → IsStmts ts xs rest → length rest ≤ length ts
   stmts_shorter no_stmts = omega arith
   stmts_shorter (one_stmt d e) = omega (arith, stmt_shorter d, stmts_shorter e)
 
-  block_shorter : {ts rest : List Token} {xs : List Stmt} → IsBlock ts xs rest → length rest < length ts
+  block_shorter : {ts rest : List Terminal} {xs : List Stmt} → IsBlock ts xs rest → length rest < length ts
   block_shorter (a_block d) = omega (arith, stmts_shorter d)
 
-  else_shorter : {ts rest : List Token} {xs : List Stmt} → IsElse ts xs rest → length rest ≤ length ts
+  else_shorter : {ts rest : List Terminal} {xs : List Stmt} → IsElse ts xs rest → length rest ≤ length ts
   else_shorter no_else = omega arith
   else_shorter (an_else d) = omega (arith, block_shorter d)
 
-pub stmt_turn : (source : LexedText) (left inner rest : List Lexeme) (l : Lexeme) (x : Act) → left ≡ l ∷ inner → IsStmt (seen source (l ∷ inner)) (stmt_at l.start x) (seen source rest) → length rest < length left
+pub stmt_turn : (source : LexedText) (left inner rest : List Lexeme) (l : Lexeme) (x : Act) → left ≡ l ∷ inner → IsStmt (terminals_of source (l ∷ inner)) (stmt_at l.start x) (terminals_of source rest) → length rest < length left
 stmt_turn source left inner rest l x e a =
     let f : length left ≡ suc (length inner) = ap length e in
-    let g : length (seen source (l ∷ inner)) ≡ suc (length inner) = length-seen source (l ∷ inner) in
+    let g : length (terminals_of source (l ∷ inner)) ≡ suc (length inner) = length-seen source (l ∷ inner) in
     omega (arith, f, g, stmt_shorter a, length-seen source rest)

@@ -8,7 +8,7 @@ ghost use Rattle.script_text.specs.Reads.{Reads, AddsArgs, IsArguments};
 
 use crate::error::SyntaxError;
 use crate::parser::expression::expr;
-use crate::parser::source::{LexedText, after, expect, expect_name, open};
+use crate::parser::source::{LexedText, expect, expect_name, open, rest_after};
 use script_grammar::{CallText, Expr, Items};
 use script_tokens::{Lexeme, Word};
 
@@ -23,7 +23,7 @@ pub(crate) fn more_args<'t>(
     ensures { Reads (AddsArgs found.items) (more_args ∷ []) source.now depth tokens.now result }
 {
     let mut left = tokens;
-    while let Some((_, rest)) = after(left, Word::Comma) {
+    while let Some((_, rest)) = rest_after(left, Word::Comma) {
         let (x, rest) = expr(source, rest, depth)?;
         found.push(x)?;
         left = rest;
@@ -41,7 +41,7 @@ fn arguments<'t>(
     ensures { Reads IsArguments (args ∷ only word.Close ∷ []) source.now depth tokens.now result }
 {
     let mut found = Vec::new(source.alloc);
-    if let Some((_, rest)) = after(tokens, Word::Close) {
+    if let Some((_, rest)) = rest_after(tokens, Word::Close) {
         return Ok((Items(found), rest));
     }
     let (x, rest) = expr(source, tokens, depth + 1)?;

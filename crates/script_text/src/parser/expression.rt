@@ -8,7 +8,7 @@ ghost use Rattle.script_tokens.specs.declared.token.Word.TheVariants as word;
 
 use crate::error::SyntaxError;
 use crate::parser::source::{
-    LexedText, after, beside, deeper, expect, name_of, number_of, open, unexpected,
+    LexedText, beside, deeper, expect, name_in, number_node, open, rest_after, unexpected,
 };
 use script_grammar::{Boxed, Comparison, Expr, Items, ProductPart, ProductSign, SumPart};
 use script_tokens::{Lexeme, Word};
@@ -192,7 +192,7 @@ fn factor<'t>(
         return Err(unexpected(source, tokens));
     };
     match first.word {
-        Word::Number => Ok((Expr::Number(number_of(source, *first)?), rest)),
+        Word::Number => Ok((Expr::Number(number_node(source, *first)?), rest)),
         Word::Name => name_or_item(source, *first, rest, depth),
         Word::Minus => negation(source, *first, rest, depth),
         Word::Open => group(source, *first, rest, depth),
@@ -220,8 +220,8 @@ fn name_or_item<'t>(
     requires depth { depth ≤ 64 }
     ensures { Reads IsFactor (factor ∷ []) source.now depth (first ∷ rest.now) result }
 {
-    let name = name_of(source, first)?;
-    let Some((at, tail)) = after(rest, Word::OpenItem) else {
+    let name = name_in(source, first)?;
+    let Some((at, tail)) = rest_after(rest, Word::OpenItem) else {
         return Ok((Expr::Var(name), rest));
     };
     let inside = deeper(depth, at)?;

@@ -8,7 +8,7 @@ ghost use Rattle.script_text.specs.Reads.{Reads, ReadsBody, ReadsFunctions, Adds
 
 use crate::error::SyntaxError;
 use crate::fault::TextFault;
-use crate::parser::source::{LexedText, after, beside, expect, expect_name, open, unexpected};
+use crate::parser::source::{LexedText, beside, expect, expect_name, open, rest_after, unexpected};
 use crate::parser::statement::{ended_expr, stmts};
 use script_grammar::{Expr, Function, Items, Kind, Param, Script, Stmt};
 use script_tokens::{LexEnd, Lexeme, Word};
@@ -23,7 +23,7 @@ fn param<'t>(
     requires { depth ≤ 64 }
     ensures { Reads IsParam (param ∷ []) source.now depth tokens.now result }
 {
-    if let Some((_, rest)) = after(tokens, Word::Id) {
+    if let Some((_, rest)) = rest_after(tokens, Word::Id) {
         let (name, rest) = expect_name(source, rest, depth)?;
         return Ok((
             Param {
@@ -54,7 +54,7 @@ fn more_params<'t>(
     ensures { Reads (AddsParams found.items) (more_params ∷ []) source.now depth tokens.now result }
 {
     let mut left = tokens;
-    while let Some((_, rest)) = after(left, Word::Comma) {
+    while let Some((_, rest)) = rest_after(left, Word::Comma) {
         let (next, rest) = param(source, rest, depth)?;
         found.push(next)?;
         left = rest;
@@ -72,7 +72,7 @@ fn params<'t>(
     ensures { Reads IsParamList (params ∷ only word.Close ∷ []) source.now depth tokens.now result }
 {
     let mut found = Vec::new(source.alloc);
-    if let Some((_, rest)) = after(tokens, Word::Close) {
+    if let Some((_, rest)) = rest_after(tokens, Word::Close) {
         return Ok((Items(found), rest));
     }
     let (first, rest) = param(source, tokens, depth + 1)?;
@@ -83,7 +83,7 @@ fn params<'t>(
 }
 
 // `-> id`, if it comes.
-fn answer<'t>(
+fn answer_kind<'t>(
     source: &LexedText<'_>,
     tokens: &'t [Lexeme],
     depth: u8,
@@ -91,7 +91,7 @@ fn answer<'t>(
     requires { depth ≤ 64 }
     ensures { Reads IsAnswerKind (answer ∷ []) source.now depth tokens.now result }
 {
-    if let Some((_, rest)) = after(tokens, Word::Arrow) {
+    if let Some((_, rest)) = rest_after(tokens, Word::Arrow) {
         let rest = expect(source, rest, Word::Id, depth)?;
         return Ok((Kind::Id, rest));
     }
@@ -109,7 +109,7 @@ fn body<'t>(
 {
     let rest = open(source, tokens, Word::OpenBlock, depth)?;
     let (acts, rest) = stmts(source, rest, depth + 1)?;
-    let Some((return_at, tail)) = after(rest, Word::Return) else {
+    let Some((return_at, tail)) = rest_after(rest, Word::Return) else {
         return Err(unexpected(source, rest));
     };
     let (x, rest) = ended_expr(source, tail, depth + 1)?;
@@ -128,7 +128,7 @@ fn function<'t>(
     let (name, rest) = expect_name(source, tokens, 0)?;
     let rest = open(source, rest, Word::Open, 0)?;
     let (params, rest) = params(source, rest, 0)?;
-    let (answer, rest) = answer(source, rest, 0)?;
+    let (answer, rest) = answer_kind(source, rest, 0)?;
     let (body, return_at, result, rest) = body(source, rest, 0)?;
     Ok((
         Function {
@@ -151,7 +151,7 @@ fn functions<'t>(
 {
     let mut found = Vec::new(source.alloc);
     let mut left = tokens;
-    while let Some((at, rest)) = after(left, Word::Fn) {
+    while let Some((at, rest)) = rest_after(left, Word::Fn) {
         if found.len() >= MOST_FUNCTIONS {
             return Err(TextFault::TooManyFunctions.at(at));
         }

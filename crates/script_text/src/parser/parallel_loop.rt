@@ -10,7 +10,7 @@ use crate::error::SyntaxError;
 use crate::parser::call::more_args;
 use crate::parser::expression::expr;
 use crate::parser::source::{
-    LexedText, after, beside, expect, expect_name, name_of, next, open, text, unexpected,
+    LexedText, beside, expect, expect_name, name_in, next, open, rest_after, text, unexpected,
 };
 use script_grammar::{Act, CallText, Expr, Name};
 use script_tokens::{Lexeme, Word};
@@ -29,7 +29,7 @@ pub(crate) fn pfor<'t>(
     let Some((lexeme, tail)) = next(rest, Word::Name) else {
         return Err(unexpected(source, rest));
     };
-    let var = name_of(source, lexeme)?;
+    let var = name_in(source, lexeme)?;
     let (lo, hi, rest) = bounds(source, tail, depth)?;
     let ((lo, hi), (target, rest)) = beside((lo, hi), target(source, rest, depth))?;
     let ((lo, hi, target), (call, rest)) = beside(
@@ -73,7 +73,7 @@ fn target<'t>(
     requires { depth ≤ 64 }
     ensures { Reads IsInto (into ∷ []) source.now depth tokens.now result }
 {
-    if let Some((_, rest)) = after(tokens, Word::Into) {
+    if let Some((_, rest)) = rest_after(tokens, Word::Into) {
         let (name, rest) = expect_name(source, rest, depth)?;
         return Ok((Some(name), rest));
     }

@@ -5,7 +5,7 @@ ghost use Rattle.script_tokens.specs.Lexing.{text_of};
 ghost use Rattle.script_tokens.specs.declared.token.Word.TheVariants as word;
 ghost use Rattle.script_text.specs.Beside.{Beside};
 ghost use Rattle.script_text.specs.Machine.{only};
-ghost use Rattle.script_text.specs.Reads.{IsUnlimited, IsValue, IsName, IsNumber, ReadsName, ReadsNumber, NextIs, NextIsNot, NextLexeme, PassesWord, Opens, Deepens, Reads, unexpected_in};
+ghost use Rattle.script_text.specs.Reads.{IsUnlimited, IsValue, IsName, IsNumber, ReadsName, ReadsNumber, NextIs, NextIsNot, NextLexeme, PassesWord, OpensBracket, Deepens, Reads, unexpected_in};
 
 use crate::error::SyntaxError;
 use crate::fault::TextFault;
@@ -39,7 +39,7 @@ pub(crate) fn text<'a>(source: &LexedText<'a>, lexeme: Lexeme) -> &'a [u8]
     &bytes[start..end]
 }
 
-pub(crate) fn name_of(source: &LexedText<'_>, lexeme: Lexeme) -> Result<Name, SyntaxError>
+pub(crate) fn name_in(source: &LexedText<'_>, lexeme: Lexeme) -> Result<Name, SyntaxError>
     ensures { ReadsName source.now lexeme result }
 {
     let text = text(source, lexeme);
@@ -52,7 +52,7 @@ pub(crate) fn name_of(source: &LexedText<'_>, lexeme: Lexeme) -> Result<Name, Sy
     })
 }
 
-pub(crate) fn number_of(source: &LexedText<'_>, lexeme: Lexeme) -> Result<Number, SyntaxError>
+pub(crate) fn number_node(source: &LexedText<'_>, lexeme: Lexeme) -> Result<Number, SyntaxError>
     ensures { ReadsNumber source.now lexeme result }
 {
     match decimal_value(text(source, lexeme)) {
@@ -92,7 +92,7 @@ pub(crate) fn next(tokens: &[Lexeme], word: Word) -> Option<(Lexeme, &[Lexeme])>
 }
 
 // The place of the word and what stands after it, where it comes next.
-pub(crate) fn after(tokens: &[Lexeme], word: Word) -> Option<(u32, &[Lexeme])>
+pub(crate) fn rest_after(tokens: &[Lexeme], word: Word) -> Option<(u32, &[Lexeme])>
     ensures { MatchOption result (NextIsNot word tokens.now) (λ p. NextIs word p.0 tokens.now p.1.now) }
 {
     let (lexeme, rest) = next(tokens, word)?;
@@ -134,7 +134,7 @@ pub(crate) fn expect<'t>(
     requires depth { depth ≤ 64 }
     ensures { PassesWord word source.now depth tokens.now result }
 {
-    match after(tokens, word) {
+    match rest_after(tokens, word) {
         Some((_, rest)) => Ok(rest),
         None => Err(unexpected(source, tokens)),
     }
@@ -149,9 +149,9 @@ pub(crate) fn open<'t>(
 ) -> Result<&'t [Lexeme], SyntaxError>
     requires plain { IsUnlimited word }
     requires depth { depth ≤ 64 }
-    ensures { Opens word source.now depth tokens.now result }
+    ensures { OpensBracket word source.now depth tokens.now result }
 {
-    match after(tokens, word) {
+    match rest_after(tokens, word) {
         Some((at, rest)) => {
             deeper(depth, at)?;
             Ok(rest)
@@ -182,7 +182,7 @@ pub(crate) fn expect_name<'t>(
     ensures { Reads IsName (only word.Name ∷ []) source.now depth tokens.now result }
 {
     match next(tokens, Word::Name) {
-        Some((lexeme, rest)) => Ok((name_of(source, lexeme)?, rest)),
+        Some((lexeme, rest)) => Ok((name_in(source, lexeme)?, rest)),
         None => Err(unexpected(source, tokens)),
     }
 }
@@ -196,7 +196,7 @@ pub(crate) fn expect_number<'t>(
     ensures { Reads IsNumber (only word.Number ∷ []) source.now depth tokens.now result }
 {
     match next(tokens, Word::Number) {
-        Some((lexeme, rest)) => Ok((number_of(source, lexeme)?, rest)),
+        Some((lexeme, rest)) => Ok((number_node(source, lexeme)?, rest)),
         None => Err(unexpected(source, tokens)),
     }
 }

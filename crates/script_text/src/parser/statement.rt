@@ -11,7 +11,8 @@ use crate::parser::call::call;
 use crate::parser::expression::expr;
 use crate::parser::parallel_loop::pfor;
 use crate::parser::source::{
-    LexedText, after, beside, deeper, expect, expect_name, expect_number, name_of, open, unexpected,
+    LexedText, beside, deeper, expect, expect_name, expect_number, name_in, open, rest_after,
+    unexpected,
 };
 use script_grammar::{Act, CallText, Expr, Items, Number, Right, Stmt};
 use script_tokens::{Lexeme, Word};
@@ -96,7 +97,7 @@ fn array_size<'t>(
     requires depth { depth ≤ 64 }
     ensures { Reads IsSize (after_let ∷ []) source.now depth tokens.now result }
 {
-    let Some((at, rest)) = after(tokens, Word::OpenItem) else {
+    let Some((at, rest)) = rest_after(tokens, Word::OpenItem) else {
         return Err(unexpected(source, tokens));
     };
     let inside = deeper(depth, at)?;
@@ -116,7 +117,7 @@ fn element<'t>(
     requires depth { depth ≤ 64 }
     ensures { ReadsElement source.now depth tokens.now result }
 {
-    let Some((at, rest)) = after(tokens, Word::OpenItem) else {
+    let Some((at, rest)) = rest_after(tokens, Word::OpenItem) else {
         return Err(unexpected(source, tokens));
     };
     let inside = deeper(depth, at)?;
@@ -139,7 +140,7 @@ fn declaration<'t>(
     ensures { ReadsAct source.now depth first rest.now result }
 {
     let (name, rest) = expect_name(source, rest, depth)?;
-    if let Some((_, rest)) = after(rest, Word::Assign) {
+    if let Some((_, rest)) = rest_after(rest, Word::Assign) {
         let (side, rest) = value(source, rest, depth)?;
         return Ok((Act::Let(name, side), rest));
     }
@@ -158,8 +159,8 @@ fn assignment<'t>(
     requires depth { depth ≤ 64 }
     ensures { ReadsAct source.now depth first rest.now result }
 {
-    let name = name_of(source, first)?;
-    if let Some((_, rest)) = after(rest, Word::Assign) {
+    let name = name_in(source, first)?;
+    if let Some((_, rest)) = rest_after(rest, Word::Assign) {
         let (side, rest) = value(source, rest, depth)?;
         return Ok((Act::Set(name, side), rest));
     }
@@ -167,7 +168,7 @@ fn assignment<'t>(
     Ok((Act::Store(name, place, x), rest))
 }
 
-fn begins(word: Word) -> bool
+fn begins_statement(word: Word) -> bool
     ensures { result ≡ begins_stmt word }
 {
     matches!(
@@ -191,7 +192,7 @@ fn next_stmt(tokens: &[Lexeme]) -> Option<(Lexeme, &[Lexeme])>
         (λ p. (tokens.now ≡ p.0 ∷ p.1.now) × (begins_stmt p.0.word ≡ true)) }
 {
     let (first, rest) = tokens.split_first()?;
-    if begins(first.word) {
+    if begins_statement(first.word) {
         Some((*first, rest))
     } else {
         None
@@ -337,7 +338,7 @@ fn otherwise<'t>(
     requires { depth ≤ 64 }
     ensures { Reads IsElse (otherwise ∷ []) source.now depth tokens.now result }
 {
-    if let Some((_, rest)) = after(tokens, Word::Else) {
+    if let Some((_, rest)) = rest_after(tokens, Word::Else) {
         let (body, rest) = block(source, rest, depth)?;
         return Ok((body, rest));
     }

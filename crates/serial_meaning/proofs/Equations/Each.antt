@@ -3,7 +3,7 @@ use Rattle.std.proofs.Common.{◌≡◌, ℕ, zero, suc, ◌+◌, ◌<◌, true,
 use Rattle.std.proofs.Common.{ℤ}
 use Rattle.std.specs.Prelude.{Contains}
 use Rattle.script_grammar.specs.declared.tree.Function.{Function}
-use Rattle.serial_meaning.specs.Runs.{Run, done, after_items, goes_on, ◌then◌}
+use Rattle.serial_meaning.specs.Runs.{Run, done, after_items, continued, ◌then◌}
 use Rattle.serial_meaning.specs.Plan.{PlanView, drawn}
 use Rattle.serial_meaning.specs.Exec.{State, Manner, strand, goes_out, frame, exec, instance, with_loop_values, fits_depth, bound}
 use Rattle.serial_meaning.proofs.RisingPedigrees.Closed.{Closed, closed-exec, returned-q}
@@ -29,7 +29,7 @@ module _ {X : Type 0} (T : X → Type 0) where
   each-contained xs x a c = let t : T (get_or xs c.0 x) = each-at xs c.0 x a c.1 in rw c.2 at t
 
   module _ {E A B : Type 0} where
-    pub each-goes_on : (items : List X) (r : Result A E) (f : A → Run X E B) → Each items → ((a : A) → Each (f a).items) → Each (goes_on items r f).items
+    pub each-goes_on : (items : List X) (r : Result A E) (f : A → Run X E B) → Each items → ((a : A) → Each (f a).items) → Each (continued items r f).items
     each-goes_on items (Ok a) f h k = each-append items (f a).items h (k a)
     each-goes_on items (Err e) f h k = h
 

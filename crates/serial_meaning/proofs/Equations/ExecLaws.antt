@@ -4,8 +4,8 @@ use Rattle.std.proofs.Common.{ℤ, ◌-ℤ◌}
 use Rattle.serial_meaning.proofs.Equations.RunLaws.{then-then, then-same, Gives, then-gives, anything, gives-at}
 use Rattle.serial_meaning.specs.Runs.{Run, done, after_items, ◌then◌}
 use Rattle.serial_meaning.specs.Values.{value_of, values_of, slot_of, items_of, as_integer, is_true, at_index}
-use Rattle.serial_meaning.specs.Functions.{number_of, function_at, any_spawns}
-use Rattle.serial_meaning.specs.Exec.{State, Manner, BlockMeaning, strand, fault, unless_fault, paid, paid_from, tested, has_room, fits_depth, spawn, sync_here, sync_at, leaves, shown, implied, returned, frame, called, right_side, found, store, looped, does, statement, each, statements, exec, count_of, set_scalar, bound}
+use Rattle.serial_meaning.specs.Functions.{function_number, function_at, any_spawns}
+use Rattle.serial_meaning.specs.Exec.{State, Manner, BlockMeaning, strand, fault, unless_fault, paid, paid_from, tested, has_room, fits_depth, spawn, sync_here, sync_at, leaves, all_happen, implied, function_end, frame, called, right_side, found, store, looped, does, statement, each, statements, exec, count_of, set_scalar, bound}
 use Rattle.script_grammar.specs.declared.tree.Function.{Function}
 use Rattle.script_grammar.specs.declared.tree.CallText.{CallText}
 use Rattle.script_grammar.specs.declared.tree.Expr.{Expr}
@@ -64,13 +64,13 @@ module _ {I E K : Type 0} (how : Manner I E K) (plan : PlanView) (path : List �
       frame how plan path b calls o vs s ≡ frame how plan path c calls o vs s
   frame-same n b c alike calls None vs s h = refl
   frame-same n b c alike calls (Some f) vs s h =
-      ap (λ r. r then returned how plan path f) (alike path calls f.body (record s { env = bound f.params vs; spawned = how.none }) h)
+      ap (λ r. r then function_end how plan path f) (alike path calls f.body (record s { env = bound f.params vs; spawned = how.none }) h)
 
   called-same : (n : ℕ) (b c : Blocks) → Alike n b c → (calls : ℕ) (t : CallText) (s : State K) → s.steps ≤ n →
       called how plan path b calls t s ≡ called how plan path c calls t s
   called-same n b c alike calls t s h =
       given-same (values_of t.args s.env) s _ _ (λ vs. tested-same (nat_lt calls 256) Calls s _ _ (ap (λ r. r then λ r. done (r.0, record s { rank = r.1.rank; steps = r.1.steps }))
-      (frame-same n b c alike (calls + 1) (function_at (functions_of plan) (number_of (functions_of plan) t.name.bytes)) vs s h)))
+      (frame-same n b c alike (calls + 1) (function_at (functions_of plan) (function_number (functions_of plan) t.name.bytes)) vs s h)))
 
   right_side-same : (n : ℕ) (b c : Blocks) → Alike n b c → (calls : ℕ) (r : Right) (s : State K) → s.steps ≤ n →
       right_side how plan path b calls r s ≡ right_side how plan path c calls r s
@@ -131,7 +131,7 @@ module _ {I E K : Type 0} (how : Manner I E K) (plan : PlanView) (path : List �
   implied-within true s = join-within s
   implied-within false s = omega arith
 
-  returned-within : (f : Function) (s : State K) → Gives (PairWithin s.steps) (returned how plan path f s).ending
+  returned-within : (f : Function) (s : State K) → Gives (PairWithin s.steps) (function_end how plan path f s).ending
   returned-within f s =
       paid-gives s PairWithin _ (λ k h. let s' : State K = record s { steps = k } in then-gives (Within k) (PairWithin s.steps) (implied how plan path (any_spawns f.body) s') _ (implied-within (any_spawns f.body) s')
       (λ a g. pair-weaker a.steps s.steps (unless_fault how plan path (value_of f.result a.env) a (λ v. done (v, a))).ending (omega arith) (ends-within f a)))
@@ -139,21 +139,21 @@ module _ {I E K : Type 0} (how : Manner I E K) (plan : PlanView) (path : List �
   spawn-within : (t : CallText) (s : State K) → Gives (PairWithin s.steps) (spawn how plan path t s).ending
   spawn-within t s =
       given-gives (PairWithin s.steps) (values_of t.args s.env) s _ (λ vs. tested-gives (PairWithin s.steps) (nat_lt (length path + 1) plan.limits.depth) Depth s _
-      (then-gives (λ (p : Value × K). Unit {0}) (PairWithin s.steps) (how.spawn (origin.Instance (number_of (functions_of plan) t.name.bytes) vs (strand path s)) s.spawned) _ (anything _) (λ p u. omega arith)))
+      (then-gives (λ (p : Value × K). Unit {0}) (PairWithin s.steps) (how.spawn (origin.Instance (function_number (functions_of plan) t.name.bytes) vs (strand path s)) s.spawned) _ (anything _) (λ p u. omega arith)))
 
   frame-within : (n : ℕ) (b : Blocks) → Spends n b → (calls : ℕ) (o : Option Function) (vs : List Value) (s : State K) → s.steps ≤ n →
       Gives (PairWithin s.steps) (frame how plan path b calls o vs s).ending
   frame-within n b spends calls None vs s h = omega arith
   frame-within n b spends calls (Some f) vs s h =
       then-gives (Within s.steps) (PairWithin s.steps) (b path calls f.body (record s { env = bound f.params vs; spawned = how.none })) _ (spends path calls f.body _ h)
-      (λ a g. pair-weaker a.steps s.steps (returned how plan path f a).ending g (returned-within f a))
+      (λ a g. pair-weaker a.steps s.steps (function_end how plan path f a).ending g (returned-within f a))
 
   called-within : (n : ℕ) (b : Blocks) → Spends n b → (calls : ℕ) (t : CallText) (s : State K) → s.steps ≤ n →
       Gives (PairWithin s.steps) (called how plan path b calls t s).ending
   called-within n b spends calls t s h =
       given-gives (PairWithin s.steps) (values_of t.args s.env) s _ (λ vs. tested-gives (PairWithin s.steps) (nat_lt calls 256) Calls s _
-      (then-gives (PairWithin s.steps) (PairWithin s.steps) (frame how plan path b (calls + 1) (function_at (functions_of plan) (number_of (functions_of plan) t.name.bytes)) vs s) _
-      (frame-within n b spends (calls + 1) (function_at (functions_of plan) (number_of (functions_of plan) t.name.bytes)) vs s h) (λ p g. g)))
+      (then-gives (PairWithin s.steps) (PairWithin s.steps) (frame how plan path b (calls + 1) (function_at (functions_of plan) (function_number (functions_of plan) t.name.bytes)) vs s) _
+      (frame-within n b spends (calls + 1) (function_at (functions_of plan) (function_number (functions_of plan) t.name.bytes)) vs s h) (λ p g. g)))
 
   right_side-within : (n : ℕ) (b : Blocks) → Spends n b → (calls : ℕ) (r : Right) (s : State K) → s.steps ≤ n →
       Gives (PairWithin s.steps) (right_side how plan path b calls r s).ending
@@ -174,7 +174,7 @@ module _ {I E K : Type 0} (how : Manner I E K) (plan : PlanView) (path : List �
   looped-within : (lo : ℤ) (n : ℕ) (vs : List Value) (target : Option Name) (t : CallText) (s : State K) → Gives (Within s.steps) (looped how plan path lo n vs target t s).ending
   looped-within lo n vs target t s =
       let s' : State K = record s { steps = s.steps - n } in tested-gives (Within s.steps) (nat_lt n (s.steps + 1)) Budget s _ (tested-gives (Within s.steps) (has_room target n s.env) Index s' _ (tested-gives (Within s.steps) (fits_depth how plan path n) Depth s' _
-      (then-gives (λ (p : List Value). Unit {0}) (Within s.steps) (how.loop (origin.Loop (number_of (functions_of plan) t.name.bytes) vs lo (strand path s') (record { lo = 0; hi = n }))) _ (anything _) (λ p u. omega arith))))
+      (then-gives (λ (p : List Value). Unit {0}) (Within s.steps) (how.loop (origin.Loop (function_number (functions_of plan) t.name.bytes) vs lo (strand path s') (record { lo = 0; hi = n }))) _ (anything _) (λ p u. omega arith))))
 
   does-within : (n : ℕ) (b : Blocks) → Spends n b → (calls : ℕ) (st : Stmt) (a : Act-F Act Stmt) (s : State K) → s.steps ≤ n →
       Gives (Within s.steps) (does how plan path b calls st a s).ending
@@ -196,7 +196,7 @@ module _ {I E K : Type 0} (how : Manner I E K) (plan : PlanView) (path : List �
   does-within n b spends calls st (act.Scope xs) s h =
       let inner : State K = record s { rank = 0 } in
       tested-gives (Within s.steps) (nat_lt (length path + 1) plan.limits.depth) Depth s _
-      (then-gives (Within s.steps) (Within s.steps) (shown (how.opens (strand path s)) inner then b (strand path s) calls xs) _
+      (then-gives (Within s.steps) (Within s.steps) (all_happen (how.opens (strand path s)) inner then b (strand path s) calls xs) _
       (spends (strand path s) calls xs inner h) (λ a g. weaker a.steps s.steps (leaves how plan path s.rank a).ending g (leaves-within s.rank a)))
 
   statement-within : (n : ℕ) (b : Blocks) → Spends n b → (calls : ℕ) (st : Stmt) (s : State K) → s.steps ≤ suc n →
@@ -334,7 +334,7 @@ equations how plan path = record {
   nothing = exec-nil how plan path;
   first = exec-cons how plan path;
   in_a_row = exec-append how plan path;
-  again = exec-again how plan path;
+  loop_again = exec-again how plan path;
 }
 
 pub elision_has_equations : (plan : PlanView) (path : List ℕ) (child : Origin → Evaluation) → Equations (serial child) plan path

@@ -2,7 +2,7 @@
 use Rattle.std.proofs.Common.{◌≡◌, ℕ, zero, suc, ◌+◌, ◌-◌, ◌<◌, ◌≤◌, Bool, true, false, List, [], ◌∷◌, ◌++◌, Option, Some, None, Result, Ok, Err, map, refl, sym, ap, ◌∙◌, subst, append-nil, append_assoc, if◌then◌else◌, arith}
 use Rattle.std.proofs.Common.{ℤ}
 use Rattle.script_grammar.specs.declared.tree.Function.{Function}
-use Rattle.serial_meaning.specs.Runs.{Run, done, after_items, goes_on, ◌then◌}
+use Rattle.serial_meaning.specs.Runs.{Run, done, after_items, continued, ◌then◌}
 use Rattle.serial_meaning.specs.Values.{Env}
 use Rattle.serial_meaning.specs.Functions.{function_at}
 use Rattle.serial_meaning.specs.Plan.{PlanView, functions_of}
@@ -120,7 +120,7 @@ spread-then : {A B : Type 0} (path : List ℕ) (f-rank : A → ℕ) (g-rank : B 
     Spread path f-rank lo r → ((a : A) → Spread path g-rank (f-rank a) (f a)) → Spread path g-rank lo (r then f)
 spread-then {A = A} {B = B} path f-rank g-rank lo r f h k = from r.items r.ending h.hi h.up h.ends h.spread
   where
-    from : (items : List Item) (e : Result A NodeFault) (hi : ℕ) → lo ≤ hi → EndsAtRank path f-rank lo hi (children items) e → ChildrenRise path lo hi (children items) → Spread path g-rank lo (goes_on items e f)
+    from : (items : List Item) (e : Result A NodeFault) (hi : ℕ) → lo ≤ hi → EndsAtRank path f-rank lo hi (children items) e → ChildrenRise path lo hi (children items) → Spread path g-rank lo (continued items e f)
     from items (Err e) hi u n c = record { hi = hi; up = u; ends = n; spread = c }
     from items (Ok a) hi u n c = record {
       hi = (k a).hi;
@@ -155,7 +155,7 @@ pub record NodeSpread (path : List ℕ) (node : Node) : Type 0 where
 node-from_spread : {A : Type 0} (path : List ℕ) (rank : A → ℕ) (r : Run Item NodeFault A) (g : A → List Value) → Spread path rank 0 r → NodeSpread path (r then λ a. done (g a))
 node-from_spread {A} path rank r g h = from r.items r.ending h.hi h.ends h.spread
   where
-    from : (items : List Item) (e : Result A NodeFault) (hi : ℕ) → EndsAtRank path rank 0 hi (children items) e → ChildrenRise path 0 hi (children items) → NodeSpread path (goes_on items e (λ a. done (g a)))
+    from : (items : List Item) (e : Result A NodeFault) (hi : ℕ) → EndsAtRank path rank 0 hi (children items) e → ChildrenRise path 0 hi (children items) → NodeSpread path (continued items e (λ a. done (g a)))
     from items (Err e) hi n c = record { hi = hi; stops = n; spread = c }
     from items (Ok a) hi n c = record { hi = hi; stops = tt; spread = rw append-nil c }
 
@@ -222,7 +222,7 @@ module _ (plan : PlanView) (child : Origin → Evaluation) where
       out items = children-append items (Closed here ∷ []) ∙ append-nil (children items)
 
       from : (items : List Item) (e : Result S NodeFault) (hi : ℕ) → EndsAtRank here rank_of 0 hi (children items) e → ChildrenRise here 0 hi (children items) →
-          P path s.rank (goes_on (Opened here ∷ items) e (goes_out (put_off_all plan child) plan path s.rank))
+          P path s.rank (continued (Opened here ∷ items) e (goes_out (put_off_all plan child) plan path s.rank))
       from items (Ok a) hi n c = record { hi = s.rank + 1; up = omega arith; ends = refl; spread = rw (out items) (up hi (children items) c) }
       from items (Err e) hi n c = record { hi = s.rank + 1; up = omega arith; ends = stops-under path s.rank (children items) e n; spread = up hi (children items) c }
 

@@ -1,6 +1,6 @@
 -- The elision is the open tree with each child's run in its place, cut at the first child that faults.
 use Rattle.std.proofs.Common.{◌≡◌, List, [], ◌∷◌, ◌++◌, Option, Some, None, Result, Ok, Err, refl, sym, ap, ◌∙◌, append_assoc, subst}
-use Rattle.serial_meaning.specs.Runs.{Run, after_items, goes_on, ◌then◌}
+use Rattle.serial_meaning.specs.Runs.{Run, after_items, continued, ◌then◌}
 use Rattle.serial_meaning.specs.Eval.{Evaluation}
 use Rattle.serial_meaning.specs.Open.{Item, Happened, Child, Opened, Closed, NodeFault, Own, ChildFaulted}
 use Rattle.serial_meaning.specs.declared.value.Value.{Value}
@@ -83,7 +83,7 @@ module _ (child : Origin → Evaluation) where
     after_err r (Own y) es None h = ap (λ q. q then f) h
     after_err r (ChildFaulted y) es None h = h
 
-    from_parts : (r : Run Event Fault A) (items : List Item) (e : Result B NodeFault) → Matches lift (cut items).events (cut items).cut_by r e → Cuts lift' (r then f) (goes_on items e g)
+    from_parts : (r : Run Event Fault A) (items : List Item) (e : Result B NodeFault) → Matches lift (cut items).events (cut items).cut_by r e → Cuts lift' (r then f) (continued items e g)
     from_parts r items (Ok b) h =
         subst (λ (p : Piece). Matches lift' p.events p.cut_by (r then f) (g b).ending) (sym (cut-append items (g b).items)) (after_ok r b (cut items).events (cut items).cut_by h)
     from_parts r items (Err x) h = after_err r x (cut items).events (cut items).cut_by h

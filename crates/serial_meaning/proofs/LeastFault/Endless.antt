@@ -13,9 +13,9 @@ use Rattle.script_grammar.specs.declared.tree.Act.TheOpen as node
 use Rattle.serial_meaning.specs.Runs.{Run, done, run_ends_by, after_items, ◌then◌}
 use Rattle.serial_meaning.specs.Values.{value_of}
 use Rattle.serial_meaning.specs.Plan.{PlanView}
-use Rattle.serial_meaning.specs.Exec.{State, Manner, fault, statement, exec, returned, instance}
+use Rattle.serial_meaning.specs.Exec.{State, Manner, fault, statement, exec, function_end, instance}
 use Rattle.serial_meaning.specs.Eval.{Evaluation, serial, eval_below}
-use Rattle.serial_meaning.specs.Open.{Item, Happened, Child, NodeFault, Own, put_off_all, opened}
+use Rattle.serial_meaning.specs.Open.{Item, Happened, Child, NodeFault, Own, put_off_all, node_of}
 use Rattle.serial_meaning.specs.Trees.{named, number, variable, product, spawn, stated}
 use Rattle.serial_meaning.specs.Examples.{bad, endless_main, endless_body, never_reached, endless_plan, ElisionEndsAtTheChildsFault, OpenTreeHasBothFaults}
 use Rattle.serial_meaning.proofs.Equations.ExecLaws.{exec-cons, exec-nil}
@@ -123,12 +123,12 @@ module _ {I E K : Type 0} (how : Manner I E K) (n : ℕ) where
       exec-cons how (endless_plan n) (0 ∷ []) 0 (stated (act.Let (named (codes "z")) (right.Value (number 0)))) [] bad_begins
       ∙ ap (λ r. r then exec how (endless_plan n) (0 ∷ []) 0 []) bad-step ∙ exec-nil how (endless_plan n) (0 ∷ []) 0 bad_goes_on
 
-  bad-ends : returned how (endless_plan n) (0 ∷ []) bad bad_goes_on ≡ run_ends_by (how.own divided)
+  bad-ends : function_end how (endless_plan n) (0 ∷ []) bad bad_goes_on ≡ run_ends_by (how.own divided)
   bad-ends = rw (no_spawn, one_over_zero)
 
   bad-faults : instance how (endless_plan n) (0 ∷ []) (Some bad) [] ≡ run_ends_by (how.own divided)
   bad-faults =
-      ap (λ (r : Run I E (State K)). (r then returned how (endless_plan n) (0 ∷ []) bad) then λ p. done p.0) bad-body
+      ap (λ (r : Run I E (State K)). (r then function_end how (endless_plan n) (0 ∷ []) bad) then λ p. done p.0) bad-body
       ∙ ap (λ (r : Run I E (Value × State K)). after_items [] r then λ p. done p.0) bad-ends
 
 module _ {K : Type 0} (n : ℕ) (k : K) where
@@ -175,19 +175,19 @@ module _ (n : ℕ) (child : Origin → Evaluation) (faulting : child child_origi
       ∙ ap (after_items (Happened (event.Print (0 ∷ []) (Int (pos 7))) ∷ [])) from-second
 
   open-run : instance how plan [] (Some endless_main) [] ≡ record { items = Happened (event.Print (0 ∷ []) (Int (pos 7))) ∷ Happened (event.Spawn (0 ∷ [])) ∷ Child child_origin ∷ []; ending = Err (Own spent) }
-  open-run = ap (λ r. (r then returned how plan [] endless_main) then λ p. done p.0) from-first
+  open-run = ap (λ r. (r then function_end how plan [] endless_main) then λ p. done p.0) from-first
 
 -- what the child gives, and its node
 child-evaluation : (n : ℕ) → eval_below (endless_plan n) 3 child_origin ≡ record { items = []; ending = Err divided }
 child-evaluation n = ap (λ (r : Run Event Fault Value). r then λ v. done (v ∷ [])) (bad-faults (serial (eval_below (endless_plan n) 2)) n)
 
-child-node : (n : ℕ) → opened (endless_plan n) child_origin ≡ record { items = []; ending = Err (Own divided) }
+child-node : (n : ℕ) → node_of (endless_plan n) child_origin ≡ record { items = []; ending = Err (Own divided) }
 child-node n = ap (λ (r : Run Item NodeFault Value). r then λ v. done (v ∷ [])) (bad-faults (put_off_all (endless_plan n) (eval_below (endless_plan n) 2)) n)
 
 pub elision_ends_at_the_childs_fault : ElisionEndsAtTheChildsFault
 elision_ends_at_the_childs_fault n = ap (λ (r : Run Event Fault Value). r then λ v. done (v ∷ [])) (serial-run n (eval_below (endless_plan n) 3) (child-evaluation n))
 
-main-node : (n : ℕ) → opened (endless_plan n) (origin.Instance 1 [] []) ≡ record { items = Happened (event.Print (0 ∷ []) (Int (pos 7))) ∷ Happened (event.Spawn (0 ∷ [])) ∷ Child child_origin ∷ []; ending = Err (Own spent) }
+main-node : (n : ℕ) → node_of (endless_plan n) (origin.Instance 1 [] []) ≡ record { items = Happened (event.Print (0 ∷ []) (Int (pos 7))) ∷ Happened (event.Spawn (0 ∷ [])) ∷ Child child_origin ∷ []; ending = Err (Own spent) }
 main-node n = ap (λ (r : Run Item NodeFault Value). r then λ v. done (v ∷ [])) (open-run n (eval_below (endless_plan n) 3) (child-evaluation n))
 
 pub open_tree_has_both_faults : OpenTreeHasBothFaults

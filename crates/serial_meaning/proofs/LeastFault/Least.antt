@@ -8,7 +8,7 @@ use Rattle.serial_meaning.specs.Laws.{EndsByLeast}
 use Rattle.serial_meaning.specs.Runs.{done}
 use Rattle.serial_meaning.specs.Plan.{PlanView}
 use Rattle.serial_meaning.specs.Eval.{Evaluation, path_of, eval_with, eval_below, eval, depth_left, main_origin, elision}
-use Rattle.serial_meaning.specs.Open.{Item, Happened, Child, Opened, Closed, NodeFault, Own, ChildFaulted, node_with, opened, own_fault, faults_of, faults_with, faults_below, faults_in, faults, is_empty_loop}
+use Rattle.serial_meaning.specs.Open.{Item, Happened, Child, Opened, Closed, NodeFault, Own, ChildFaulted, node_with, node_of, own_fault, faults_of, faults_with, faults_below, faults_in, faults, is_empty_loop}
 use Rattle.serial_meaning.proofs.RisingPedigrees.Order.{not_before_itself, not_before-back}
 use Rattle.serial_meaning.proofs.Equations.Each.{Each, each-append, each-map, each-at, each-contained}
 use Rattle.serial_meaning.proofs.LeastFault.Children.{Rise, IsAt, NodeStops, children, node-spread}
@@ -136,7 +136,7 @@ own-under path os (Err (ChildFaulted f)) n = tt
 under-with : (plan : PlanView) (below : Origin → List Fault) → ((c : Origin) → Each (Under (path_of c)) (below c)) → (o : Origin) → Each (Under (path_of o)) (faults_with plan below o)
 under-with plan below under o =
     let s = node-spread plan (eval_below plan (depth_left plan o)) o in
-    let node = opened plan o in
+    let node = node_of plan o in
     each-append (Under (path_of o)) (faults_of below node.items) (own_fault node.ending)
     (faults-stand below under (path_of o) 0 s.hi node.items s.spread.within)
     (own-under (path_of o) (children node.items) node.ending s.stops)

@@ -5,7 +5,7 @@ use Rattle.std.specs.Cmp.Lexicographic.{slice_cmp}
 use Rattle.std.specs.Ordering.{nat_cmp, is_lt}
 use Rattle.std.specs.declared.cmp.Ordering.{Ordering}
 use Rattle.std.specs.declared.cmp.Ordering.TheVariants.{Less, Equal, Greater}
-use Rattle.serial_meaning.specs.Runs.{done, goes_on, ◌then◌}
+use Rattle.serial_meaning.specs.Runs.{done, continued, ◌then◌}
 use Rattle.serial_meaning.specs.Plan.{PlanView}
 use Rattle.serial_meaning.specs.Eval.{Evaluation, iteration, loop_evaluation, path_of, eval_below, depth_left}
 use Rattle.serial_meaning.specs.Open.{lesser, loop_end, iterations, both, gathered, faults_below}
@@ -56,13 +56,13 @@ module _ (child : Origin → Evaluation) (under : (o : Origin) (f : Fault) → (
   turns-from k zero f e = absurd (ok_or_err [] f e)
   turns-from k (suc n) f e = by_end (child (iteration function rest first path k)).items (child (iteration function rest first path k)).ending refl e (turns-from (k + 1) n f)
     where
-      later : (vs : List Value) (items : List Event) (q : Result (List Value) Fault) → (all (k + 1) n).ending ≡ q → (goes_on items q (λ ws. done (vs ++ ws))).ending ≡ Err f →
+      later : (vs : List Value) (items : List Event) (q : Result (List Value) Fault) → (all (k + 1) n).ending ≡ q → (continued items q (λ ws. done (vs ++ ws))).ending ≡ Err f →
           ((all (k + 1) n).ending ≡ Err f → From path (k + 1) f) → From path k f
       later vs items (Ok ws) g h after = absurd (ok_or_err (vs ++ ws) f h)
       later vs items (Err x) g h after = from-lower path k f (after (g ∙ h))
 
       by_end : (items : List Event) (q : Result (List Value) Fault) → (child (iteration function rest first path k)).ending ≡ q →
-          (goes_on items q (λ vs. all (k + 1) n then λ ws. done (vs ++ ws))).ending ≡ Err f → ((all (k + 1) n).ending ≡ Err f → From path (k + 1) f) → From path k f
+          (continued items q (λ vs. all (k + 1) n then λ ws. done (vs ++ ws))).ending ≡ Err f → ((all (k + 1) n).ending ≡ Err f → From path (k + 1) f) → From path k f
       by_end items (Ok vs) g h after = later vs (all (k + 1) n).items (all (k + 1) n).ending refl h after
       by_end items (Err x) g h after = let a = at-iteration k f (g ∙ h) in (k, a.0, a.1, omega arith)
 
@@ -73,7 +73,7 @@ module _ (child : Origin → Evaluation) (under : (o : Origin) (f : Fault) → (
       ∙ by_end (child (iteration function rest first path k)).items (child (iteration function rest first path k)).ending refl (all (k + 1) n).items (all (k + 1) n).ending refl
     where
       by_end : (items : List Event) (q : Result (List Value) Fault) → (child (iteration function rest first path k)).ending ≡ q → (more : List Event) (r : Result (List Value) Fault) → (all (k + 1) n).ending ≡ r →
-          both q r ≡ (goes_on items q (λ vs. goes_on more r (λ ws. done (vs ++ ws)))).ending
+          both q r ≡ (continued items q (λ vs. continued more r (λ ws. done (vs ++ ws)))).ending
       by_end items (Ok vs) e more (Ok ws) g = refl
       by_end items (Ok vs) e more (Err y) g = refl
       by_end items (Err x) e more (Ok ws) g = refl

@@ -2,10 +2,10 @@
 use Rattle.std.proofs.Common.{ℕ, zero, suc, ◌+◌, ◌-◌, ◌≡◌, Bool, true, false, List, [], ◌∷◌, ◌++◌, Option, Some, None, Result, Ok, Err, nat_lt, if◌then◌else◌, length}
 use Rattle.std.proofs.Common.{ℤ, pos, ◌-ℤ◌}
 use Rattle.std.specs.Int.{w64, cast_signed}
-use Rattle.serial_meaning.specs.Runs.{Run, done, after_items, goes_on, ◌then◌}
+use Rattle.serial_meaning.specs.Runs.{Run, done, after_items, continued, ◌then◌}
 use Rattle.serial_meaning.specs.Values.{Env, value_of, values_of, slot_of, items_of, as_integer, is_true, at_index}
-use Rattle.serial_meaning.specs.Functions.{number_of, function_at, any_spawns}
-use Rattle.serial_meaning.specs.Exec.{State, BlockMeaning, fault, unless_fault, paid_from, tested, has_room, fits_depth, with_loop_values, spawn, leaves, scoped, implied, returned, frame, called, right_side, found, looped, does, statement, each, statements, exec, instance, count_of, set_scalar, set_array, bound}
+use Rattle.serial_meaning.specs.Functions.{function_number, function_at, any_spawns}
+use Rattle.serial_meaning.specs.Exec.{State, BlockMeaning, fault, unless_fault, paid_from, tested, has_room, fits_depth, with_loop_values, spawn, leaves, scoped, implied, function_end, frame, called, right_side, found, looped, does, statement, each, statements, exec, instance, count_of, set_scalar, set_array, bound}
 use Rattle.script_grammar.specs.declared.tree.Name.{Name}
 use Rattle.script_grammar.specs.declared.tree.Function.{Function}
 use Rattle.script_grammar.specs.declared.tree.CallText.{CallText}
@@ -22,7 +22,7 @@ use Rattle.serial_meaning.specs.declared.event.FaultKind.TheVariants.{Index, Dep
 use Rattle.serial_meaning.specs.declared.event.Event.TheVariants as event
 use Rattle.serial_meaning.specs.declared.origin.Origin.TheVariants as origin
 use Rattle.serial_meaning.specs.Eval.{Evaluation, serial, first_value, iteration, loop_evaluation, eval_with, eval_below, eval, depth_left}
-use Rattle.serial_meaning.specs.Open.{Item, Happened, Child, Opened, NodeFault, put_off, put_off_all, loop_end, is_zero, is_empty_loop, filler, iterations, both, gathered, node_with, opened}
+use Rattle.serial_meaning.specs.Open.{Item, Happened, Child, Opened, NodeFault, put_off, put_off_all, loop_end, is_zero, is_empty_loop, filler, iterations, both, gathered, node_with, node_of}
 use Rattle.serial_meaning.proofs.OriginFaults.Levels.{every}
 use Rattle.serial_meaning.proofs.LeastFault.Cut.{Cuts, Matches, cut, in_front, child_first, cuts-then}
 use Rattle.serial_meaning.specs.declared.event.Fault.{Fault}
@@ -67,7 +67,7 @@ module _ (plan : PlanView) (path : List ℕ) (child : Origin → Evaluation) (em
   implied-c true s = (record s { rank = s.rank + 1 }, refl, refl)
   implied-c false s = (s, refl, refl)
 
-  returned-c : (f : Function) (s : State (Unit {0})) → Cuts child lift_pair (returned (serial child) plan path f s) (returned (put_off_all plan child) plan path f (lift s))
+  returned-c : (f : Function) (s : State (Unit {0})) → Cuts child lift_pair (function_end (serial child) plan path f s) (function_end (put_off_all plan child) plan path f (lift s))
   returned-c f s =
       paid-c lift_pair s.steps s _ _ (λ m. let s' : State (Unit {0}) = record s { steps = m } in cuts-then child lift lift_pair _ _ (λ a. given-c lift_pair (value_of f.result a.env) a _ _ (λ v. ((v, a), refl, refl)))
       (implied (serial child) plan path (any_spawns f.body) s') (implied (put_off_all plan child) plan path (any_spawns f.body) (lift s')) (implied-c (any_spawns f.body) s'))
@@ -80,14 +80,14 @@ module _ (plan : PlanView) (path : List ℕ) (child : Origin → Evaluation) (em
   spawned-c e instead s is (Err f) = refl
 
   spawn-c : (t : CallText) (s : State (Unit {0})) → Cuts child lift_pair (spawn (serial child) plan path t s) (spawn (put_off_all plan child) plan path t (lift s))
-  spawn-c t s = given-c lift_pair (values_of t.args s.env) s _ _ (λ vs. tested-c lift_pair (nat_lt (length path + 1) plan.limits.depth) Depth s _ _ (let o = origin.Instance (number_of (functions_of plan) t.name.bytes) vs (path ++ s.rank ∷ []) in spawned-c (event.Spawn (path ++ s.rank ∷ [])) (filler plan o) s (child o).items (child o).ending))
+  spawn-c t s = given-c lift_pair (values_of t.args s.env) s _ _ (λ vs. tested-c lift_pair (nat_lt (length path + 1) plan.limits.depth) Depth s _ _ (let o = origin.Instance (function_number (functions_of plan) t.name.bytes) vs (path ++ s.rank ∷ []) in spawned-c (event.Spawn (path ++ s.rank ∷ [])) (filler plan o) s (child o).items (child o).ending))
 
   loop-c : (o : Origin) (e : Event) (s : State (Unit {0})) (target : List Value → Env) →
       Cuts child lift (after_items (e ∷ []) (child o then λ ws. done (record s { rank = s.rank + 1; env = target ws }))) (after_items (Happened e ∷ []) ((put_off_all plan child).loop o then λ ws. done (record (lift s) { rank = s.rank + 1; env = target ws })))
   loop-c o e s target = by_size (is_empty_loop o) refl
     where
       by_end : (q : Result (List Value) Fault) → (child o).ending ≡ q →
-          Cuts child lift (after_items (e ∷ []) (child o then λ ws. done (record s { rank = s.rank + 1; env = target ws }))) (after_items (Happened e ∷ []) (goes_on (Child o ∷ []) (loop_end (child o).ending) (λ ws. done (record (lift s) { rank = s.rank + 1; env = target ws }))))
+          Cuts child lift (after_items (e ∷ []) (child o then λ ws. done (record s { rank = s.rank + 1; env = target ws }))) (after_items (Happened e ∷ []) (continued (Child o ∷ []) (loop_end (child o).ending) (λ ws. done (record (lift s) { rank = s.rank + 1; env = target ws }))))
       by_end (Ok ws) h = rw (h, h) (record s { rank = s.rank + 1; env = target ws }, refl, refl)
       by_end (Err f) h = rw (h, h)
 
@@ -99,7 +99,7 @@ module _ (plan : PlanView) (path : List ℕ) (child : Origin → Evaluation) (em
   looped-c : (lo : ℤ) (n : ℕ) (vs : List Value) (target : Option Name) (t : CallText) (s : State (Unit {0})) → Cuts child lift (looped (serial child) plan path lo n vs target t s) (looped (put_off_all plan child) plan path lo n vs target t (lift s))
   looped-c lo n vs target t s =
       let s' : State (Unit {0}) = record s { steps = s.steps - n } in tested-c lift (nat_lt n (s.steps + 1)) Budget s _ _ (tested-c lift (has_room target n s.env) Index s' _ _ (tested-c lift (fits_depth (serial child) plan path n) Depth s' _ _
-      (loop-c (origin.Loop (number_of (functions_of plan) t.name.bytes) vs lo (path ++ s.rank ∷ []) (record { lo = 0; hi = n })) (event.Loop (path ++ s.rank ∷ [])) s' (λ ws. with_loop_values target ws s.env))))
+      (loop-c (origin.Loop (function_number (functions_of plan) t.name.bytes) vs lo (path ++ s.rank ∷ []) (record { lo = 0; hi = n })) (event.Loop (path ++ s.rank ∷ [])) s' (λ ws. with_loop_values target ws s.env))))
 
   -- one block is what the other is, cut
   abbrev Alike : BlockMeaning Event Fault (Unit {0}) → BlockMeaning Item NodeFault (Option Fault) → Type 0
@@ -121,12 +121,12 @@ module _ (plan : PlanView) (path : List ℕ) (child : Origin → Evaluation) (em
     frame-c : (calls : ℕ) (o : Option Function) (vs : List Value) (s : State (Unit {0})) → Cuts child lift_pair (frame (serial child) plan path b calls o vs s) (frame (put_off_all plan child) plan path c calls o vs (lift s))
     frame-c calls None vs s = ((Int (pos 0), s), refl, refl)
     frame-c calls (Some f) vs s =
-        let s' : State (Unit {0}) = record s { env = bound f.params vs } in cuts-then child lift lift_pair (returned (serial child) plan path f) (returned (put_off_all plan child) plan path f) (returned-c f) (b path calls f.body s') (c path calls f.body (lift s')) (fine path calls f.body s')
+        let s' : State (Unit {0}) = record s { env = bound f.params vs } in cuts-then child lift lift_pair (function_end (serial child) plan path f) (function_end (put_off_all plan child) plan path f) (returned-c f) (b path calls f.body s') (c path calls f.body (lift s')) (fine path calls f.body s')
 
     called-c : (calls : ℕ) (t : CallText) (s : State (Unit {0})) → Cuts child lift_pair (called (serial child) plan path b calls t s) (called (put_off_all plan child) plan path c calls t (lift s))
     called-c calls t s =
-        given-c lift_pair (values_of t.args s.env) s _ _ (λ vs. tested-c lift_pair (nat_lt calls 256) Calls s _ _ (cuts-then child lift_pair lift_pair (λ (r : Value × State (Unit {0})). done (r.0, record s { rank = r.1.rank; steps = r.1.steps })) (λ (r : Value × State (Option Fault)). done (r.0, record (lift s) { rank = r.1.rank; steps = r.1.steps })) (λ p. ((p.0, record s { rank = p.1.rank; steps = p.1.steps }), refl, refl)) (frame (serial child) plan path b (calls + 1) (function_at (functions_of plan) (number_of (functions_of plan) t.name.bytes)) vs s) (frame (put_off_all plan child) plan path c (calls + 1) (function_at (functions_of plan) (number_of (functions_of plan) t.name.bytes)) vs (lift s))
-        (frame-c (calls + 1) (function_at (functions_of plan) (number_of (functions_of plan) t.name.bytes)) vs s)))
+        given-c lift_pair (values_of t.args s.env) s _ _ (λ vs. tested-c lift_pair (nat_lt calls 256) Calls s _ _ (cuts-then child lift_pair lift_pair (λ (r : Value × State (Unit {0})). done (r.0, record s { rank = r.1.rank; steps = r.1.steps })) (λ (r : Value × State (Option Fault)). done (r.0, record (lift s) { rank = r.1.rank; steps = r.1.steps })) (λ p. ((p.0, record s { rank = p.1.rank; steps = p.1.steps }), refl, refl)) (frame (serial child) plan path b (calls + 1) (function_at (functions_of plan) (function_number (functions_of plan) t.name.bytes)) vs s) (frame (put_off_all plan child) plan path c (calls + 1) (function_at (functions_of plan) (function_number (functions_of plan) t.name.bytes)) vs (lift s))
+        (frame-c (calls + 1) (function_at (functions_of plan) (function_number (functions_of plan) t.name.bytes)) vs s)))
 
     right_side-c : (calls : ℕ) (r : Right) (s : State (Unit {0})) → Cuts child lift_pair (right_side (serial child) plan path b calls r s) (right_side (put_off_all plan child) plan path c calls r (lift s))
     right_side-c calls (right.Value e) s = given-c lift_pair (value_of e s.env) s _ _ (λ v. ((v, s), refl, refl))
@@ -212,7 +212,7 @@ module _ (child : Origin → Evaluation) (function : ℕ) (rest : List Value) (f
       next vs = loop_run (k + 1) n then λ ws. done (vs ++ ws)
 
       by_end : Cuts child (λ (vs : List Value). vs) (loop_run (k + 1) n) (loop_node (k + 1) n) → (q : Result (List Value) Fault) →
-          Matches child (λ (vs : List Value). vs) (child_first (child o).items q (cut child (loop_node (k + 1) n).items)).events (child_first (child o).items q (cut child (loop_node (k + 1) n).items)).cut_by (goes_on (child o).items q next) (loop_end (both q (gathered child (loop_origins (k + 1) n))))
+          Matches child (λ (vs : List Value). vs) (child_first (child o).items q (cut child (loop_node (k + 1) n).items)).events (child_first (child o).items q (cut child (loop_node (k + 1) n).items)).cut_by (continued (child o).items q next) (loop_end (both q (gathered child (loop_origins (k + 1) n))))
       by_end ih (Ok vs) =
           one_more vs (child o).items (cut child (loop_node (k + 1) n).items).events (cut child (loop_node (k + 1) n).items).cut_by (loop_run (k + 1) n) (gathered child (loop_origins (k + 1) n)) ih
       by_end ih (Err f) = refl
@@ -233,5 +233,5 @@ pub empty_below : (plan : PlanView) (left : ℕ) (o : Origin) → is_empty_loop 
 empty_below plan left o = every plan (done []) (eval_with plan) (λ o r. is_empty_loop o ≡ true → r ≡ done []) (λ o h. refl) (λ child all. empty_at plan child) left o
 
 -- The evaluation of an origin is its node in the open tree with each child's evaluation in its place, cut at the first child that faults.
-pub eval-cuts : (plan : PlanView) (o : Origin) → Cuts (eval_below plan (depth_left plan o)) (λ (vs : List Value). vs) (eval plan o) (opened plan o)
+pub eval-cuts : (plan : PlanView) (o : Origin) → Cuts (eval_below plan (depth_left plan o)) (λ (vs : List Value). vs) (eval plan o) (node_of plan o)
 eval-cuts plan o = let left = depth_left plan o in node-cuts plan (eval_below plan left) (empty_below plan left) o

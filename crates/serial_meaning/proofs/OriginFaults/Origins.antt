@@ -11,7 +11,7 @@ use Rattle.serial_meaning.specs.Functions.{function_at}
 use Rattle.serial_meaning.specs.Plan.{PlanView, functions_of}
 use Rattle.serial_meaning.specs.Exec.{State, strand, fits_depth}
 use Rattle.serial_meaning.specs.Eval.{Evaluation, iteration, path_of, eval_with, eval_below, eval, depth_left}
-use Rattle.serial_meaning.specs.Open.{Item, Happened, Child, Opened, Closed, NodeFault, put_off_all, unless_child_faulted, loop_end, is_zero, iterations, gathered, node_with, opened, own_fault, faults_of, faults_with, faults_below, faults_in, faults}
+use Rattle.serial_meaning.specs.Open.{Item, Happened, Child, Opened, Closed, NodeFault, put_off_all, unless_child_faulted, loop_end, is_zero, iterations, gathered, node_with, node_of, own_fault, faults_of, faults_with, faults_below, faults_in, faults}
 use Rattle.serial_meaning.proofs.Equations.Each.{Each, each-contained, Parts, instance-each}
 use Rattle.serial_meaning.proofs.LeastFault.Children.{IsAt, children, node-spread}
 use Rattle.serial_meaning.proofs.OriginFaults.Levels.{enough}
@@ -126,20 +126,20 @@ children-fit plan child (Loop function rest first path range) h = iterations-fit
 abbrev pub IsBelow : Origin → Origin → Type 0
 IsBelow o c = (k : ℕ) × (more : List ℕ) × (path_of c ≡ path_of o ++ k ∷ more)
 
-pub child-below : (plan : PlanView) (o c : Origin) → Contains (opened plan o).items (Child c) → IsBelow o c
+pub child-below : (plan : PlanView) (o c : Origin) → Contains (node_of plan o).items (Child c) → IsBelow o c
 child-below plan o c k =
     let s = node-spread plan (eval_below plan (depth_left plan o)) o in
-    let at = each-contained (IsAt (path_of o) 0 s.hi) (children (opened plan o).items) c s.spread.within (child-contained (opened plan o).items c k) in (at.0, at.1, at.2)
+    let at = each-contained (IsAt (path_of o) 0 s.hi) (children (node_of plan o).items) c s.spread.within (child-contained (node_of plan o).items c k) in (at.0, at.1, at.2)
 
 fewer-left : (plan : PlanView) (c : Origin) (n more : ℕ) → Fits plan c → length (path_of c) ≡ n + suc more → depth_left plan c < plan.limits.depth - n
 fewer-left plan (Instance function args path) n more h e = omega arith
 fewer-left plan (Loop function rest first path range) n more h e = omega arith
 
-pub child-fits : (plan : PlanView) (o c : Origin) → LoopFits plan o → Contains (opened plan o).items (Child c) → Fits plan c
-child-fits plan o c h k = each-contained (ItemFits plan) (opened plan o).items (Child c) (children-fit plan (eval_below plan (depth_left plan o)) o h) k
+pub child-fits : (plan : PlanView) (o c : Origin) → LoopFits plan o → Contains (node_of plan o).items (Child c) → Fits plan c
+child-fits plan o c h k = each-contained (ItemFits plan) (node_of plan o).items (Child c) (children-fit plan (eval_below plan (depth_left plan o)) o h) k
 
 -- a child has fewer ranks left than its parent
-pub deeper : (plan : PlanView) (o c : Origin) → LoopFits plan o → Contains (opened plan o).items (Child c) → depth_left plan c < depth_left plan o
+pub deeper : (plan : PlanView) (o c : Origin) → LoopFits plan o → Contains (node_of plan o).items (Child c) → depth_left plan c < depth_left plan o
 deeper plan o c h k =
     let below = child-below plan o c k in
     fewer-left plan c (length (path_of o)) (length below.1) (child-fits plan o c h k) (ap length below.2 ∙ length-append (path_of o) (below.0 ∷ below.1))
@@ -197,19 +197,19 @@ no_own (Ok vs) = refl
 no_own (Err f) = refl
 
 -- a loop has no fault of its own
-pub loop-own : (plan : PlanView) (function : ℕ) (rest : List Value) (first : ℤ) (path : List ℕ) (range : Range) → own_fault (opened plan (Loop function rest first path range)).ending ≡ []
+pub loop-own : (plan : PlanView) (function : ℕ) (rest : List Value) (first : ℤ) (path : List ℕ) (range : Range) → own_fault (node_of plan (Loop function rest first path range)).ending ≡ []
 loop-own plan function rest first path range = no_own (gathered (eval_below plan (depth_left plan (Loop function rest first path range))) (iterations function rest first path range.lo (range.hi - range.lo)))
 
 -- where a fault of a loop is
 pub in-iteration : (plan : PlanView) (function : ℕ) (rest : List Value) (first : ℤ) (path : List ℕ) (range : Range) (f : Fault) → Contains (faults_in plan (Loop function rest first path range)) f →
     (i : ℕ) × (range.lo ≤ i) × (i < range.lo + (range.hi - range.lo)) × Contains (faults_below plan (plan.limits.depth - length path) (iteration function rest first path i)) f
 in-iteration plan function rest first path range f h =
-    from (Contains-append_cases (loop_faults below function rest first path range.lo (range.hi - range.lo)) (own_fault (opened plan (Loop function rest first path range)).ending) f h)
+    from (Contains-append_cases (loop_faults below function rest first path range.lo (range.hi - range.lo)) (own_fault (node_of plan (Loop function rest first path range)).ending) f h)
   where
     below : Origin → List Fault
     below = faults_below plan (plan.limits.depth - length path)
 
-    from : Contains (loop_faults below function rest first path range.lo (range.hi - range.lo)) f ⊎ Contains (own_fault (opened plan (Loop function rest first path range)).ending) f →
+    from : Contains (loop_faults below function rest first path range.lo (range.hi - range.lo)) f ⊎ Contains (own_fault (node_of plan (Loop function rest first path range)).ending) f →
         (i : ℕ) × (range.lo ≤ i) × (i < range.lo + (range.hi - range.lo)) × Contains (below (iteration function rest first path i)) f
     from (inl g) = from-iteration below function rest first path range.lo (range.hi - range.lo) f g
     from (inr g) = let k : Contains [] f = subst (λ (l : List Fault). Contains l f) (loop-own plan function rest first path range) g in absurd (omega (arith, k.1))
@@ -218,7 +218,7 @@ pub of-iteration-in : (plan : PlanView) (function : ℕ) (rest : List Value) (fi
     Contains (faults_below plan (plan.limits.depth - length path) (iteration function rest first path i)) f → Contains (faults_in plan (Loop function rest first path range)) f
 of-iteration-in plan function rest first path range i f a b h =
     let below : Origin → List Fault = faults_below plan (plan.limits.depth - length path) in
-    Contains-append_left (loop_faults below function rest first path range.lo (range.hi - range.lo)) (own_fault (opened plan (Loop function rest first path range)).ending) f
+    Contains-append_left (loop_faults below function rest first path range.lo (range.hi - range.lo)) (own_fault (node_of plan (Loop function rest first path range)).ending) f
     (of-iteration below function rest first path range.lo (range.hi - range.lo) i f a (omega (arith, a, b)) h)
 
 part-faults : (plan : PlanView) (function : ℕ) (rest : List Value) (first : ℤ) (path : List ℕ) (whole part : Range) → whole.lo ≤ part.lo → part.lo ≤ part.hi → part.hi ≤ whole.hi →
@@ -232,7 +232,7 @@ part-faults plan function rest first path whole part a b c f h =
 abbrev pub IsPartOfPlan : PlanView → Origin → Type 0
 IsPartOfPlan plan o = LoopFits plan o × ((f : Fault) → Contains (faults_in plan o) f → Contains (faults plan) f)
 
-pub child-of : (plan : PlanView) (parent child : Origin) → IsPartOfPlan plan parent → Contains (opened plan parent).items (Child child) →
+pub child-of : (plan : PlanView) (parent child : Origin) → IsPartOfPlan plan parent → Contains (node_of plan parent).items (Child child) →
     Fits plan child × ((f : Fault) → Contains (faults_in plan child) f → Contains (faults plan) f)
 child-of plan parent child h k = (fits, inside)
   where
@@ -244,8 +244,8 @@ child-of plan parent child h k = (fits, inside)
 
     inside : (f : Fault) → Contains (faults_in plan child) f → Contains (faults plan) f
     inside f g =
-        h.1 f (Contains-append_left (faults_of (faults_below plan (depth_left plan parent)) (opened plan parent).items) (own_fault (opened plan parent).ending) f
-        (child-faults (faults_below plan (depth_left plan parent)) (opened plan parent).items child f k (subst (λ (fs : List Fault). Contains fs f) (sym same) g)))
+        h.1 f (Contains-append_left (faults_of (faults_below plan (depth_left plan parent)) (node_of plan parent).items) (own_fault (node_of plan parent).ending) f
+        (child-faults (faults_below plan (depth_left plan parent)) (node_of plan parent).items child f k (subst (λ (fs : List Fault). Contains fs f) (sym same) g)))
 
 pub part-of-plan : (plan : PlanView) (o : Origin) → IsOriginOf plan o → IsPartOfPlan plan o
 part-of-plan plan o Main = (tt, λ f g. g)
@@ -256,15 +256,15 @@ part-of-plan plan o (PartOf parent function rest first path whole part h k a b d
     (c.0, λ f g. c.1 f (part-faults plan function rest first path whole part a b d f g))
 
 -- a child has fewer ranks left below the depth
-pub fewer-left-below : (plan : PlanView) (parent child : Origin) → IsOriginOf plan parent → Contains (opened plan parent).items (Child child) → depth_left plan child < depth_left plan parent
+pub fewer-left-below : (plan : PlanView) (parent child : Origin) → IsOriginOf plan parent → Contains (node_of plan parent).items (Child child) → depth_left plan child < depth_left plan parent
 fewer-left-below plan parent child h k = deeper plan parent child (part-of-plan plan parent h).0 k
 
 -- What a child gives its parent is what it gives by itself.
-pub child-evaluated : (plan : PlanView) (parent child : Origin) → IsOriginOf plan parent → Contains (opened plan parent).items (Child child) → eval_below plan (depth_left plan parent) child ≡ eval plan child
+pub child-evaluated : (plan : PlanView) (parent child : Origin) → IsOriginOf plan parent → Contains (node_of plan parent).items (Child child) → eval_below plan (depth_left plan parent) child ≡ eval plan child
 child-evaluated plan parent child h k = enough plan (done []) (eval_with plan) (depth_left plan parent) child (fewer-left-below plan parent child h k)
 
 -- and so are its faults
-pub child-faulting : (plan : PlanView) (parent child : Origin) → IsOriginOf plan parent → Contains (opened plan parent).items (Child child) → faults_below plan (depth_left plan parent) child ≡ faults_in plan child
+pub child-faulting : (plan : PlanView) (parent child : Origin) → IsOriginOf plan parent → Contains (node_of plan parent).items (Child child) → faults_below plan (depth_left plan parent) child ≡ faults_in plan child
 child-faulting plan parent child h k = enough plan [] (faults_with plan) (depth_left plan parent) child (fewer-left-below plan parent child h k)
 
 ends_within : (fs gs : List Fault) (q : Result (List Value) Fault) → LeastOf fs q → ((f : Fault) → Contains fs f → Contains gs f) → EndsWithin gs q

@@ -9,7 +9,7 @@ use Rattle.serial_meaning.specs.Laws.{IsOriginOf, Main, ChildOf, PartOf}
 use Rattle.serial_meaning.specs.Answer.{AnswersFor}
 use Rattle.serial_meaning.specs.Plan.{PlanView}
 use Rattle.serial_meaning.specs.Eval.{iteration, path_of, eval_below, depth_left}
-use Rattle.serial_meaning.specs.Open.{Item, Happened, Child, Opened, Closed, NodeFault, Own, ChildFaulted, iterations, opened, own_fault, faults_of, faults_below, faults_in, faults}
+use Rattle.serial_meaning.specs.Open.{Item, Happened, Child, Opened, Closed, NodeFault, Own, ChildFaulted, iterations, node_of, own_fault, faults_of, faults_below, faults_in, faults}
 use Rattle.serial_meaning.proofs.LeastFault.Children.{Rise, NodeStops, children, node-spread}
 use Rattle.serial_meaning.proofs.Equations.Each.{each-contained}
 use Rattle.serial_meaning.proofs.LeastFault.Least.{Under, faults_below-under}
@@ -44,10 +44,10 @@ rising-beside (o ∷ os) c d r k m = from (cons-contained o c os k) (cons-contai
     from (inr h) (inl n) later = right (subst (λ (x : Origin). LeftOf (path_of x) (path_of c)) n (each-contained (λ x. LeftOf (path_of o) (path_of x)) os c r.0 h))
     from (inr h) (inr n) later = later h n
 
-node-beside : (plan : PlanView) (o c d : Origin) → Contains (opened plan o).items (Child c) → Contains (opened plan o).items (Child d) → Beside c d
+node-beside : (plan : PlanView) (o c d : Origin) → Contains (node_of plan o).items (Child c) → Contains (node_of plan o).items (Child d) → Beside c d
 node-beside plan o c d k m =
     let s = node-spread plan (eval_below plan (depth_left plan o)) o in
-    let items = (opened plan o).items in rising-beside (children items) c d s.spread.rise (child-contained items c k) (child-contained items d m)
+    let items = (node_of plan o).items in rising-beside (children items) c d s.spread.rise (child-contained items c k) (child-contained items d m)
 
 -- Iterations
 
@@ -65,7 +65,7 @@ module _ (function : ℕ) (rest : List Value) (first : ℤ) (path : List ℕ) wh
       from (inl h) later = (lo, sym (ap (origin_or o) h), omega arith, omega arith)
       from (inr h) later = let p = later h in (p.0, p.1, omega (arith, p.2), omega (arith, p.3))
 
-  loop-child : (plan : PlanView) (range : Range) (c : Origin) → Contains (opened plan (Loop function rest first path range)).items (Child c) →
+  loop-child : (plan : PlanView) (range : Range) (c : Origin) → Contains (node_of plan (Loop function rest first path range)).items (Child c) →
       (k : ℕ) × (c ≡ iteration function rest first path k) × (range.lo ≤ k) × (k < range.lo + (range.hi - range.lo))
   loop-child plan range c k = iteration-in range.lo (range.hi - range.lo) c k
 
@@ -76,7 +76,7 @@ scope-begins (Instance function args path) j s = s
 scope-begins (Loop function rest first path range) j s = (s.0 ∷ s.1, s.2)
 
 -- what a child answers for its parent does too
-parent-scope : (plan : PlanView) (p c : Origin) (j : List ℕ) → Contains (opened plan p).items (Child c) → AnswersFor c j → AnswersFor p j
+parent-scope : (plan : PlanView) (p c : Origin) (j : List ℕ) → Contains (node_of plan p).items (Child c) → AnswersFor c j → AnswersFor p j
 parent-scope plan (Instance function args path) c j k s =
     let r = child-below plan (Instance function args path) c k in
     let b = scope-begins c j s in ((r.0 ∷ r.1) ++ b.0, b.1 ∙ ap (λ l. l ++ b.0) r.2 ∙ append_assoc path (r.0 ∷ r.1) b.0)
@@ -111,11 +111,11 @@ not-own path os c (Err (Own x)) f more n k at g = from (only g)
         left-apart (path_of c) x.at more [] l (sym at ∙ ap (λ (y : Fault). y.at) (sym e) ∙ sym (append-nil x.at))
 
 -- a fault of a node that begins with a child's path is one of the child's
-in-child : (plan : PlanView) (p c : Origin) (f : Fault) → Contains (opened plan p).items (Child c) → (more : List ℕ) × (f.at ≡ path_of c ++ more) → Contains (faults_in plan p) f → Contains (faults_below plan (depth_left plan p) c) f
-in-child plan p c f k at h = from (Contains-append_cases (faults_of below items) (own_fault (opened plan p).ending) f h)
+in-child : (plan : PlanView) (p c : Origin) (f : Fault) → Contains (node_of plan p).items (Child c) → (more : List ℕ) × (f.at ≡ path_of c ++ more) → Contains (faults_in plan p) f → Contains (faults_below plan (depth_left plan p) c) f
+in-child plan p c f k at h = from (Contains-append_cases (faults_of below items) (own_fault (node_of plan p).ending) f h)
   where
     items : List Item
-    items = (opened plan p).items
+    items = (node_of plan p).items
 
     below : Origin → List Fault
     below = faults_below plan (depth_left plan p)
@@ -132,11 +132,11 @@ in-child plan p c f k at h = from (Contains-append_cases (faults_of below items)
         by (left l) = absurd (left-apart (path_of c) (path_of d) at.0 (u.0 ∷ u.1) l (sym at.1 ∙ u.2))
         by (right l) = absurd (left-apart (path_of d) (path_of c) (u.0 ∷ u.1) at.0 l (sym u.2 ∙ at.1))
 
-    from : Contains (faults_of below items) f ⊎ Contains (own_fault (opened plan p).ending) f → Contains (below c) f
+    from : Contains (faults_of below items) f ⊎ Contains (own_fault (node_of plan p).ending) f → Contains (below c) f
     from (inl g) = let d = child-of-fault below items f g in same-child d.0 d.1 d.2
     from (inr g) =
         let n = node-spread plan (eval_below plan (depth_left plan p)) p in
-        absurd (not-own (path_of p) (children items) c (opened plan p).ending f at.0 n.stops (child-contained items c k) at.1 g)
+        absurd (not-own (path_of p) (children items) c (node_of plan p).ending f at.0 n.stops (child-contained items c k) at.1 g)
 
 -- a fault of a loop for which a part of it answers is one of the part's
 in-part : (plan : PlanView) (function : ℕ) (rest : List Value) (first : ℤ) (path : List ℕ) (whole part : Range) (f : Fault) → AnswersFor (Loop function rest first path part) f.at →
@@ -147,7 +147,7 @@ in-part plan function rest first path whole part f s h =
     let same : s.0 ≡ i.0 = rank-same path s.0 i.0 s.1 (u.0 ∷ u.1) (sym s.2 ∙ u.2 ∙ append_assoc path (i.0 ∷ []) (u.0 ∷ u.1)) in
     of-iteration-in plan function rest first path part i.0 f (omega (arith, s.3, same)) (omega (arith, s.4, same)) i.3
 
-below-parent : (plan : PlanView) (parent child : Origin) → IsOriginOf plan parent → Contains (opened plan parent).items (Child child) → (f : Fault) → AnswersFor child f.at →
+below-parent : (plan : PlanView) (parent child : Origin) → IsOriginOf plan parent → Contains (node_of plan parent).items (Child child) → (f : Fault) → AnswersFor child f.at →
     (AnswersFor parent f.at → Contains (faults_in plan parent) f) → Contains (faults_in plan child) f
 below-parent plan parent child p k f s above =
     subst (λ (fs : List Fault). Contains fs f) (child-faulting plan parent child p k) (in-child plan parent child f k (scope-begins child f.at s) (above (parent-scope plan parent child f.at k s)))
@@ -169,7 +169,7 @@ abbrev pub IsLoop : Origin → Type 0
 IsLoop (Instance function args path) = ⊥
 IsLoop (Loop function rest first path range) = Unit {0}
 
-not-at-child : (plan : PlanView) (parent child : Origin) → IsOriginOf plan parent → Contains (opened plan parent).items (Child child) → (f : Fault) → Contains (faults plan) f → IsLoop child → f.at ≡ path_of child → ⊥
+not-at-child : (plan : PlanView) (parent child : Origin) → IsOriginOf plan parent → Contains (node_of plan parent).items (Child child) → (f : Fault) → Contains (faults plan) f → IsLoop child → f.at ≡ path_of child → ⊥
 not-at-child plan (Loop function rest first path range) child p k f h loop e =
     let i = loop-child function rest first path plan range child k in absurd (subst IsLoop i.1 loop)
 not-at-child plan (Instance function args path) child p k f h loop e =

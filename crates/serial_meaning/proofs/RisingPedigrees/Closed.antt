@@ -5,8 +5,8 @@ use Rattle.std.specs.Int.{w64, cast_signed}
 use Rattle.serial_meaning.proofs.Equations.RunLaws.{then-then}
 use Rattle.serial_meaning.specs.Runs.{Run, done, happens, after_items, ◌then◌}
 use Rattle.serial_meaning.specs.Values.{value_of, values_of, slot_of, items_of, as_integer, is_true, at_index}
-use Rattle.serial_meaning.specs.Functions.{number_of, function_at, any_spawns}
-use Rattle.serial_meaning.specs.Exec.{State, Manner, BlockMeaning, strand, fault, emit_and_raise, unless_fault, paid_from, tested, has_room, fits_depth, with_loop_values, spawn, sync_here, leaves, goes_out, shown, implied, returned, frame, called, right_side, found, looped, does, statement, each, statements, exec, count_of, set_scalar, set_array, bound}
+use Rattle.serial_meaning.specs.Functions.{function_number, function_at, any_spawns}
+use Rattle.serial_meaning.specs.Exec.{State, Manner, BlockMeaning, strand, fault, emit_and_raise, unless_fault, paid_from, tested, has_room, fits_depth, with_loop_values, spawn, sync_here, leaves, goes_out, all_happen, implied, function_end, frame, called, right_side, found, looped, does, statement, each, statements, exec, count_of, set_scalar, set_array, bound}
 use Rattle.script_grammar.specs.declared.tree.Name.{Name}
 use Rattle.script_grammar.specs.declared.tree.Function.{Function}
 use Rattle.script_grammar.specs.declared.tree.CallText.{CallText}
@@ -87,12 +87,12 @@ module _ {I E K : Type 0} (how : Manner I E K) (plan : PlanView) where
       implied-p true s = c.p-join path s
       implied-p false s = c.p-done path s
 
-      pub returned-q : (f : Function) (s : State K) → Q path s.rank (returned how plan path f s)
+      pub returned-q : (f : Function) (s : State K) → Q path s.rank (function_end how plan path f s)
       returned-q f s =
           paid-q s.steps s _ (λ m. c.pq path s.rank (implied how plan path (any_spawns f.body) (record s { steps = m })) _ (implied-p (any_spawns f.body) (record s { steps = m })) (λ s'. given-q (value_of f.result s'.env) s' _ (λ v. c.q-done path v s')))
 
       spawn-q : (t : CallText) (s : State K) → Q path s.rank (spawn how plan path t s)
-      spawn-q t s = given-q (values_of t.args s.env) s _ (λ vs. tested-q (nat_lt (length path + 1) plan.limits.depth) Depth s _ (c.q-child path (number_of (functions_of plan) t.name.bytes) vs s))
+      spawn-q t s = given-q (values_of t.args s.env) s _ (λ vs. tested-q (nat_lt (length path + 1) plan.limits.depth) Depth s _ (c.q-child path (function_number (functions_of plan) t.name.bytes) vs s))
 
       module _ (b : BlockMeaning I E K) (fine : Fine b) where
         frame-q : (calls : ℕ) (o : Option Function) (vs : List Value) (s : State K) → Q path s.rank (frame how plan path b calls o vs s)
@@ -102,7 +102,7 @@ module _ {I E K : Type 0} (how : Manner I E K) (plan : PlanView) where
 
         called-q : (calls : ℕ) (t : CallText) (s : State K) → Q path s.rank (called how plan path b calls t s)
         called-q calls t s =
-            given-q (values_of t.args s.env) s _ (λ vs. tested-q (nat_lt calls 256) Calls s _ (λ few. c.qq path s.rank (frame how plan path b (calls + 1) (function_at (functions_of plan) (number_of (functions_of plan) t.name.bytes)) vs s) _ (frame-q (calls + 1) (function_at (functions_of plan) (number_of (functions_of plan) t.name.bytes)) vs s) (λ p. c.q-done path p.0 (record s { rank = p.1.rank; steps = p.1.steps }))))
+            given-q (values_of t.args s.env) s _ (λ vs. tested-q (nat_lt calls 256) Calls s _ (λ few. c.qq path s.rank (frame how plan path b (calls + 1) (function_at (functions_of plan) (function_number (functions_of plan) t.name.bytes)) vs s) _ (frame-q (calls + 1) (function_at (functions_of plan) (function_number (functions_of plan) t.name.bytes)) vs s) (λ p. c.q-done path p.0 (record s { rank = p.1.rank; steps = p.1.steps }))))
 
         right_side-q : (calls : ℕ) (r : Right) (s : State K) → Q path s.rank (right_side how plan path b calls r s)
         right_side-q calls (right.Value e) s = given-q (value_of e s.env) s _ (λ v. c.q-done path v s)
@@ -120,11 +120,11 @@ module _ {I E K : Type 0} (how : Manner I E K) (plan : PlanView) where
 
         -- the block of a scope and the sync at its end, and then out of it
         scope-p : (calls : ℕ) (xs : List Stmt) (s : State K) → nat_lt (length path + 1) plan.limits.depth ≡ true →
-            P path s.rank (shown (how.opens (strand path s)) (record s { rank = 0 }) then b (strand path s) calls xs then leaves how plan path s.rank)
+            P path s.rank (all_happen (how.opens (strand path s)) (record s { rank = 0 }) then b (strand path s) calls xs then leaves how plan path s.rank)
         scope-p calls xs s deep =
             let here : List ℕ = strand path s in
             let inner : State K = record s { rank = 0 } in
-            let opens : Goes = shown (how.opens here) inner in
+            let opens : Goes = all_happen (how.opens here) inner in
             let same : (after_items (how.opens here) (b here calls xs inner then sync_here how plan here) then goes_out how plan path s.rank) ≡ (opens then b here calls xs then leaves how plan path s.rank) =
             ap (λ (q : Goes). q then goes_out how plan path s.rank) (sym (then-then opens (b here calls xs) (sync_here how plan here)))
             ∙ then-then (opens then b here calls xs) (sync_here how plan here) (goes_out how plan path s.rank) in
@@ -147,7 +147,7 @@ module _ {I E K : Type 0} (how : Manner I E K) (plan : PlanView) where
             given-p (value_of lo s.env) s _ (λ l. given-p (value_of hi s.env) s _ (λ h. given-p (values_of t.args s.env) s _ (λ vs. looped-p (as_integer l) (count_of (as_integer h -ℤ as_integer l)) vs)))
           where
             looped-p : (l : ℤ) (n : ℕ) (vs : List Value) → P path s.rank (looped how plan path l n vs target t s)
-            looped-p l n vs = tested-p (nat_lt n (s.steps + 1)) Budget s _ (λ enough. tested-p (has_room target n s.env) Index _ _ (λ room. tested-p (fits_depth how plan path n) Depth _ _ (c.p-loop path (number_of (functions_of plan) t.name.bytes) vs l n target _)))
+            looped-p l n vs = tested-p (nat_lt n (s.steps + 1)) Budget s _ (λ enough. tested-p (has_room target n s.env) Index _ _ (λ room. tested-p (fits_depth how plan path n) Depth _ _ (c.p-loop path (function_number (functions_of plan) t.name.bytes) vs l n target _)))
         does-p calls st (act.Scope xs) s = tested-p (nat_lt (length path + 1) plan.limits.depth) Depth s _ (scope-p calls xs s)
 
       each-p : (one : Stmt → State K → Goes) → ((st : Stmt) (s : State K) → P path s.rank (one st s)) → (sts : List Stmt) (s : State K) → P path s.rank (each how plan path one sts s)

@@ -3,7 +3,7 @@ use Rattle.std.proofs.Common.{◌≡◌, ℕ, zero, suc, ◌<◌, ◌≤◌, Lis
 use Rattle.std.specs.Prelude.{AllPairs}
 use Rattle.ped_path.specs.Path.{IsBefore}
 use Rattle.serial_meaning.specs.Laws.{raising_pedigrees}
-use Rattle.serial_meaning.specs.Runs.{Run, goes_on, ◌then◌}
+use Rattle.serial_meaning.specs.Runs.{Run, continued, ◌then◌}
 use Rattle.serial_meaning.proofs.Equations.Each.{Each, each-append}
 use Rattle.serial_meaning.proofs.RisingPedigrees.Order.{before-by_rank}
 use Rattle.serial_meaning.specs.declared.event.Fault.{Fault}
@@ -94,7 +94,7 @@ pub rising-then : {A B : Type 0} (path : List ℕ) (f-rank : A → ℕ) (g-rank 
     Rising path f-rank lo r → ((a : A) → Rising path g-rank (f-rank a) (f a)) → Rising path g-rank lo (r then f)
 rising-then {A = A} {B = B} path f-rank g-rank lo r f h k = from r.items r.ending h.hi h.below h.within h.rise
   where
-    from : (items : List Event) (e : Result A Fault) (hi : ℕ) → Below path f-rank lo hi (raising_pedigrees items) e → Within path lo hi (raising_pedigrees items) → Rise (raising_pedigrees items) → Rising path g-rank lo (goes_on items e f)
+    from : (items : List Event) (e : Result A Fault) (hi : ℕ) → Below path f-rank lo hi (raising_pedigrees items) e → Within path lo hi (raising_pedigrees items) → Rise (raising_pedigrees items) → Rising path g-rank lo (continued items e f)
     from items (Err e) hi b w s = record { hi = hi; below = b; within = w; rise = s }
     from items (Ok a) hi b w s = record {
       hi = max hi (k a).hi;

@@ -5,7 +5,7 @@ use Rattle.std.specs.Int.{w64, int_wrapping_add}
 use Rattle.std.specs.Prelude.{AllPairs}
 use Rattle.ped_path.specs.Path.{IsBefore}
 use Rattle.serial_meaning.specs.Laws.{raising_pedigrees}
-use Rattle.serial_meaning.specs.Runs.{Run, done, after_items, goes_on, ◌then◌}
+use Rattle.serial_meaning.specs.Runs.{Run, done, after_items, continued, ◌then◌}
 use Rattle.serial_meaning.specs.Functions.{function_at}
 use Rattle.serial_meaning.specs.Exec.{State, goes_out, frame, exec, instance, with_loop_values}
 use Rattle.serial_meaning.specs.Eval.{Evaluation, serial, loop_evaluation, eval_with, eval_below, eval, depth_left, path_of, first_value, main_origin, elision}
@@ -66,7 +66,7 @@ module _ (plan : PlanView) (child : Origin → Evaluation) (fine : (o : Origin) 
   fault-child path k js f n = (k, n.0 ∷ n.1, n.2 ∙ append_assoc path (k ∷ []) (n.0 ∷ n.1), omega arith, n.3)
 
   with_child : {B : Type 0} (path : List ℕ) (rank : B → ℕ) (k : ℕ) (e : Event) (items : List Event) (q : Result (List Value) Fault) (f : List Value → B) → ((a : List Value) → rank (f a) ≡ k + 1) → raising_pedigrees (e ∷ items) ≡ (path ++ k ∷ []) ∷ raising_pedigrees items →
-      (hi : ℕ) → Within (path ++ k ∷ []) 0 hi (raising_pedigrees items) → Rise (raising_pedigrees items) → EndsAfter (path ++ k ∷ []) (raising_pedigrees items) q → Rising path rank k (after_items (e ∷ []) (goes_on items q (λ a. done (f a))))
+      (hi : ℕ) → Within (path ++ k ∷ []) 0 hi (raising_pedigrees items) → Rise (raising_pedigrees items) → EndsAfter (path ++ k ∷ []) (raising_pedigrees items) q → Rising path rank k (after_items (e ∷ []) (continued items q (λ a. done (f a))))
   with_child path rank k e items (Ok a) f r p hi w s n = record {
     hi = k + 1;
     below = (sym (r a), omega arith);
@@ -86,7 +86,7 @@ module _ (plan : PlanView) (child : Origin → Evaluation) (fine : (o : Origin) 
   scope-rises path s r h = from r.items r.ending h.hi h.below h.within h.rise
     where
       from : (items : List Event) (q : Result (State (Unit {0})) Fault) (hi : ℕ) → Below (path ++ s.rank ∷ []) rank_of 0 hi (raising_pedigrees items) q → Within (path ++ s.rank ∷ []) 0 hi (raising_pedigrees items) → Rise (raising_pedigrees items) →
-          Rising path rank_of s.rank (goes_on items q (goes_out (serial child) plan path s.rank))
+          Rising path rank_of s.rank (continued items q (goes_out (serial child) plan path s.rank))
       from items (Ok a) hi b w t = record {
         hi = s.rank + 1;
         below = (refl, omega arith);
@@ -125,7 +125,7 @@ module _ (plan : PlanView) (child : Origin → Evaluation) (fine : (o : Origin) 
   frame-rises path (Some f) vs s =
       rising-then path rank_of pair_rank s.rank _ _ (closed-exec (serial child) plan P Q rules_hold path 0 f.body _) (λ a. returned-q (serial child) plan P Q rules_hold path f a)
 
-  mapped : {A B : Type 0} (items : List Event) (q : Result A Fault) (f : A → Run Event Fault B) → ((a : A) → (f a).items ≡ []) → raising_pedigrees (goes_on items q f).items ≡ raising_pedigrees items
+  mapped : {A B : Type 0} (items : List Event) (q : Result A Fault) (f : A → Run Event Fault B) → ((a : A) → (f a).items ≡ []) → raising_pedigrees (continued items q f).items ≡ raising_pedigrees items
   mapped items (Ok a) f h = ap raising_pedigrees (ap (λ l. items ++ l) (h a) ∙ append-nil items)
   mapped items (Err e) f h = refl
 
@@ -144,7 +144,7 @@ module _ (plan : PlanView) (child : Origin → Evaluation) (fine : (o : Origin) 
   ends-mapped : {A B : Type 0} (path : List ℕ) (rank : A → ℕ) (hi : ℕ) (js : List (List ℕ)) (r : Run Event Fault A) (f : A → B) (g : B → List Value) → Below path rank 0 hi js r.ending → EndsAfter path js ((r then λ a. done (f a)) then λ b. done (g b)).ending
   ends-mapped {A} {B} path rank hi js r f g b = from r.items r.ending b
     where
-      from : (items : List Event) (q : Result A Fault) → Below path rank 0 hi js q → EndsAfter path js (goes_on items q (λ a. done (f a)) then λ b. done (g b)).ending
+      from : (items : List Event) (q : Result A Fault) → Below path rank 0 hi js q → EndsAfter path js (continued items q (λ a. done (f a)) then λ b. done (g b)).ending
       from items (Ok a) c = tt
       from items (Err e) c = (c.0, c.1, c.2, c.4)
 

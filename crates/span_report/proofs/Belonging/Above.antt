@@ -6,7 +6,7 @@ use Rattle.serial_meaning.specs.Laws.{raising_pedigrees}
 use Rattle.serial_meaning.proofs.RisingPedigrees.Rising.{Rise}
 use Rattle.serial_meaning.specs.declared.event.Event.{Event}
 use Rattle.serial_meaning.specs.declared.event.Event.TheVariants as event
-use Rattle.span_report.specs.Series.{Begins, BeginsProperly, IsOf, PrecedesAtMeet, Own, Looped, Synced}
+use Rattle.span_report.specs.Series.{Begins, BeginsProperly, IsEventOf, PrecedesAtMeet, Own, Looped, Synced}
 use Rattle.span_report.specs.Nested.{Instance}
 use Rattle.span_report.proofs.Nested.Clear.{Raises, raises-at, IsClear}
 use Rattle.span_report.proofs.Belonging.Homes.{of-unique, same-front, begins-length, fronts, get-contained, IsPresent}
@@ -18,13 +18,13 @@ properly a b h = (h.0 ∷ h.1, h.2)
 
 module _ (all : List Event) (nested : IsClear all (Instance []) [] 0 all) (rise : Rise (raising_pedigrees all)) where
   -- Of an instance's events that raise the rank only one begins what lies at or below a rank of a present path, where such an event stands.
-  pub begins-child : (home path j : List ℕ) (r : ℕ) (rest : List ℕ) (c : ℕ) (e x : Event) → IsPresent all home path → IsOf all home c e → Raises e j → Contains all x → Raises x (path ++ r ∷ []) → Begins j (path ++ r ∷ rest) → j ≡ path ++ r ∷ []
+  pub begins-child : (home path j : List ℕ) (r : ℕ) (rest : List ℕ) (c : ℕ) (e x : Event) → IsPresent all home path → IsEventOf all home c e → Raises e j → Contains all x → Raises x (path ++ r ∷ []) → Begins j (path ++ r ∷ rest) → j ≡ path ++ r ∷ []
   begins-child home path j r rest c e x h o raises k at b = by (split (length j) (length path))
     where
       q : path ++ r ∷ rest ≡ (path ++ r ∷ []) ++ rest
       q = sym (append_assoc path (r ∷ []) rest)
 
-      placed : (p : IsPlaced all e) × IsOf all p.home c e
+      placed : (p : IsPlaced all e) × IsEventOf all p.home c e
       placed = event-of all nested rise c e o.numbered
 
       there : IsPresent all home placed.0.path
@@ -63,14 +63,14 @@ module _ (all : List Event) (nested : IsClear all (Instance []) [] 0 all) (rise 
 
   -- Below a child that was spawned, and since which its parent made no sync.
   pub not-awaited-child : (n : ℕ) (home path : List ℕ) (r : ℕ) (rest : List ℕ) → IsPresent all home path → Contains all (event.Spawn (path ++ r ∷ [])) →
-      ((c s : ℕ) (at : List ℕ) → IsOf all home c (event.Spawn (path ++ r ∷ [])) → IsOf all home s (event.Sync at) → c < s → s < n → ⊥) → PrecedesAtMeet all n (path ++ r ∷ rest) home home → ⊥
+      ((c s : ℕ) (at : List ℕ) → IsEventOf all home c (event.Spawn (path ++ r ∷ [])) → IsEventOf all home s (event.Sync at) → c < s → s < n → ⊥) → PrecedesAtMeet all n (path ++ r ∷ rest) home home → ⊥
   not-awaited-child n home path r rest here child quiet (Own z) =
       let l : length (path ++ r ∷ rest) ≡ length home = ap (λ (p : List ℕ). length p) z in let m = begins-length home path here.begins in omega (arith, l, m, length-append path (r ∷ rest))
   not-awaited-child n home path r rest here child quiet (Looped c j h p out) =
       let b = begins-child home path j r rest c (event.Loop j) (event.Spawn (path ++ r ∷ [])) here h refl child refl (properly j (path ++ r ∷ rest) p) in
       spawn-no-loop all nested rise (path ++ r ∷ []) child (subst (λ (l : List ℕ). Contains all (event.Loop l)) b (get-contained all c (event.Loop j) h.numbered))
   not-awaited-child n home path r rest here child quiet (Synced c s j at h b k l m) =
-      quiet c s at (subst (λ (p : List ℕ). IsOf all home c (event.Spawn p)) (begins-child home path j r rest c (event.Spawn j) (event.Spawn (path ++ r ∷ [])) here h refl child refl b) h) k l m
+      quiet c s at (subst (λ (p : List ℕ). IsEventOf all home c (event.Spawn p)) (begins-child home path j r rest c (event.Spawn j) (event.Spawn (path ++ r ∷ [])) here h refl child refl b) h) k l m
 
   -- In a loop, for an iteration of it.
   pub not-awaited-turn : (n : ℕ) (home path : List ℕ) (r t k : ℕ) (rest : List ℕ) → IsPresent all home path → Contains all (event.Loop (path ++ r ∷ [])) → PrecedesAtMeet all n (path ++ r ∷ t ∷ rest) (path ++ r ∷ k ∷ []) home → ⊥

@@ -2,7 +2,7 @@
 use Rattle.std.proofs.Common.{◌≡◌, ◌≤◌, ◌<◌, ◌+◌, ℕ, zero, suc, List, [], ◌∷◌, ◌++◌, Option, Some, None, length, length-append, append-nil, append_assoc, refl, sym, ◌∙◌, ap, subst, arith}
 use Rattle.std.specs.Prelude.{Contains, slice_get}
 use Rattle.serial_meaning.specs.declared.event.Event.{Event}
-use Rattle.span_report.specs.Series.{pedigree_of, Begins, BeginsProperly, IsEvent, IsInstance, IsHome, IsOf, IsMeet, IsReady, InSeries}
+use Rattle.span_report.specs.Series.{pedigree_of, Begins, BeginsProperly, IsEvent, IsInstance, IsHome, IsEventOf, IsMeet, PrecedesFrom, InSeries}
 use Rattle.span_report.proofs.Nested.Clear.{Raises}
 
 first-same : (x y : ℕ) (xs ys : List ℕ) → x ∷ xs ≡ y ∷ ys → x ≡ y
@@ -108,13 +108,13 @@ module _ (events : List Event) where
   pub event-unique : (n : ℕ) (a b : Event) → IsEvent events n a → IsEvent events n b → a ≡ b
   event-unique n a b h k = some-same a b (sym h ∙ k)
 
-  pub of-unique : (n : ℕ) (path other : List ℕ) (a b : Event) → IsOf events path n a → IsOf events other n b → path ≡ other
+  pub of-unique : (n : ℕ) (path other : List ℕ) (a b : Event) → IsEventOf events path n a → IsEventOf events other n b → path ≡ other
   of-unique n path other a b h k =
       home-unique (pedigree_of b) path other (subst (λ (e : Event). IsHome events (pedigree_of e) path) (event-unique n a b h.numbered k.numbered) h.belongs) k.belongs
 
   -- What is in series before an event is what is so before all that its instance does from there on.
-  pub series-ready : (i n : ℕ) (path : List ℕ) (e : Event) → IsOf events path n e → InSeries events i n → IsReady events i n path
-  series-ready i n path e h s = subst (λ (p : List ℕ). IsReady events i n p) (of-unique n s.home path s.e e s.placed h) s.ready
+  pub series-ready : (i n : ℕ) (path : List ℕ) (e : Event) → IsEventOf events path n e → InSeries events i n → PrecedesFrom events i n path
+  series-ready i n path e h s = subst (λ (p : List ℕ). PrecedesFrom events i n p) (of-unique n s.home path s.e e s.placed h) s.ready
 
-  pub ready-series : (i n : ℕ) (path : List ℕ) (e : Event) → IsOf events path n e → IsReady events i n path → InSeries events i n
+  pub ready-series : (i n : ℕ) (path : List ℕ) (e : Event) → IsEventOf events path n e → PrecedesFrom events i n path → InSeries events i n
   ready-series i n path e h r = record { e = e; home = path; placed = h; ready = r }

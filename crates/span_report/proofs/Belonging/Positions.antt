@@ -6,7 +6,7 @@ use Rattle.serial_meaning.proofs.Equations.Each.{Each, each-append, each-map}
 use Rattle.serial_meaning.proofs.LeastFault.Left.{rank-same}
 use Rattle.serial_meaning.specs.declared.event.Event.{Event}
 use Rattle.serial_meaning.specs.declared.event.Event.TheVariants as event
-use Rattle.span_report.specs.Series.{pedigree_of, Begins, BeginsProperly, IsEvent, IsInstance, IsOf}
+use Rattle.span_report.specs.Series.{pedigree_of, Begins, BeginsProperly, IsEvent, IsInstance, IsEventOf}
 use Rattle.span_report.specs.Nested.{Whose, Instance, Iterations}
 use Rattle.span_report.proofs.Nested.Clear.{too-long, step-at, IsClear, Ends, Prints, Steps, Spawns, Loops, Iterates, Scopes}
 use Rattle.span_report.proofs.Belonging.Homes.{event-unique, of-unique, begins-length, fronts}
@@ -89,13 +89,13 @@ module _ (all : List Event) where
       from (inr s) later = subst T (event-unique all i x e (subst (λ (k : ℕ). IsEvent all k x) (omega (arith, s, l)) a.0) g) h.0
 
   -- The instance of an event that begins with a path of an instance begins with it too.
-  pub home-begins : (path own : List ℕ) (i : ℕ) (e : Event) → IsInstance all path → BeginsProperly path (pedigree_of e) → IsOf all own i e → Begins path own
+  pub home-begins : (path own : List ℕ) (i : ℕ) (e : Event) → IsInstance all path → BeginsProperly path (pedigree_of e) → IsEventOf all own i e → Begins path own
   home-begins path own i e h b k = let l = k.belongs.longest path h b in let c = k.belongs.begins in fronts path own (b.0 ∷ b.1) (c.0 ∷ c.1) (sym b.2 ∙ c.2) l
 
   -- No event before number n is of an instance at or below a rank of the path from this one on, nor spawns one. The path is a present one, or a
   -- loop's pedigree.
   pub record Fresh (n : ℕ) (path : List ℕ) (rank : ℕ) : Type 0 where
-    pub homes : (i : ℕ) (own : List ℕ) (e : Event) → i < n → IsOf all own i e → (r : ℕ) (more : List ℕ) → own ≡ path ++ r ∷ more → r < rank
+    pub homes : (i : ℕ) (own : List ℕ) (e : Event) → i < n → IsEventOf all own i e → (r : ℕ) (more : List ℕ) → own ≡ path ++ r ∷ more → r < rank
     pub spawns : (i : ℕ) (j : List ℕ) → i < n → IsEvent all i (event.Spawn j) → (r : ℕ) (more : List ℕ) → j ≡ path ++ r ∷ more → r < rank
 
   pub fresh-start : Fresh 0 [] 0
@@ -105,7 +105,7 @@ module _ (all : List Event) where
   pub fresh-on : (n m : ℕ) (path : List ℕ) (rank : ℕ) → Fresh n path rank → ((i : ℕ) (e : Event) → n ≤ i → i < m → IsEvent all i e → (tail : List ℕ) × (pedigree_of e ≡ path ++ rank ∷ tail)) → Fresh m path (rank + 1)
   fresh-on n m path rank f g = record { homes = homes; spawns = spawns }
     where
-      homes : (i : ℕ) (own : List ℕ) (e : Event) → i < m → IsOf all own i e → (r : ℕ) (more : List ℕ) → own ≡ path ++ r ∷ more → r < rank + 1
+      homes : (i : ℕ) (own : List ℕ) (e : Event) → i < m → IsEventOf all own i e → (r : ℕ) (more : List ℕ) → own ≡ path ++ r ∷ more → r < rank + 1
       homes i own e l h r more q = from (split-at i n)
         where
           from : (i < n) ⊎ (n ≤ i) → r < rank + 1
@@ -124,15 +124,15 @@ module _ (all : List Event) where
           from (inr s) = let t = g i (event.Spawn j) s l h in let k = rank-same path r rank more t.0 (sym q ∙ t.1) in omega (arith, k)
 
   -- After an event of the instance itself that spawns nothing.
-  pub fresh-same : (n : ℕ) (home path : List ℕ) (rank : ℕ) (e : Event) → Begins home path → Fresh n path rank → IsOf all home n e → ((j : List ℕ) → e ≡ event.Spawn j → ⊥) → Fresh (n + 1) path rank
+  pub fresh-same : (n : ℕ) (home path : List ℕ) (rank : ℕ) (e : Event) → Begins home path → Fresh n path rank → IsEventOf all home n e → ((j : List ℕ) → e ≡ event.Spawn j → ⊥) → Fresh (n + 1) path rank
   fresh-same n home path rank e b f h never = record { homes = homes; spawns = spawns }
     where
-      homes : (i : ℕ) (own : List ℕ) (x : Event) → i < n + 1 → IsOf all own i x → (r : ℕ) (more : List ℕ) → own ≡ path ++ r ∷ more → r < rank
+      homes : (i : ℕ) (own : List ℕ) (x : Event) → i < n + 1 → IsEventOf all own i x → (r : ℕ) (more : List ℕ) → own ≡ path ++ r ∷ more → r < rank
       homes i own x l k r more q = from (split-at i n)
         where
           from : (i < n) ⊎ (n ≤ i) → r < rank
           from (inl s) = f.homes i own x s k r more q
-          from (inr s) = absurd (home-short home path r more b (of-unique all n home own e x h (subst (λ (m : ℕ). IsOf all own m x) (omega (arith, s, l)) k) ∙ q))
+          from (inr s) = absurd (home-short home path r more b (of-unique all n home own e x h (subst (λ (m : ℕ). IsEventOf all own m x) (omega (arith, s, l)) k) ∙ q))
 
       spawns : (i : ℕ) (j : List ℕ) → i < n + 1 → IsEvent all i (event.Spawn j) → (r : ℕ) (more : List ℕ) → j ≡ path ++ r ∷ more → r < rank
       spawns i j l k r more q = from (split-at i n)
@@ -149,18 +149,18 @@ module _ (all : List Event) where
   }
 
   -- the same after the event with which it begins
-  pub fresh-child : (n : ℕ) (home path : List ℕ) (rank : ℕ) (e : Event) → Begins home path → Fresh n path rank → IsOf all home n e → pedigree_of e ≡ path ++ rank ∷ [] → Fresh (n + 1) (path ++ rank ∷ []) 0
+  pub fresh-child : (n : ℕ) (home path : List ℕ) (rank : ℕ) (e : Event) → Begins home path → Fresh n path rank → IsEventOf all home n e → pedigree_of e ≡ path ++ rank ∷ [] → Fresh (n + 1) (path ++ rank ∷ []) 0
   fresh-child n home path rank e b f h p = record { homes = homes; spawns = spawns }
     where
       g : Fresh n (path ++ rank ∷ []) 0
       g = fresh-below n path rank f
 
-      homes : (i : ℕ) (own : List ℕ) (x : Event) → i < n + 1 → IsOf all own i x → (r : ℕ) (more : List ℕ) → own ≡ (path ++ rank ∷ []) ++ r ∷ more → r < 0
+      homes : (i : ℕ) (own : List ℕ) (x : Event) → i < n + 1 → IsEventOf all own i x → (r : ℕ) (more : List ℕ) → own ≡ (path ++ rank ∷ []) ++ r ∷ more → r < 0
       homes i own x l k r more q = from (split-at i n)
         where
           from : (i < n) ⊎ (n ≤ i) → r < 0
           from (inl s) = g.homes i own x s k r more q
-          from (inr s) = absurd (home-short home path rank (r ∷ more) b (of-unique all n home own e x h (subst (λ (m : ℕ). IsOf all own m x) (omega (arith, s, l)) k) ∙ q ∙ append_assoc path (rank ∷ []) (r ∷ more)))
+          from (inr s) = absurd (home-short home path rank (r ∷ more) b (of-unique all n home own e x h (subst (λ (m : ℕ). IsEventOf all own m x) (omega (arith, s, l)) k) ∙ q ∙ append_assoc path (rank ∷ []) (r ∷ more)))
 
       spawns : (i : ℕ) (j : List ℕ) → i < n + 1 → IsEvent all i (event.Spawn j) → (r : ℕ) (more : List ℕ) → j ≡ (path ++ rank ∷ []) ++ r ∷ more → r < 0
       spawns i j l k r more q = from (split-at i n)
@@ -170,9 +170,9 @@ module _ (all : List Event) where
           from (inr s) = absurd (too-long (path ++ rank ∷ []) r more (sym p ∙ ap (λ (x : Event). pedigree_of x) (event-unique all n e (event.Spawn j) h.numbered (subst (λ (m : ℕ). IsEvent all m (event.Spawn j)) (omega (arith, s, l)) k)) ∙ q))
 
   -- so nothing lies there
-  pub none-below : (n : ℕ) (home path : List ℕ) (rank : ℕ) (e : Event) → Begins home path → Fresh n path rank → IsOf all home n e → (i : ℕ) → i < n + 1 → (own : List ℕ) (x : Event) → IsOf all own i x → Begins (path ++ rank ∷ []) own → ⊥
+  pub none-below : (n : ℕ) (home path : List ℕ) (rank : ℕ) (e : Event) → Begins home path → Fresh n path rank → IsEventOf all home n e → (i : ℕ) → i < n + 1 → (own : List ℕ) (x : Event) → IsEventOf all own i x → Begins (path ++ rank ∷ []) own → ⊥
   none-below n home path rank e a f h i l own x k b = from (split-at i n)
     where
       from : (i < n) ⊎ (n ≤ i) → ⊥
       from (inl s) = absurd (let q : rank < rank = f.homes i own x s k rank b.0 (b.1 ∙ append_assoc path (rank ∷ []) b.0) in omega (arith, q))
-      from (inr s) = home-short home path rank b.0 a (of-unique all n home own e x h (subst (λ (m : ℕ). IsOf all own m x) (omega (arith, s, l)) k) ∙ b.1 ∙ append_assoc path (rank ∷ []) b.0)
+      from (inr s) = home-short home path rank b.0 a (of-unique all n home own e x h (subst (λ (m : ℕ). IsEventOf all own m x) (omega (arith, s, l)) k) ∙ b.1 ∙ append_assoc path (rank ∷ []) b.0)

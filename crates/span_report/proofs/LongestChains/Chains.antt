@@ -2,7 +2,7 @@
 use Rattle.std.specs.Prelude.{◌≡◌, ◌+◌, ◌<◌, ◌≤◌, ◌⊎◌, ℕ, List, ◌∷◌, length}
 use Rattle.serial_meaning.specs.declared.event.Event.{Event}
 use Rattle.serial_meaning.specs.declared.event.Event.TheVariants as event
-use Rattle.span_report.specs.Series.{Begins, IsOf, IsChain}
+use Rattle.span_report.specs.Series.{Begins, IsEventOf, IsChain}
 
 -- a chain of so many events that ends in such an event
 pub record Reaches (events : List Event) (P : ℕ → Type 0) (most : ℕ) : Type 0 where
@@ -22,14 +22,14 @@ pub record IsPending (events : List Event) (m n : ℕ) (home : List ℕ) (i : �
   pub earlier : i < n
   pub e : Event
   pub own : List ℕ
-  pub placed : IsOf events own i e
+  pub placed : IsEventOf events own i e
   pub by : ℕ
   pub child : List ℕ
-  pub spawn : IsOf events home by (event.Spawn child)
+  pub spawn : IsEventOf events home by (event.Spawn child)
   pub since : m ≤ by
   pub before : by < n
   pub below : Begins child own
 
 -- Number m is the one after a sync of this instance before number n, or it is 0.
 abbrev pub HasSynced : List Event → ℕ → ℕ → List ℕ → Type 0
-HasSynced events m n home = (m ≡ 0) ⊎ ((s : ℕ) × (at : List ℕ) × IsOf events home s (event.Sync at) × (s < n) × (m ≡ s + 1))
+HasSynced events m n home = (m ≡ 0) ⊎ ((s : ℕ) × (at : List ℕ) × IsEventOf events home s (event.Sync at) × (s < n) × (m ≡ s + 1))

@@ -12,11 +12,11 @@ use Rattle.serial_meaning.specs.declared.value.Value.{Value}
 use Rattle.span_report.specs.declared.instance.OpenInstance.{OpenInstance}
 use Rattle.span_report.specs.declared.instance.Begun.{Begun}
 use Rattle.span_report.specs.declared.instance.Begun.TheVariants.{Spawned, Iterated}
-use Rattle.span_report.specs.Series.{pedigree_of, Begins, BeginsProperly, IsEvent, IsInstance, Main, Child, Iteration, IsHome, IsOf, IsReady, IsSpan}
+use Rattle.span_report.specs.Series.{pedigree_of, Begins, BeginsProperly, IsEvent, IsInstance, Main, Child, Iteration, IsHome, IsEventOf, PrecedesFrom, IsSpan}
 use Rattle.span_report.proofs.LongestChains.Chains.{IsMost}
 use Rattle.span_report.specs.Nested.{RaisesWithoutChild, Draw, New, Sync, Whose, Instance, Iterations}
-use Rattle.span_report.specs.Opens.{begun, joined, went_on, synced, looping_at}
-use Rattle.span_report.specs.Walks.{OpenInstances, main_alone, left, ended, went, opened_to, path_of, walked, walked_all, walked_span}
+use Rattle.span_report.specs.Opens.{new_open_instance, after_child_end, went_on, synced, looping_at}
+use Rattle.span_report.specs.Walks.{OpenInstances, main_alone, left, after_ends, instances_after, opened_to, path_of, walked, walked_all, walked_span}
 use Rattle.span_report.proofs.Nested.Clear.{NotAt, IsClear, Ends, Prints, Steps, Spawns, Loops, Iterates, Scopes, all-clear}
 use Rattle.span_report.proofs.Nested.Coming.{Past, Coming, coming-here, coming-next, coming-in, past-rank, past-apart}
 use Rattle.span_report.proofs.Belonging.Homes.{begins-begins, event-unique, get-contained, IsPresent}
@@ -31,7 +31,7 @@ use Rattle.span_report.proofs.LongestChains.Standing.{Holds, HoldsLoop, holds-we
 use Rattle.span_report.proofs.LongestChains.Stacks.{stack, leads-below, leads-not, left-here, left-up, ended-left, Same, path-is, path-below, IsQuiet, quiet-none, quiet-loop, entered-turn, walked_append, walked-own}
 
 module _ (all : List Event) (nested : IsClear all (Instance []) [] 0 all) (rise : Rise (raising_pedigrees all)) where
-  own : (home path : List ℕ) (rank n : ℕ) (e : Event) → IsPresent all home path → pedigree_of e ≡ path ++ rank ∷ [] → IsEvent all n e → IsOf all home n e
+  own : (home path : List ℕ) (rank n : ℕ) (e : Event) → IsPresent all home path → pedigree_of e ≡ path ++ rank ∷ [] → IsEvent all n e → IsEventOf all home n e
   own home path rank n e i p g = record { numbered = g; belongs = subst (λ (j : List ℕ). IsHome all j home) (sym p) (home-is all nested rise home path rank i) }
 
   -- what stands after some events of an instance at a present path and below it
@@ -56,7 +56,7 @@ module _ (all : List Event) (nested : IsClear all (Instance []) [] 0 all) (rise 
   Claim (Instance home) path rank es = (from n to m : ℕ) (w : OpenInstances) (o : OpenInstance) (under : List OpenInstance) → IsPresent all home path → from ≤ n → to ≡ n + length es → Fresh all n path rank → At all n es → Holds all from n m o home →
       ((p : List ℕ) → Coming path rank p → IsQuiet o p) → Same (Coming path rank) w (stack o under) → After from to home path (walked_all w es) under o.begun
   Claim Iterations j k es = (home path : List ℕ) (rank from c n to m : ℕ) (w : OpenInstances) (o : OpenInstance) (under : List OpenInstance) (here : IsPresent all home path) (f : Fresh all c path rank) → j ≡ path ++ rank ∷ [] →
-      IsOf all home c (event.Loop (path ++ rank ∷ [])) → from ≤ c → c + 1 ≤ n → to ≡ n + length es → Fresh all n j k → At all n es → HoldsLoop all from (c + 1) n m o home (path ++ rank ∷ []) →
+      IsEventOf all home c (event.Loop (path ++ rank ∷ [])) → from ≤ c → c + 1 ≤ n → to ≡ n + length es → Fresh all n j k → At all n es → HoldsLoop all from (c + 1) n m o home (path ++ rank ∷ []) →
       AreTurns all nested rise c n home path rank here f k → Same (Coming j k) w (stack o under) → AfterTurns from c to home path rank here f m (walked_all w es) under o.begun
 
   claim-ends : (home path : List ℕ) (rank : ℕ) → Claim (Instance home) path rank []
@@ -66,12 +66,12 @@ module _ (all : List Event) (nested : IsClear all (Instance []) [] 0 all) (rise 
   -- an event that begins nothing
   claim-own : (home path : List ℕ) (rank next m2 : ℕ) (e : Event) (es : List Event) (from n to m : ℕ) (w : OpenInstances) (o o2 : OpenInstance) (under : List OpenInstance) → pedigree_of e ≡ path ++ rank ∷ [] → IsPresent all home path → from ≤ n →
       to ≡ n + length (e ∷ es) → At all (n + 1) es → Holds all from n m o home → ((p : List ℕ) → Coming path rank p → IsQuiet o p) → Same (Coming path rank) w (stack o under) → ((p : List ℕ) → IsQuiet o2 p) →
-      went (stack o under) e ≡ stack o2 under → o2.begun ≡ o.begun → Fresh all (n + 1) path next → Holds all from (n + 1) m2 o2 home → Claim (Instance home) path next es → After from to home path (walked_all w (e ∷ es)) under o.begun
+      instances_after (stack o under) e ≡ stack o2 under → o2.begun ≡ o.begun → Fresh all (n + 1) path next → Holds all from (n + 1) m2 o2 home → Claim (Instance home) path next es → After from to home path (walked_all w (e ∷ es)) under o.begun
   claim-own home path rank next m2 e es from n to m w o o2 under p i l t a h q s still g b f h2 later =
       subst (λ (k : Begun). After from to home path (walked_all w (e ∷ es)) under k) b
       (later from (n + 1) to m2 (walked w e) o2 under i (omega (arith, l)) (omega (arith, t)) f a h2 (λ p z. still p) (λ p z. ap (λ (v : OpenInstances). left p v.top v.under) (goes ∙ g)))
     where
-      goes : walked w e ≡ went (stack o under) e
+      goes : walked w e ≡ instances_after (stack o under) e
       goes = walked-own (Coming path rank) w o under home path e (path-is e path rank p) h.at i.begins (coming-here path rank) (q path (coming-here path rank)) s
 
   claim-prints : (home path : List ℕ) (rank : ℕ) (v : Value) (es : List Event) → Claim (Instance home) path rank es → Claim (Instance home) path rank (event.Print (path ++ rank ∷ []) v ∷ es)
@@ -137,14 +137,14 @@ module _ (all : List Event) (nested : IsClear all (Instance []) [] 0 all) (rise 
       mid : ℕ
       mid = n + 1 + length child
 
-      g : IsOf all home n e
+      g : IsEventOf all home n e
       g = own home path rank n e i refl a.0
 
       o1 : OpenInstance
       o1 = went_on o
 
       c0 : OpenInstance
-      c0 = begun j Spawned o1.before
+      c0 = new_open_instance j Spawned o1.before
 
       w1 : walked w e ≡ stack c0 (o1 ∷ under)
       w1 = walked-own (Coming path rank) w o under home path e (path-is e path rank refl) h.at i.begins (coming-here path rank) (q path (coming-here path rank)) s
@@ -155,8 +155,8 @@ module _ (all : List Event) (nested : IsClear all (Instance []) [] 0 all) (rise 
       fresh-j : Fresh all (n + 1) j 0
       fresh-j = fresh-child all n home path rank e i.begins f g refl
 
-      b : IsMost all (λ i. IsReady all i (n + 1) j) o1.before
-      b = most-as all (λ i. IsReady all i (n + 1) home) (λ i. IsReady all i (n + 1) j) o1.before (subst (IsMost all (λ i. IsReady all i (n + 1) home)) (omega arith) h1.ready)
+      b : IsMost all (λ i. PrecedesFrom all i (n + 1) j) o1.before
+      b = most-as all (λ i. PrecedesFrom all i (n + 1) home) (λ i. PrecedesFrom all i (n + 1) j) o1.before (subst (IsMost all (λ i. PrecedesFrom all i (n + 1) home)) (omega arith) h1.ready)
           (λ k r. ready-inside all k (n + 1) home path rank [] i (longest all nested rise home path i) (none-below all n home path rank e i.begins f g k r.earlier) r)
           (λ k r. ready-outside all k (n + 1) home path rank [] i (longest all nested rise home path i) (none-below all n home path rank e i.begins f g k r.earlier) r)
 
@@ -171,7 +171,7 @@ module _ (all : List Event) (nested : IsClear all (Instance []) [] 0 all) (rise 
           (λ p z. quiet-none c0 refl p) (λ p z. ap (λ (v : OpenInstances). left p v.top v.under) w1)
 
       o2 : OpenInstance
-      o2 = joined o1 Spawned c.o.within
+      o2 = after_child_end o1 Spawned c.o.within
 
       below : AreBelow all (n + 1) mid j
       below k x y u v z = home-begins all j x k y child-is (tail-of path rank (n + 1) mid (Instance j) 0 child d at-child refl k y u v z.numbered) z
@@ -183,7 +183,7 @@ module _ (all : List Event) (nested : IsClear all (Instance []) [] 0 all) (rise 
       f2 = fresh-after path rank n mid (Instance j) 0 e child refl a.0 d at-child refl f
 
       same : Same (Coming path (rank + 1)) (walked_all (walked w e) child) (stack o2 under)
-      same p z = c.same p (past-rank path rank p z) ∙ left-up p c.o o1 under (leads-not c.o j p c.holds.at (past-apart path rank p z)) ∙ ap (λ (y : Begun). left p (joined o1 y c.o.within) under) c.began
+      same p z = c.same p (past-rank path rank p z) ∙ left-up p c.o o1 under (leads-not c.o j p c.holds.at (past-apart path rank p z)) ∙ ap (λ (y : Begun). left p (after_child_end o1 y c.o.within) under) c.began
 
   claim-loops : (home path : List ℕ) (rank : ℕ) (inner es : List Event) → IsClear all Iterations (path ++ rank ∷ []) 0 inner → Claim Iterations (path ++ rank ∷ []) 0 inner → Claim (Instance home) path (rank + 1) es →
       Claim (Instance home) path rank (event.Loop (path ++ rank ∷ []) ∷ (inner ++ es))
@@ -202,7 +202,7 @@ module _ (all : List Event) (nested : IsClear all (Instance []) [] 0 all) (rise 
       mid : ℕ
       mid = n + 1 + length inner
 
-      g : IsOf all home n e
+      g : IsEventOf all home n e
       g = own home path rank n e i refl a.0
 
       o1 : OpenInstance
@@ -271,7 +271,7 @@ module _ (all : List Event) (nested : IsClear all (Instance []) [] 0 all) (rise 
       mid = n + length (e ∷ rest)
 
       t0 : OpenInstance
-      t0 = begun turn Iterated o.before
+      t0 = new_open_instance turn Iterated o.before
 
       v0 : OpenInstances
       v0 = stack t0 (o ∷ under)
@@ -288,8 +288,8 @@ module _ (all : List Event) (nested : IsClear all (Instance []) [] 0 all) (rise 
 
       first : walked w e ≡ walked v0 e
       first =
-          ap (λ (v : OpenInstances). went (opened_to (path_of e) v) e) (same (path_of e) comes ∙ left-here (path_of e) o under (leads-below o home (path_of e) h.at home-there))
-          ∙ ap (λ (v : OpenInstances). went v e) (entered-turn j k (path_of e) o under (h.looping ∙ ap (λ (l : List ℕ). Some l) (sym q)) there)
+          ap (λ (v : OpenInstances). instances_after (opened_to (path_of e) v) e) (same (path_of e) comes ∙ left-here (path_of e) o under (leads-below o home (path_of e) h.at home-there))
+          ∙ ap (λ (v : OpenInstances). instances_after v e) (entered-turn j k (path_of e) o under (h.looping ∙ ap (λ (l : List ℕ). Some l) (sym q)) there)
           ∙ sym (walked-own (λ p. Unit {0}) v0 t0 (o ∷ under) turn (path_of e) e refl refl there tt (quiet-none t0 refl (path_of e)) (λ p z. refl))
 
       loop : Contains all (event.Loop j)
@@ -304,14 +304,14 @@ module _ (all : List Event) (nested : IsClear all (Instance []) [] 0 all) (rise 
       fresh-turn : Fresh all n turn 0
       fresh-turn = fresh-below all n j k fr
 
-      b : IsMost all (λ i. IsReady all i n turn) o.before
-      b = subst (λ (p : List ℕ). IsMost all (λ i. IsReady all i n p) o.before) (sym turn-as) (turn-before all nested rise from c n m home path rank here f l u k o.before g turns h.before)
+      b : IsMost all (λ i. PrecedesFrom all i n turn) o.before
+      b = subst (λ (p : List ℕ). IsMost all (λ i. PrecedesFrom all i n p) o.before) (sym turn-as) (turn-before all nested rise from c n m home path rank here f l u k o.before g turns h.before)
 
       ct : After n mid turn turn (walked_all v0 (e ∷ rest)) (o ∷ under) Iterated
       ct = inner n n mid 0 v0 t0 (o ∷ under) (own-present all turn turn-is) (omega arith) refl fresh-turn at-turn (holds-begun all n o.before turn Iterated fresh-turn b) (λ p z. quiet-none t0 refl p) (λ p z. refl)
 
       o2 : OpenInstance
-      o2 = joined o Iterated ct.o.within
+      o2 = after_child_end o Iterated ct.o.within
 
       tails : (i : ℕ) (x : Event) → n ≤ i → i < mid → IsEvent all i x → BeginsProperly turn (pedigree_of x)
       tails = tail-of j k n mid (Instance turn) 0 (e ∷ rest) d at-turn refl
@@ -330,7 +330,7 @@ module _ (all : List Event) (nested : IsClear all (Instance []) [] 0 all) (rise 
           by (inr p) = let b = home-begins all turn x s y turn-is (tails s y p v z.numbered) z in (k, b.0, b.1 ∙ ap (λ (l : List ℕ). l ++ b.0) turn-as ∙ append_assoc path (rank ∷ k ∷ []) b.0, omega arith)
 
       same2 : Same (Coming j (k + 1)) (walked_all v0 (e ∷ rest)) (stack o2 under)
-      same2 p z = ct.same p (past-rank j k p z) ∙ left-up p ct.o o under (leads-not ct.o turn p ct.holds.at (past-apart j k p z)) ∙ ap (λ (y : Begun). left p (joined o y ct.o.within) under) ct.began
+      same2 p z = ct.same p (past-rank j k p z) ∙ left-up p ct.o o under (leads-not ct.o turn p ct.holds.at (past-apart j k p z)) ∙ ap (λ (y : Begun). left p (after_child_end o y ct.o.within) under) ct.began
 
   claim-iterates : (j : List ℕ) (k : ℕ) (turn es : List Event) → IsClear all (Instance (j ++ k ∷ [])) (j ++ k ∷ []) 0 turn → Claim (Instance (j ++ k ∷ [])) (j ++ k ∷ []) 0 turn → Claim Iterations j (k + 1) es → Claim Iterations j k (turn ++ es)
   claim-iterates j k [] es d inner later = claim-idle j k es later
@@ -354,14 +354,14 @@ module _ (all : List Event) (nested : IsClear all (Instance []) [] 0 all) (rise 
       w = walked_all main_alone all
 
       main : OpenInstance
-      main = begun [] Spawned 0
+      main = new_open_instance [] Spawned 0
 
       a : After 0 (length all) [] [] w [] Spawned
       a = walks (Instance []) [] 0 all nested 0 0 (length all) 0 main_alone main [] (own-present all [] Main) (omega arith) (omega arith) (fresh-start all) (at-all all 0 [] all refl refl)
-          (holds-begun all 0 0 [] Spawned (fresh-start all) (most-none all (λ i. IsReady all i 0 []) (λ i r. (let l = r.earlier in absurd (omega (arith, l)))))) (λ p z. quiet-none main refl p) (λ p z. refl)
+          (holds-begun all 0 0 [] Spawned (fresh-start all) (most-none all (λ i. PrecedesFrom all i 0 []) (λ i r. (let l = r.earlier in absurd (omega (arith, l)))))) (λ p z. quiet-none main refl p) (λ p z. refl)
 
-      last : ended w.top w.under ≡ a.o
-      last = sym (ended-left [] w.top w.under) ∙ ap (λ (v : OpenInstances). ended v.top v.under) (a.same [] (inl ([], refl)))
+      last : after_ends w.top w.under ≡ a.o
+      last = sym (ended-left [] w.top w.under) ∙ ap (λ (v : OpenInstances). after_ends v.top v.under) (a.same [] (inl ([], refl)))
 
 pub spans_are_walked : (plan : PlanView) → IsSpan (elision plan).items (walked_span (elision plan).items)
 spans_are_walked plan = let es = (elision plan).items in walk-spans es (all-clear es (elision_is_nested plan)) (elision-rise plan)

@@ -6,7 +6,7 @@ use Rattle.serial_meaning.proofs.RisingPedigrees.Rising.{Rise}
 use Rattle.serial_meaning.proofs.LeastFault.Left.{rank-same}
 use Rattle.serial_meaning.specs.declared.event.Event.{Event}
 use Rattle.serial_meaning.specs.declared.event.Event.TheVariants as event
-use Rattle.span_report.specs.Series.{pedigree_of, Begins, IsEvent, IsOf, IsMeet, PrecedesAtMeet, Own, Looped, Synced, IsReady}
+use Rattle.span_report.specs.Series.{pedigree_of, Begins, IsEvent, IsEventOf, IsMeet, PrecedesAtMeet, Own, Looped, Synced, PrecedesFrom}
 use Rattle.span_report.proofs.LongestChains.Chains.{IsPending, HasSynced}
 use Rattle.span_report.specs.Nested.{Instance}
 use Rattle.span_report.proofs.Nested.Clear.{IsClear}
@@ -27,10 +27,10 @@ module _ (all : List Event) where
   awaited-on n m a b meet l (Synced c s j at h p k d q) = Synced c s j at h p k d (omega (arith, l, q))
 
   -- What is ready at a number is so later.
-  pub ready-on : (i n m : ℕ) (to : List ℕ) → n ≤ m → IsReady all i n to → IsReady all i m to
+  pub ready-on : (i n m : ℕ) (to : List ℕ) → n ≤ m → PrecedesFrom all i n to → PrecedesFrom all i m to
   ready-on i n m to l r = record { earlier = (let h = r.earlier in omega (arith, l, h)); e = r.e; own = r.own; meet = r.meet; placed = r.placed; parting = r.parting; awaited = awaited-on n m r.own to r.meet l r.awaited }
 
-  awaited-back : (n m : ℕ) (a b meet : List ℕ) → ((s : ℕ) (at : List ℕ) → n ≤ s → s < m → IsOf all meet s (event.Sync at) → ⊥) → PrecedesAtMeet all m a b meet → PrecedesAtMeet all n a b meet
+  awaited-back : (n m : ℕ) (a b meet : List ℕ) → ((s : ℕ) (at : List ℕ) → n ≤ s → s < m → IsEventOf all meet s (event.Sync at) → ⊥) → PrecedesAtMeet all m a b meet → PrecedesAtMeet all n a b meet
   awaited-back n m a b meet never (Own e) = Own e
   awaited-back n m a b meet never (Looped c j h p out) = Looped c j h p out
   awaited-back n m a b meet never (Synced c s j at h p k l q) = from (split-at s n)
@@ -40,11 +40,11 @@ module _ (all : List Event) where
       from (inr d) = absurd (never s at d q k)
 
   -- Earlier events become ready by no event of an instance that this one isn't and doesn't stand below.
-  pub ready-back : (i n m : ℕ) (to : List ℕ) → ((s : ℕ) (own : List ℕ) (e : Event) → n ≤ s → s < m → IsOf all own s e → Begins own to → ⊥) → i < n → IsReady all i m to → IsReady all i n to
+  pub ready-back : (i n m : ℕ) (to : List ℕ) → ((s : ℕ) (own : List ℕ) (e : Event) → n ≤ s → s < m → IsEventOf all own s e → Begins own to → ⊥) → i < n → PrecedesFrom all i m to → PrecedesFrom all i n to
   ready-back i n m to quiet h r = record { earlier = h; e = r.e; own = r.own; meet = r.meet; placed = r.placed; parting = r.parting; awaited = awaited-back n m r.own to r.meet (λ s at l q k. quiet s r.meet (event.Sync at) l q k r.parting.second) r.awaited }
 
   -- where two instances are known to part
-  awaited-at : (i m : ℕ) (own to meet : List ℕ) (e : Event) → IsOf all own i e → IsMeet all own to meet → IsReady all i m to → PrecedesAtMeet all m own to meet
+  awaited-at : (i m : ℕ) (own to meet : List ℕ) (e : Event) → IsEventOf all own i e → IsMeet all own to meet → PrecedesFrom all i m to → PrecedesAtMeet all m own to meet
   awaited-at i m own to meet e h p r =
       subst (λ (k : List ℕ). PrecedesAtMeet all m own to k) (meet-unique all own to r.meet meet (subst (λ (k : List ℕ). IsMeet all k to r.meet) same r.parting) p) (subst (λ (k : List ℕ). PrecedesAtMeet all m k to r.meet) same r.awaited)
     where
@@ -66,7 +66,7 @@ module _ (all : List Event) where
   }
 
   -- What lies below a child that an instance spawned isn't the instance's own.
-  pending-own : (k n i : ℕ) (home : List ℕ) (e : Event) → IsOf all home i e → IsPending all k n home i → ⊥
+  pending-own : (k n i : ℕ) (home : List ℕ) (e : Event) → IsEventOf all home i e → IsPending all k n home i → ⊥
   pending-own k n i home e h p =
       let b = properly-begins home p.child p.own p.spawn.belongs.begins p.below in
       let s = p.spawn.belongs.begins in
@@ -76,11 +76,11 @@ module _ (all : List Event) where
       absurd (omega (arith, x, y, z, length-append home (s.0 ∷ s.1)))
 
   -- No event of the instance itself makes more pending.
-  pub pending-step : (k n i : ℕ) (home path : List ℕ) (rank : ℕ) (e : Event) → Begins home path → IsOf all home n e → pedigree_of e ≡ path ++ rank ∷ [] → Fresh all n path rank → IsPending all k (n + 1) home i → IsPending all k n home i
+  pub pending-step : (k n i : ℕ) (home path : List ℕ) (rank : ℕ) (e : Event) → Begins home path → IsEventOf all home n e → pedigree_of e ≡ path ++ rank ∷ [] → Fresh all n path rank → IsPending all k (n + 1) home i → IsPending all k n home i
   pending-step k n i home path rank e a h q f p = from (below-or i n p.earlier) (below-or p.by n p.before)
     where
       from : (i < n) ⊎ (i ≡ n) → (p.by < n) ⊎ (p.by ≡ n) → IsPending all k n home i
-      from (inr s) _ = absurd (pending-own k (n + 1) i home e (subst (λ (m : ℕ). IsOf all home m e) (sym s) h) p)
+      from (inr s) _ = absurd (pending-own k (n + 1) i home e (subst (λ (m : ℕ). IsEventOf all home m e) (sym s) h) p)
       from (inl l) (inl b) = record { earlier = l; e = p.e; own = p.own; placed = p.placed; by = p.by; child = p.child; spawn = p.spawn; since = p.since; before = b; below = p.below }
       from (inl l) (inr b) =
           let s : e ≡ event.Spawn p.child = event-unique all n e (event.Spawn p.child) h.numbered (subst (λ (m : ℕ). IsEvent all m (event.Spawn p.child)) b p.spawn.numbered) in
@@ -107,10 +107,10 @@ module _ (all : List Event) where
 
   -- the instance that events of a part of the run, from number n on, stand below
   abbrev pub AreBelow : ℕ → ℕ → List ℕ → Type 0
-  AreBelow n m path = (s : ℕ) (own : List ℕ) (e : Event) → n ≤ s → s < m → IsOf all own s e → Begins path own
+  AreBelow n m path = (s : ℕ) (own : List ℕ) (e : Event) → n ≤ s → s < m → IsEventOf all own s e → Begins path own
 
   -- They aren't the parent's.
-  below-quiet : (n m : ℕ) (home path : List ℕ) (rank : ℕ) → Begins home path → AreBelow n m (path ++ rank ∷ []) → (s : ℕ) (own : List ℕ) (e : Event) → n ≤ s → s < m → IsOf all own s e → Begins own home → ⊥
+  below-quiet : (n m : ℕ) (home path : List ℕ) (rank : ℕ) → Begins home path → AreBelow n m (path ++ rank ∷ []) → (s : ℕ) (own : List ℕ) (e : Event) → n ≤ s → s < m → IsEventOf all own s e → Begins own home → ⊥
   below-quiet n m home path rank a below s own e l q h b =
       let x = begins-length own home b in
       let y = begins-length (path ++ rank ∷ []) own (below s own e l q h) in
@@ -125,20 +125,20 @@ module _ (all : List Event) where
       meet-home more = let b = begins-begins home path (path ++ more) here.begins (more, refl) in subst (λ (l : List ℕ). IsMeet all l home home) (sym b.1) (meet-below all home b.0 here.instance)
 
       -- Of a child nothing is ready for its parent.
-      pub child-ready : (i : ℕ) → IsOf all home n (event.Spawn (path ++ rank ∷ [])) → AreBelow (n + 1) m (path ++ rank ∷ []) → IsReady all i m home → IsReady all i (n + 1) home
+      pub child-ready : (i : ℕ) → IsEventOf all home n (event.Spawn (path ++ rank ∷ [])) → AreBelow (n + 1) m (path ++ rank ∷ []) → PrecedesFrom all i m home → PrecedesFrom all i (n + 1) home
       child-ready i h below r = from (split-at i (n + 1))
         where
-          quiet : (s : ℕ) (own : List ℕ) (e : Event) → n + 1 ≤ s → s < m → IsOf all own s e → Begins own home → ⊥
+          quiet : (s : ℕ) (own : List ℕ) (e : Event) → n + 1 ≤ s → s < m → IsEventOf all own s e → Begins own home → ⊥
           quiet = below-quiet (n + 1) m home path rank here.begins below
 
-          early : (s : ℕ) (e : Event) → s < m → IsOf all home s e → s < n + 1
+          early : (s : ℕ) (e : Event) → s < m → IsEventOf all home s e → s < n + 1
           early s e l k = by (split-at s (n + 1))
             where
               by : (s < n + 1) ⊎ (n + 1 ≤ s) → s < n + 1
               by (inl d) = d
               by (inr d) = absurd (quiet s home e d l k ([], sym (append-nil home)))
 
-          unsynced : (c s : ℕ) (at : List ℕ) → IsOf all home c (event.Spawn (path ++ rank ∷ [])) → IsOf all home s (event.Sync at) → c < s → s < m → ⊥
+          unsynced : (c s : ℕ) (at : List ℕ) → IsEventOf all home c (event.Spawn (path ++ rank ∷ [])) → IsEventOf all home s (event.Sync at) → c < s → s < m → ⊥
           unsynced c s at k t d l =
               let e = early s (event.Sync at) l t in
               let f : rank < rank = fresh.spawns c (path ++ rank ∷ []) (omega (arith, d, e)) k.numbered rank [] refl in absurd (omega (arith, f))
@@ -147,10 +147,10 @@ module _ (all : List Event) where
           late l =
               let b = below i r.own r.e l r.earlier r.placed in
               let q : r.own ≡ path ++ rank ∷ b.0 = b.1 ∙ append_assoc path (rank ∷ []) b.0 in
-              let k : IsOf all (path ++ rank ∷ b.0) i r.e = subst (λ (p : List ℕ). IsOf all p i r.e) q r.placed in
+              let k : IsEventOf all (path ++ rank ∷ b.0) i r.e = subst (λ (p : List ℕ). IsEventOf all p i r.e) q r.placed in
               not-awaited-child all nested rise m home path rank b.0 here (get-contained all n (event.Spawn (path ++ rank ∷ [])) h.numbered) unsynced (awaited-at i m (path ++ rank ∷ b.0) home home r.e k (meet-home (rank ∷ b.0)) r)
 
-          from : (i < n + 1) ⊎ (n + 1 ≤ i) → IsReady all i (n + 1) home
+          from : (i < n + 1) ⊎ (n + 1 ≤ i) → PrecedesFrom all i (n + 1) home
           from (inl l) = ready-back i (n + 1) m home quiet l r
           from (inr l) = absurd (late l)
 
@@ -163,7 +163,7 @@ module _ (all : List Event) where
           from (inl l) (inl b) = inl (record { earlier = l; e = p.e; own = p.own; placed = p.placed; by = p.by; child = p.child; spawn = p.spawn; since = p.since; before = b; below = p.below })
           from (inl l) (inr b) = absurd (below-quiet (n + 1) m home path rank here.begins below p.by home (event.Spawn p.child) b p.before p.spawn ([], sym (append-nil home)))
 
-      pub pending-child : (k i : ℕ) → k ≤ n → IsOf all home n (event.Spawn (path ++ rank ∷ [])) → AreBelow (n + 1) m (path ++ rank ∷ []) → Between all (n + 1) m i → IsPending all k m home i
+      pub pending-child : (k i : ℕ) → k ≤ n → IsEventOf all home n (event.Spawn (path ++ rank ∷ [])) → AreBelow (n + 1) m (path ++ rank ∷ []) → Between all (n + 1) m i → IsPending all k m home i
       pending-child k i l t below b =
           let g = get-event all i b.2 in
           let o = event-of all nested rise i g.0 g.1 in
@@ -182,19 +182,19 @@ module _ (all : List Event) where
 
       -- So far a loop's iterations before number k went on.
       abbrev pub AreTurns : ℕ → Type 0
-      AreTurns k = (s : ℕ) (own : List ℕ) (e : Event) → n + 1 ≤ s → s < m → IsOf all own s e → (t : ℕ) × (rest : List ℕ) × (own ≡ path ++ rank ∷ t ∷ rest) × (t < k)
+      AreTurns k = (s : ℕ) (own : List ℕ) (e : Event) → n + 1 ≤ s → s < m → IsEventOf all own s e → (t : ℕ) × (rest : List ℕ) × (own ≡ path ++ rank ∷ t ∷ rest) × (t < k)
 
       pub turns-below : (k : ℕ) → AreTurns k → AreBelow (n + 1) m (path ++ rank ∷ [])
       turns-below k turns s own e l q h = let t = turns s own e l q h in (t.0 ∷ t.1, t.2 ∙ sym (append_assoc path (rank ∷ []) (t.0 ∷ t.1)))
 
       -- The next iteration begins after what the loop began after.
-      pub turn-inside : (k i : ℕ) → n + 1 ≤ m → IsOf all home n (event.Loop (path ++ rank ∷ [])) → IsReady all i (n + 1) home → IsReady all i m (path ++ rank ∷ k ∷ [])
+      pub turn-inside : (k i : ℕ) → n + 1 ≤ m → IsEventOf all home n (event.Loop (path ++ rank ∷ [])) → PrecedesFrom all i (n + 1) home → PrecedesFrom all i m (path ++ rank ∷ k ∷ [])
       turn-inside k i l h r = ready-on i (n + 1) m (path ++ rank ∷ k ∷ []) l (ready-inside all i (n + 1) home path rank (k ∷ []) here (longest all nested rise home path here) (none-below all n home path rank (event.Loop (path ++ rank ∷ [])) here.begins fresh h i r.earlier) r)
 
-      pub turn-outside : (k i : ℕ) → IsOf all home n (event.Loop (path ++ rank ∷ [])) → AreTurns k → IsReady all i m (path ++ rank ∷ k ∷ []) → IsReady all i (n + 1) home
+      pub turn-outside : (k i : ℕ) → IsEventOf all home n (event.Loop (path ++ rank ∷ [])) → AreTurns k → PrecedesFrom all i m (path ++ rank ∷ k ∷ []) → PrecedesFrom all i (n + 1) home
       turn-outside k i h turns r = from (split-at i (n + 1))
         where
-          quiet : (s : ℕ) (own : List ℕ) (e : Event) → n + 1 ≤ s → s < m → IsOf all own s e → Begins own (path ++ rank ∷ k ∷ []) → ⊥
+          quiet : (s : ℕ) (own : List ℕ) (e : Event) → n + 1 ≤ s → s < m → IsEventOf all own s e → Begins own (path ++ rank ∷ k ∷ []) → ⊥
           quiet s own e l q o b =
               let t = turns s own e l q o in
               let w : (path ++ rank ∷ []) ++ t.0 ∷ (t.1 ++ b.0) ≡ (path ++ rank ∷ []) ++ k ∷ [] =
@@ -205,7 +205,7 @@ module _ (all : List Event) where
           late : n + 1 ≤ i → ⊥
           late l =
               let t = turns i r.own r.e l r.earlier r.placed in
-              let o : IsOf all (path ++ rank ∷ t.0 ∷ t.1) i r.e = subst (λ (p : List ℕ). IsOf all p i r.e) t.2 r.placed in
+              let o : IsEventOf all (path ++ rank ∷ t.0 ∷ t.1) i r.e = subst (λ (p : List ℕ). IsEventOf all p i r.e) t.2 r.placed in
               let c : Contains all (event.Loop (path ++ rank ∷ [])) = get-contained all n (event.Loop (path ++ rank ∷ [])) h.numbered in
               let d : t.0 ≡ k → ⊥ = λ z. (let y = t.3 in absurd (omega (arith, y, z))) in
               let p : IsMeet all ((path ++ rank ∷ []) ++ t.0 ∷ t.1) ((path ++ rank ∷ []) ++ k ∷ []) home = meet-turns all nested rise home path (path ++ rank ∷ []) rank t.0 k t.1 [] here refl c d in
@@ -213,19 +213,19 @@ module _ (all : List Event) where
               subst (λ (a : List ℕ). IsMeet all (path ++ rank ∷ t.0 ∷ t.1) a home) (append_assoc path (rank ∷ []) (k ∷ [])) (subst (λ (a : List ℕ). IsMeet all a ((path ++ rank ∷ []) ++ k ∷ []) home) (append_assoc path (rank ∷ []) (t.0 ∷ t.1)) p) in
               not-awaited-turn all nested rise m home path rank t.0 k t.1 here c (awaited-at i m (path ++ rank ∷ t.0 ∷ t.1) (path ++ rank ∷ k ∷ []) home r.e o q r)
 
-          from : (i < n + 1) ⊎ (n + 1 ≤ i) → IsReady all i (n + 1) home
+          from : (i < n + 1) ⊎ (n + 1 ≤ i) → PrecedesFrom all i (n + 1) home
           from (inl l) = ready-outside all i (n + 1) home path rank (k ∷ []) here (longest all nested rise home path here) (none-below all n home path rank (event.Loop (path ++ rank ∷ [])) here.begins fresh h i l) (ready-back i (n + 1) m (path ++ rank ∷ k ∷ []) quiet l r)
           from (inr l) = absurd (late l)
 
       -- After a loop all of it is ready, besides what was before it.
-      pub loop-ready : (i : ℕ) → AreBelow (n + 1) m (path ++ rank ∷ []) → IsReady all i m home → IsReady all i (n + 1) home ⊎ Between all (n + 1) m i
+      pub loop-ready : (i : ℕ) → AreBelow (n + 1) m (path ++ rank ∷ []) → PrecedesFrom all i m home → PrecedesFrom all i (n + 1) home ⊎ Between all (n + 1) m i
       loop-ready i below r = from (split-at i (n + 1))
         where
-          from : (i < n + 1) ⊎ (n + 1 ≤ i) → IsReady all i (n + 1) home ⊎ Between all (n + 1) m i
+          from : (i < n + 1) ⊎ (n + 1 ≤ i) → PrecedesFrom all i (n + 1) home ⊎ Between all (n + 1) m i
           from (inl l) = inl (ready-back i (n + 1) m home (below-quiet (n + 1) m home path rank here.begins below) l r)
           from (inr l) = inr (l, r.earlier, index-in all i r.e r.placed.numbered)
 
-      pub ready-loop : (k i : ℕ) → IsOf all home n (event.Loop (path ++ rank ∷ [])) → AreTurns k → Between all (n + 1) m i → IsReady all i m home
+      pub ready-loop : (k i : ℕ) → IsEventOf all home n (event.Loop (path ++ rank ∷ [])) → AreTurns k → Between all (n + 1) m i → PrecedesFrom all i m home
       ready-loop k i h turns b =
           let g = get-event all i b.2 in
           let o = event-of all nested rise i g.0 g.1 in
@@ -240,7 +240,7 @@ module _ (all : List Event) where
             awaited = Looped n (path ++ rank ∷ []) h (t.0, t.1, t.2 ∙ sym (append_assoc path (rank ∷ []) (t.0 ∷ t.1))) (λ c. (let x = begins-length (path ++ rank ∷ []) home c in let y = begins-length home path here.begins in absurd (omega (arith, x, y, length-append path (rank ∷ [])))));
           }
 
-      pub loop-pending : (k i : ℕ) → IsOf all home n (event.Loop (path ++ rank ∷ [])) → AreBelow (n + 1) m (path ++ rank ∷ []) → IsPending all k m home i → IsPending all k (n + 1) home i
+      pub loop-pending : (k i : ℕ) → IsEventOf all home n (event.Loop (path ++ rank ∷ [])) → AreBelow (n + 1) m (path ++ rank ∷ []) → IsPending all k m home i → IsPending all k (n + 1) home i
       loop-pending k i h below p = from (split-at i (n + 1)) (split-at p.by (n + 1))
         where
           late : n + 1 ≤ i → ⊥

@@ -3,7 +3,7 @@ use Rattle.std.proofs.Common.{◌≡◌, ◌≤◌, ◌<◌, ◌+◌, ◌⊎◌,
 use Rattle.std.proofs.lemmas.Bool.Decides.{nat_tests}
 use Rattle.serial_meaning.specs.declared.event.Event.{Event}
 use Rattle.serial_meaning.specs.declared.event.Event.TheVariants as event
-use Rattle.span_report.specs.Series.{Begins, BeginsProperly, IsInstance, IsOf, IsMeet, PrecedesAtMeet, Own, Looped, Synced, IsReady}
+use Rattle.span_report.specs.Series.{Begins, BeginsProperly, IsInstance, IsEventOf, IsMeet, PrecedesAtMeet, Own, Looped, Synced, PrecedesFrom}
 use Rattle.span_report.proofs.LongestChains.Chains.{IsPending, HasSynced}
 use Rattle.span_report.proofs.Belonging.Homes.{begins-begins, fronts, get-contained, event-unique, of-unique, meet-below, IsPresent}
 
@@ -38,11 +38,11 @@ module _ (all : List Event) where
   awaited-later n a b meet (Looped c j h p out) = Looped c j h p out
   awaited-later n a b meet (Synced c s j at h p k l m) = Synced c s j at h p k l (omega (arith, m))
 
-  pub ready-later : (i n : ℕ) (home : List ℕ) → IsReady all i n home → IsReady all i (n + 1) home
+  pub ready-later : (i n : ℕ) (home : List ℕ) → PrecedesFrom all i n home → PrecedesFrom all i (n + 1) home
   ready-later i n home r = record { earlier = let h = r.earlier in omega (arith, h); e = r.e; own = r.own; meet = r.meet; placed = r.placed; parting = r.parting; awaited = awaited-later n r.own home r.meet r.awaited }
 
   -- An instance's event is so for what it does later.
-  pub ready-self : (n : ℕ) (home : List ℕ) (e : Event) → IsOf all home n e → IsReady all n (n + 1) home
+  pub ready-self : (n : ℕ) (home : List ℕ) (e : Event) → IsEventOf all home n e → PrecedesFrom all n (n + 1) home
   ready-self n home e h = record {
     earlier = omega arith;
     e = e;
@@ -54,20 +54,20 @@ module _ (all : List Event) where
   }
 
   -- The same as before number n, unless that is the number of a sync of the instance where the two part.
-  pub earlier-awaited : (n : ℕ) (a b meet : List ℕ) → ((at : List ℕ) → IsOf all meet n (event.Sync at) → ⊥) → PrecedesAtMeet all (n + 1) a b meet → PrecedesAtMeet all n a b meet
+  pub earlier-awaited : (n : ℕ) (a b meet : List ℕ) → ((at : List ℕ) → IsEventOf all meet n (event.Sync at) → ⊥) → PrecedesAtMeet all (n + 1) a b meet → PrecedesAtMeet all n a b meet
   earlier-awaited n a b meet never (Own e) = Own e
   earlier-awaited n a b meet never (Looped c j h p out) = Looped c j h p out
   earlier-awaited n a b meet never (Synced c s j at h p k l m) = from (below-or s n m)
     where
       from : (s < n) ⊎ (s ≡ n) → PrecedesAtMeet all n a b meet
       from (inl g) = Synced c s j at h p k l g
-      from (inr g) = absurd (never at (subst (λ (i : ℕ). IsOf all meet i (event.Sync at)) g k))
+      from (inr g) = absurd (never at (subst (λ (i : ℕ). IsEventOf all meet i (event.Sync at)) g k))
 
   -- After an event that is no sync of its own, what is ready is what was, and that event.
-  pub ready-own : (i n : ℕ) (home : List ℕ) (e : Event) → IsOf all home n e → ((at : List ℕ) → e ≡ event.Sync at → ⊥) → IsReady all i (n + 1) home → IsReady all i n home ⊎ (i ≡ n)
+  pub ready-own : (i n : ℕ) (home : List ℕ) (e : Event) → IsEventOf all home n e → ((at : List ℕ) → e ≡ event.Sync at → ⊥) → PrecedesFrom all i (n + 1) home → PrecedesFrom all i n home ⊎ (i ≡ n)
   ready-own i n home e h never r = from (below-or i n r.earlier)
     where
-      from : (i < n) ⊎ (i ≡ n) → IsReady all i n home ⊎ (i ≡ n)
+      from : (i < n) ⊎ (i ≡ n) → PrecedesFrom all i n home ⊎ (i ≡ n)
       from (inr g) = inr g
       from (inl g) = inl (record {
         earlier = g;
@@ -80,7 +80,7 @@ module _ (all : List Event) where
       })
 
   -- A child's events are ready after its parent's next sync.
-  pub pending-ready : (i m n : ℕ) (home at : List ℕ) → IsOf all home n (event.Sync at) → IsPending all m n home i → IsReady all i (n + 1) home
+  pub pending-ready : (i m n : ℕ) (home at : List ℕ) → IsEventOf all home n (event.Sync at) → IsPending all m n home i → PrecedesFrom all i (n + 1) home
   pending-ready i m n home at h p = record {
     earlier = let l = p.earlier in omega (arith, l);
     e = p.e;
@@ -91,50 +91,50 @@ module _ (all : List Event) where
     awaited = Synced p.by n p.child at p.spawn p.below h p.before (omega arith);
   }
 
-  spawn-no-sync : (n : ℕ) (home other j at : List ℕ) → IsOf all home n (event.Spawn j) → IsOf all other n (event.Sync at) → ⊥
+  spawn-no-sync : (n : ℕ) (home other j at : List ℕ) → IsEventOf all home n (event.Spawn j) → IsEventOf all other n (event.Sync at) → ⊥
   spawn-no-sync n home other j at h k = let e : event.Spawn j ≡ event.Sync at = event-unique all n (event.Spawn j) (event.Sync at) h.numbered k.numbered in absurd (cc)
 
   -- After a sync of its own, what is ready is what was, that event, and what it waited for.
-  pub ready-synced : (i m n : ℕ) (home at : List ℕ) → IsOf all home n (event.Sync at) → HasSynced all m n home → IsReady all i (n + 1) home →
-      IsReady all i n home ⊎ (IsPending all m n home i ⊎ (i ≡ n))
+  pub ready-synced : (i m n : ℕ) (home at : List ℕ) → IsEventOf all home n (event.Sync at) → HasSynced all m n home → PrecedesFrom all i (n + 1) home →
+      PrecedesFrom all i n home ⊎ (IsPending all m n home i ⊎ (i ≡ n))
   ready-synced i m n home at h past r = from (below-or i n r.earlier)
     where
-      known : PrecedesAtMeet all n r.own home r.meet → i < n → IsReady all i n home
+      known : PrecedesAtMeet all n r.own home r.meet → i < n → PrecedesFrom all i n home
       known a g = record { earlier = g; e = r.e; own = r.own; meet = r.meet; placed = r.placed; parting = r.parting; awaited = a }
 
       -- a child that was spawned before the last sync
-      earlier-sync : (c : ℕ) (j : List ℕ) → IsOf all r.meet c (event.Spawn j) → Begins j r.own → r.meet ≡ home → c < m → i < n → HasSynced all m n home → IsReady all i n home
+      earlier-sync : (c : ℕ) (j : List ℕ) → IsEventOf all r.meet c (event.Spawn j) → Begins j r.own → r.meet ≡ home → c < m → i < n → HasSynced all m n home → PrecedesFrom all i n home
       earlier-sync c j k b e l g (inl z) = absurd (omega (arith, l, z))
       earlier-sync c j k b e l g (inr s) =
-          known (Synced c s.0 j s.1 k b (subst (λ (p : List ℕ). IsOf all p s.0 (event.Sync s.1)) (sym e) s.2) (apart (below-or c s.0 (omega (arith, l, s.4)))) s.3) g
+          known (Synced c s.0 j s.1 k b (subst (λ (p : List ℕ). IsEventOf all p s.0 (event.Sync s.1)) (sym e) s.2) (apart (below-or c s.0 (omega (arith, l, s.4)))) s.3) g
         where
           apart : (c < s.0) ⊎ (c ≡ s.0) → c < s.0
           apart (inl d) = d
-          apart (inr d) = absurd (spawn-no-sync c r.meet home j s.1 k (subst (λ (o : ℕ). IsOf all home o (event.Sync s.1)) (sym d) s.2))
+          apart (inr d) = absurd (spawn-no-sync c r.meet home j s.1 k (subst (λ (o : ℕ). IsEventOf all home o (event.Sync s.1)) (sym d) s.2))
 
-      by_sync : (c : ℕ) (j : List ℕ) → IsOf all r.meet c (event.Spawn j) → Begins j r.own → r.meet ≡ home → c < n → i < n → (t : Bool) → nat_lt c m ≡ t → IsReady all i n home ⊎ (IsPending all m n home i ⊎ (i ≡ n))
+      by_sync : (c : ℕ) (j : List ℕ) → IsEventOf all r.meet c (event.Spawn j) → Begins j r.own → r.meet ≡ home → c < n → i < n → (t : Bool) → nat_lt c m ≡ t → PrecedesFrom all i n home ⊎ (IsPending all m n home i ⊎ (i ≡ n))
       by_sync c j k b e l g true q = let s : c < m = grind (arith, nat_tests) in inl (earlier-sync c j k b e s g past)
       by_sync c j k b e l g false q = let s : m ≤ c = grind (arith, nat_tests) in
-          inr (inl (record { earlier = g; e = r.e; own = r.own; placed = r.placed; by = c; child = j; spawn = subst (λ (p : List ℕ). IsOf all p c (event.Spawn j)) e k; since = s; before = l; below = b }))
+          inr (inl (record { earlier = g; e = r.e; own = r.own; placed = r.placed; by = c; child = j; spawn = subst (λ (p : List ℕ). IsEventOf all p c (event.Spawn j)) e k; since = s; before = l; below = b }))
 
-      old : i < n → PrecedesAtMeet all (n + 1) r.own home r.meet → IsReady all i n home ⊎ (IsPending all m n home i ⊎ (i ≡ n))
+      old : i < n → PrecedesAtMeet all (n + 1) r.own home r.meet → PrecedesFrom all i n home ⊎ (IsPending all m n home i ⊎ (i ≡ n))
       old g (Own e) = inl (known (Own e) g)
       old g (Looped c j k p out) = inl (known (Looped c j k p out) g)
       old g (Synced c s j to k b f l q) = at_sync (below-or s n q)
         where
-          at_sync : (s < n) ⊎ (s ≡ n) → IsReady all i n home ⊎ (IsPending all m n home i ⊎ (i ≡ n))
+          at_sync : (s < n) ⊎ (s ≡ n) → PrecedesFrom all i n home ⊎ (IsPending all m n home i ⊎ (i ≡ n))
           at_sync (inl d) = inl (known (Synced c s j to k b f l d) g)
-          at_sync (inr d) = by_sync c j k b (of-unique all n r.meet home (event.Sync to) (event.Sync at) (subst (λ (o : ℕ). IsOf all r.meet o (event.Sync to)) d f) h) (omega (arith, l, d)) g (nat_lt c m) refl
+          at_sync (inr d) = by_sync c j k b (of-unique all n r.meet home (event.Sync to) (event.Sync at) (subst (λ (o : ℕ). IsEventOf all r.meet o (event.Sync to)) d f) h) (omega (arith, l, d)) g (nat_lt c m) refl
 
-      from : (i < n) ⊎ (i ≡ n) → IsReady all i n home ⊎ (IsPending all m n home i ⊎ (i ≡ n))
+      from : (i < n) ⊎ (i ≡ n) → PrecedesFrom all i n home ⊎ (IsPending all m n home i ⊎ (i ≡ n))
       from (inl g) = old g r.awaited
       from (inr g) = inr (inr g)
 
   -- What lies neither at nor below a rank of an instance is ready for what lies there exactly where it is for the instance. So a child, and
   -- an iteration of a loop, begins after what its parent's next event is after.
   module _ (i n : ℕ) (home path : List ℕ) (r : ℕ) (more : List ℕ) (here : IsPresent all home path) (longest : (other : List ℕ) → IsInstance all other → Begins other path → length other ≤ length home)
-      (none : (own : List ℕ) (e : Event) → IsOf all own i e → Begins (path ++ r ∷ []) own → ⊥) where
-    front-path : (own : List ℕ) (e : Event) → IsOf all own i e → (front : List ℕ) → Begins front own → Begins front (path ++ r ∷ more) → Begins front path
+      (none : (own : List ℕ) (e : Event) → IsEventOf all own i e → Begins (path ++ r ∷ []) own → ⊥) where
+    front-path : (own : List ℕ) (e : Event) → IsEventOf all own i e → (front : List ℕ) → Begins front own → Begins front (path ++ r ∷ more) → Begins front path
     front-path own e h front b c = fronts front path c.0 (r ∷ more) (sym c.1) (short-front front path r more own b c (none own e h))
 
     front-home : (front : List ℕ) → Begins front path → length front ≤ length home → Begins front home
@@ -143,7 +143,7 @@ module _ (all : List Event) where
     home-below : Begins home (path ++ r ∷ more)
     home-below = begins-begins home path (path ++ r ∷ more) here.begins (r ∷ more, refl)
 
-    pub ready-outside : IsReady all i n (path ++ r ∷ more) → IsReady all i n home
+    pub ready-outside : PrecedesFrom all i n (path ++ r ∷ more) → PrecedesFrom all i n home
     ready-outside x = record { earlier = x.earlier; e = x.e; own = x.own; meet = x.meet; placed = x.placed; parting = parts; awaited = waits x.awaited }
       where
         parts : IsMeet all x.own home x.meet
@@ -159,7 +159,7 @@ module _ (all : List Event) where
         waits (Looped c j h p out) = Looped c j h p (λ b. out (begins-begins j home (path ++ r ∷ more) b home-below))
         waits (Synced c s j at h p k l m) = Synced c s j at h p k l m
 
-    pub ready-inside : IsReady all i n home → IsReady all i n (path ++ r ∷ more)
+    pub ready-inside : PrecedesFrom all i n home → PrecedesFrom all i n (path ++ r ∷ more)
     ready-inside x = record { earlier = x.earlier; e = x.e; own = x.own; meet = x.meet; placed = x.placed; parting = parts; awaited = waits x.awaited }
       where
         parts : IsMeet all x.own (path ++ r ∷ more) x.meet

@@ -9,8 +9,8 @@ use Rattle.serial_meaning.specs.declared.event.Event.TheVariants as event
 use Rattle.span_report.specs.declared.instance.OpenInstance.{OpenInstance}
 use Rattle.span_report.specs.Series.{pedigree_of, Begins, BeginsProperly}
 use Rattle.span_report.specs.declared.instance.Begun.TheVariants.{Spawned, Iterated}
-use Rattle.span_report.specs.Opens.{begun, joined, starts, leads, after_event, iteration_at, iteration_on}
-use Rattle.span_report.specs.Walks.{OpenInstances, left, ended, pushed, pushed_iteration, opened_to, went, path_of, walked, walked_all}
+use Rattle.span_report.specs.Opens.{new_open_instance, after_child_end, starts, is_path_below, after_event, iteration_at, iteration_on}
+use Rattle.span_report.specs.Walks.{OpenInstances, left, after_ends, pushed, pushed_iteration, opened_to, instances_after, path_of, walked, walked_all}
 
 abbrev pub stack : OpenInstance → List OpenInstance → OpenInstances
 stack o under = record { top = o; under = under }
@@ -32,27 +32,27 @@ starts-not front path never = by (starts front path) refl
     by false e = e
 
 -- An instance leads to what begins with its path.
-pub leads-below : (o : OpenInstance) (home path : List ℕ) → o.path ≡ home → Begins home path → leads o path ≡ true
+pub leads-below : (o : OpenInstance) (home path : List ℕ) → o.path ≡ home → Begins home path → is_path_below o path ≡ true
 leads-below o home path e b = ap (λ (l : List ℕ). starts l path) e ∙ ap (λ (l : List ℕ). starts home l) b.1 ∙ starts-front home b.0
 
-pub leads-not : (o : OpenInstance) (home path : List ℕ) → o.path ≡ home → (Begins home path → ⊥) → leads o path ≡ false
+pub leads-not : (o : OpenInstance) (home path : List ℕ) → o.path ≡ home → (Begins home path → ⊥) → is_path_below o path ≡ false
 leads-not o home path e d = ap (λ (l : List ℕ). starts l path) e ∙ starts-not home path d
 
-pub left-here : (p : List ℕ) (o : OpenInstance) (ps : List OpenInstance) → leads o p ≡ true → left p o ps ≡ stack o ps
+pub left-here : (p : List ℕ) (o : OpenInstance) (ps : List OpenInstance) → is_path_below o p ≡ true → left p o ps ≡ stack o ps
 left-here p o [] e = refl
-left-here p o (x ∷ ps) e = ap (λ (b : Bool). cond b (stack o (x ∷ ps)) (left p (joined x o.begun o.within) ps)) e
+left-here p o (x ∷ ps) e = ap (λ (b : Bool). cond b (stack o (x ∷ ps)) (left p (after_child_end x o.begun o.within) ps)) e
 
-pub left-up : (p : List ℕ) (o x : OpenInstance) (ps : List OpenInstance) → leads o p ≡ false → left p o (x ∷ ps) ≡ left p (joined x o.begun o.within) ps
-left-up p o x ps e = ap (λ (b : Bool). cond b (stack o (x ∷ ps)) (left p (joined x o.begun o.within) ps)) e
+pub left-up : (p : List ℕ) (o x : OpenInstance) (ps : List OpenInstance) → is_path_below o p ≡ false → left p o (x ∷ ps) ≡ left p (after_child_end x o.begun o.within) ps
+left-up p o x ps e = ap (λ (b : Bool). cond b (stack o (x ∷ ps)) (left p (after_child_end x o.begun o.within) ps)) e
 
-pub ended-left : (p : List ℕ) (o : OpenInstance) (ps : List OpenInstance) → ended (left p o ps).top (left p o ps).under ≡ ended o ps
+pub ended-left : (p : List ℕ) (o : OpenInstance) (ps : List OpenInstance) → after_ends (left p o ps).top (left p o ps).under ≡ after_ends o ps
 ended-left p o [] = refl
-ended-left p o (x ∷ ps) = by (leads o p) (ended-left p (joined x o.begun o.within) ps)
+ended-left p o (x ∷ ps) = by (is_path_below o p) (ended-left p (after_child_end x o.begun o.within) ps)
   where
     w : OpenInstances
-    w = left p (joined x o.begun o.within) ps
+    w = left p (after_child_end x o.begun o.within) ps
 
-    by : (b : Bool) → ended w.top w.under ≡ ended (joined x o.begun o.within) ps → ended (cond b (stack o (x ∷ ps)) w).top (cond b (stack o (x ∷ ps)) w).under ≡ ended o (x ∷ ps)
+    by : (b : Bool) → after_ends w.top w.under ≡ after_ends (after_child_end x o.begun o.within) ps → after_ends (cond b (stack o (x ∷ ps)) w).top (cond b (stack o (x ∷ ps)) w).under ≡ after_ends o (x ∷ ps)
     by true h = refl
     by false h = h
 
@@ -109,11 +109,11 @@ walked_append w (x ∷ xs) ys = walked_append (walked w x) xs ys
 
 -- An event of the instance on top, once those that ended are left.
 pub walked-own : (T : List ℕ → Type 0) (w : OpenInstances) (o : OpenInstance) (under : List OpenInstance) (home path : List ℕ) (e : Event) → path_of e ≡ path → o.path ≡ home → Begins home path → T path → IsQuiet o path → Same T w (stack o under) →
-    walked w e ≡ went (stack o under) e
+    walked w e ≡ instances_after (stack o under) e
 walked-own T w o under home path e h r b t q s =
-    ap (λ (p : List ℕ). went (opened_to p (left p w.top w.under)) e) h
-    ∙ ap (λ (v : OpenInstances). went (opened_to path v) e) (s path t ∙ left-here path o under (leads-below o home path r b))
-    ∙ ap (λ (v : OpenInstances). went v e) (entered-open path o under q)
+    ap (λ (p : List ℕ). instances_after (opened_to p (left p w.top w.under)) e) h
+    ∙ ap (λ (v : OpenInstances). instances_after (opened_to path v) e) (s path t ∙ left-here path o under (leads-below o home path r b))
+    ∙ ap (λ (v : OpenInstances). instances_after v e) (entered-open path o under q)
 
 get-after : (n : ℕ) (xs : List ℕ) (y : ℕ) (ys : List ℕ) → n ≡ length xs → slice_get (xs ++ y ∷ ys) n ≡ Some y
 get-after zero [] y ys l = refl
@@ -122,7 +122,7 @@ get-after zero (x ∷ xs) y ys l = absurd (omega (arith, l))
 get-after (suc n) (x ∷ xs) y ys l = get-after n xs y ys (omega (arith, l))
 
 -- where an iteration begins
-pub entered-turn : (j : List ℕ) (k : ℕ) (path : List ℕ) (o : OpenInstance) (under : List OpenInstance) → o.looping ≡ Some j → Begins (j ++ k ∷ []) path → opened_to path (stack o under) ≡ stack (begun (j ++ k ∷ []) Iterated o.before) (o ∷ under)
+pub entered-turn : (j : List ℕ) (k : ℕ) (path : List ℕ) (o : OpenInstance) (under : List OpenInstance) → o.looping ≡ Some j → Begins (j ++ k ∷ []) path → opened_to path (stack o under) ≡ stack (new_open_instance (j ++ k ∷ []) Iterated o.before) (o ∷ under)
 entered-turn j k path o under e b =
     ap (λ (l : Option (List ℕ)). pushed_iteration (iteration_on l path) (stack o under)) e
     ∙ ap (λ (t : Bool). pushed_iteration (cond t (iteration_at j (slice_get path (length j))) None) (stack o under)) (ap (λ (p : List ℕ). starts j p) q ∙ starts-front j (k ∷ b.0))
@@ -133,11 +133,11 @@ entered-turn j k path o under e b =
 
 -- the steps of the walk at a Spawn
 pub walked-spawn : (old v new : OpenInstances) (e : Event) (j path : List ℕ) (rank : ℕ) (top child : OpenInstance) → e ≡ event.Spawn j → pedigree_of e ≡ path ++ rank ∷ [] →
-    v ≡ opened_to path (left path old.top old.under) → top ≡ after_event v.top e → child ≡ begun j Spawned top.before → new ≡ pushed (stack top v.under) child → new ≡ walked old e
+    v ≡ opened_to path (left path old.top old.under) → top ≡ after_event v.top e → child ≡ new_open_instance j Spawned top.before → new ≡ pushed (stack top v.under) child → new ≡ walked old e
 walked-spawn old v new e j path rank top child s p hv ht hc hn =
     hn
     ∙ ap (λ (c : OpenInstance). pushed (stack top v.under) c) hc
-    ∙ ap (λ (t : OpenInstance). pushed (stack t v.under) (begun j Spawned t.before)) (ht ∙ ap (λ (x : Event). after_event v.top x) s)
-    ∙ ap (λ (x : Event). went v x) (sym s)
-    ∙ ap (λ (u : OpenInstances). went u e) hv
-    ∙ ap (λ (l : List ℕ). went (opened_to l (left l old.top old.under)) e) (sym (path-is e path rank p))
+    ∙ ap (λ (t : OpenInstance). pushed (stack t v.under) (new_open_instance j Spawned t.before)) (ht ∙ ap (λ (x : Event). after_event v.top x) s)
+    ∙ ap (λ (x : Event). instances_after v x) (sym s)
+    ∙ ap (λ (u : OpenInstances). instances_after u e) hv
+    ∙ ap (λ (l : List ℕ). instances_after (opened_to l (left l old.top old.under)) e) (sym (path-is e path rank p))

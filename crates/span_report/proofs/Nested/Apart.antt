@@ -13,7 +13,7 @@ use Rattle.serial_meaning.proofs.RisingPedigrees.Rising.{BeforeAll, Rise, places
 use Rattle.serial_meaning.proofs.RisingPedigrees.RisingExec.{eval-rises}
 use Rattle.serial_meaning.specs.declared.event.Event.{Event}
 use Rattle.serial_meaning.specs.declared.event.Event.TheVariants as event
-use Rattle.span_report.specs.Series.{Begins, IsEvent, IsInstance, Main, Child, Iteration, IsHome, IsOf, IsMeet}
+use Rattle.span_report.specs.Series.{Begins, IsEvent, IsInstance, Main, Child, Iteration, IsHome, IsEventOf, IsMeet}
 use Rattle.span_report.specs.Nested.{Instance}
 use Rattle.span_report.proofs.Nested.Clear.{IsClear}
 use Rattle.span_report.proofs.Belonging.Homes.{same-front, apart-length, begins-begins, begins-length, begins-short, begins-rank, fronts, IsPresent}
@@ -112,7 +112,7 @@ module _ (all : List Event) (nested : IsClear all (Instance []) [] 0 all) (rise 
   home-is home path rank h = record { instance = h.instance; begins = begins-rank home path rank h.begins; longest = λ other i b. longest home path h other i (begins-short other path rank b) }
 
   -- So each event belongs to the instance of whose present paths its pedigree's path is one.
-  pub event-of : (n : ℕ) (e : Event) → IsEvent all n e → (p : IsPlaced all e) × IsOf all p.home n e
+  pub event-of : (n : ℕ) (e : Event) → IsEvent all n e → (p : IsPlaced all e) × IsEventOf all p.home n e
   event-of n e h =
       let p = each-get (IsPlaced all) all n e (all-placed all nested) h in
       (p, record { numbered = h; belongs = subst (λ (j : List ℕ). IsHome all j p.home) (sym p.at) (home-is p.home p.path p.rank p.present) })

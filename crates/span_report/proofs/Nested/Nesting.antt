@@ -2,7 +2,7 @@
 use Rattle.std.proofs.Common.{◌≡◌, ℕ, zero, suc, ◌+◌, ◌-◌, List, [], ◌∷◌, ◌++◌, Option, Some, None, Result, Ok, Err, refl, sym, ap, ◌∙◌, append_assoc, append-nil, subst}
 use Rattle.std.proofs.Common.{ℤ, pos}
 use Rattle.std.specs.Int.{w64, int_wrapping_add}
-use Rattle.serial_meaning.specs.Runs.{Run, done, after_items, goes_on, ◌then◌}
+use Rattle.serial_meaning.specs.Runs.{Run, done, after_items, continued, ◌then◌}
 use Rattle.serial_meaning.specs.Functions.{function_at}
 use Rattle.serial_meaning.specs.Exec.{State, goes_out, frame, exec, instance, with_loop_values}
 use Rattle.serial_meaning.specs.Eval.{Evaluation, serial, loop_evaluation, eval_with, eval_below, depth_left, first_value, main_origin, elision}
@@ -33,7 +33,7 @@ nests-then : {A B : Type 0} (home path : List ℕ) (f-rank : A → ℕ) (g-rank 
     Nests home path f-rank lo r → ((a : A) → Nests home path g-rank (f-rank a) (f a)) → Nests home path g-rank lo (r then f)
 nests-then {A = A} {B = B} home path f-rank g-rank lo r f h k = from r.items r.ending h.goes
   where
-    from : (items : List Event) (e : Result A Fault) → Goes home path f-rank lo items e → Nests home path g-rank lo (goes_on items e f)
+    from : (items : List Event) (e : Result A Fault) → Goes home path f-rank lo items e → Nests home path g-rank lo (continued items e f)
     from items (Err e) g = record { goes = g }
     from items (Ok a) g = record { goes = after (f a).ending (k a).goes }
       where
@@ -50,7 +50,7 @@ whole {A = A} home path rank lo r h = from r.items r.ending h.goes
     from items (Err e) g = g
 
 -- What shows nothing adds nothing.
-mapped : {A B : Type 0} (items : List Event) (q : Result A Fault) (f : A → Run Event Fault B) → ((a : A) → (f a).items ≡ []) → (goes_on items q f).items ≡ items
+mapped : {A B : Type 0} (items : List Event) (q : Result A Fault) (f : A → Run Event Fault B) → ((a : A) → (f a).items ≡ []) → (continued items q f).items ≡ items
 mapped items (Ok a) f h = ap (λ l. items ++ l) (h a) ∙ append-nil items
 mapped items (Err e) f h = refl
 
@@ -74,7 +74,7 @@ module _ (plan : PlanView) (home : List ℕ) (child : Origin → Evaluation) (fi
 
   -- an event that begins children, with what they do
   with_child : {B : Type 0} (path : List ℕ) (rank : B → ℕ) (k : ℕ) (e : Event) (items : List Event) (q : Result (List Value) Fault) (f : List Value → B) → ((a : List Value) → rank (f a) ≡ k + 1) →
-      ((es : List Event) → IsNested (Instance home) path (k + 1) es → IsNested (Instance home) path k (e ∷ (items ++ es))) → Nests home path rank k (after_items (e ∷ []) (goes_on items q (λ a. done (f a))))
+      ((es : List Event) → IsNested (Instance home) path (k + 1) es → IsNested (Instance home) path k (e ∷ (items ++ es))) → Nests home path rank k (after_items (e ∷ []) (continued items q (λ a. done (f a))))
   with_child path rank k e items (Ok a) f r put = record { goes = λ es n. subst (λ (l : List Event). IsNested (Instance home) path k (e ∷ (l ++ es))) (sym (append-nil items)) (put es (subst (λ (i : ℕ). IsNested (Instance home) path i es) (r a) n)) }
   with_child path rank k e items (Err g) f r put = record { goes = subst (λ (l : List Event). IsNested (Instance home) path k (e ∷ l)) (append-nil items) (put [] (Ends (Instance home) path (k + 1))) }
 
@@ -82,7 +82,7 @@ module _ (plan : PlanView) (home : List ℕ) (child : Origin → Evaluation) (fi
   scope-nests : (path : List ℕ) (s : State (Unit {0})) (r : Run Event Fault (State (Unit {0}))) → P (path ++ s.rank ∷ []) 0 r → P path s.rank (after_items [] r then goes_out (serial child) plan path s.rank)
   scope-nests path s r h = from r.items r.ending (whole home (path ++ s.rank ∷ []) rank_of 0 r h)
     where
-      from : (items : List Event) (q : Result (State (Unit {0})) Fault) → IsNested (Instance home) (path ++ s.rank ∷ []) 0 items → P path s.rank (goes_on items q (goes_out (serial child) plan path s.rank))
+      from : (items : List Event) (q : Result (State (Unit {0})) Fault) → IsNested (Instance home) (path ++ s.rank ∷ []) 0 items → P path s.rank (continued items q (goes_out (serial child) plan path s.rank))
       from items (Ok a) n = record { goes = λ es m. subst (λ (l : List Event). IsNested (Instance home) path s.rank (l ++ es)) (sym (append-nil items)) (Scopes home path s.rank items es n m) }
       from items (Err f) n = record { goes = subst (IsNested (Instance home) path s.rank) (append-nil items) (Scopes home path s.rank items [] n (Ends (Instance home) path (s.rank + 1))) }
 
@@ -137,7 +137,7 @@ module _ (plan : PlanView) (home : List ℕ) (child : Origin → Evaluation) (fi
       later = loop_evaluation child function rest first home (k + 1) n
 
       from : (q : Result (List Value) Fault) → IsNested Iterations home (k + 1) (loop_evaluation child function rest first home (k + 1) n).items →
-          IsNested Iterations home k (goes_on (child o).items q (λ vs. loop_evaluation child function rest first home (k + 1) n then λ ws. done (vs ++ ws))).items
+          IsNested Iterations home k (continued (child o).items q (λ vs. loop_evaluation child function rest first home (k + 1) n then λ ws. done (vs ++ ws))).items
       from (Ok vs) h = Iterates home k (child o).items (later then λ ws. done (vs ++ ws)).items (fine o) (subst (IsNested Iterations home (k + 1)) (sym (mapped later.items later.ending (λ ws. done (vs ++ ws)) (λ a. refl))) h)
       from (Err e) h = subst (IsNested Iterations home k) (append-nil (child o).items) (Iterates home k (child o).items [] (fine o) (Ends Iterations home (k + 1)))
 

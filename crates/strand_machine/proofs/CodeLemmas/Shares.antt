@@ -14,8 +14,8 @@ use Rattle.serial_meaning.specs.contracts.value.Value as value
 use Rattle.std.proofs.Crossing.{Box-send, Vec-send}
 use Rattle.std.specs.contracts.option.Option as option
 use Rattle.strand_family.proofs.Shares.{family_sends, give_sends}
-use Rattle.strand_machine.proofs.work.Left.TheSendSync as left_shared
-use Rattle.strand_machine.specs.contracts.body.Body as body
+use Rattle.strand_machine.proofs.remaining.Left.TheSendSync as left_shared
+use Rattle.strand_machine.specs.contracts.task_state.TaskState as state
 use Rattle.strand_machine.specs.contracts.destination.Destination as destination
 use Rattle.strand_machine.specs.contracts.parts.Parts as parts
 use Rattle.strand_machine.specs.contracts.stop.Paused as paused
@@ -26,8 +26,8 @@ use Rattle.strand_machine.specs.contracts.task.Task.TheInside as task_inside
 use Rattle.strand_machine.specs.contracts.trace.AfterChild as after
 use Rattle.strand_machine.specs.contracts.trace.Trace as trace
 use Rattle.strand_machine.specs.contracts.trace.Trace.TheInside as trace_inside
-use Rattle.strand_machine.specs.contracts.work.InstanceState as stage
-use Rattle.strand_machine.specs.contracts.work.Work as work
+use Rattle.strand_machine.specs.contracts.remaining.Stage as stage
+use Rattle.strand_machine.specs.contracts.remaining.Remaining as remaining
 use Rattle.strand_moves.proofs.Shares.{instance_sends, maybe_target_sends}
 
 place_sends : IsSend destination.the_row
@@ -50,14 +50,14 @@ stage_sends : IsSend stage.the_row
 stage_sends = variants_send stage.enum
     ((instance_sends, tt), ((instance_sends, tt), ((instance_sends, tt), ((value_shared.the_send, tt), ((fault_shared.the_send, tt), ((fault_shared.the_send, tt), tt))))))
 
-work_sends : IsSend work.the_row
-work_sends = variants_send work.enum ((left_shared.the_send, tt), ((stage_sends, tt), ((value_shared.the_send, (search sendable, tt)), ((outcome_shared.the_send, tt), tt))))
+remaining_sends : IsSend remaining.the_row
+remaining_sends = variants_send remaining.enum ((left_shared.the_send, tt), ((stage_sends, tt), ((value_shared.the_send, (search sendable, tt)), ((outcome_shared.the_send, tt), tt))))
 
-body_sends : IsSend body.the_row
-body_sends = declared_send body.the_type (family_sends, (trace_sends, (items_shared.the_send value.the_row value_shared.the_send, (search sendable, (search sendable, tt)))))
+task_state_sends : IsSend state.the_row
+task_state_sends = declared_send state.the_type (family_sends, (trace_sends, (items_shared.the_send value.the_row value_shared.the_send, (search sendable, (search sendable, tt)))))
 
 parts_sends : IsSend parts.the_row
-parts_sends = declared_send parts.the_type (body_sends, (work_sends, tt))
+parts_sends = declared_send parts.the_type (task_state_sends, (remaining_sends, tt))
 
 task_inside_sends : IsSend task_inside.the_row
 task_inside_sends = declared_send task_inside.the_type (Box-send parts.the_row parts_sends, tt)

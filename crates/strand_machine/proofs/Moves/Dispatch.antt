@@ -23,41 +23,41 @@ use Rattle.strand_meaning.specs.Machine.{Effect, Reached, move}
 use Rattle.strand_meaning.specs.Trace.{AwaitedChild}
 use Rattle.strand_meaning.specs.Sound.{IsTask}
 use Rattle.strand_meaning.specs.Task as meaning
-use Rattle.strand_meaning.specs.Task.{Task, ends, ends_unless, own_instance, first_half, split_step, over_step, waits, begins_last, gave, faults_after, moved, stops_at, child_in}
+use Rattle.strand_meaning.specs.Task.{Task, ends, ends_unless, own_instance, first_half, split_step, over_step, waits, begins_last, returned, faults_after, step_result, stops_at, child_in}
 use Rattle.strand_moves.specs.Machines as moves
 use Rattle.strand_moves.specs.Moves.{IsTrailOf, ShowsTrail, effects_of, run_of}
 use Rattle.strand_moves.specs.declared.instance.Instance.{Instance as RawInstance}
 use Rattle.strand_moves.specs.declared.effects.Effects.{Effects}
-use Rattle.strand_moves.specs.declared.effects.MoveResult.TheVariants as moved-in
+use Rattle.strand_moves.specs.declared.effects.MoveResult.TheVariants as move_result-in
 use Rattle.strand_family.specs.Origins.{only}
-use Rattle.strand_machine.specs.Bodies.{is_long}
+use Rattle.strand_machine.specs.TaskStates.{is_long}
 use Rattle.strand_machine.specs.Family.{FamilyView, family_with_child}
-use Rattle.strand_machine.specs.Parts.{awaited, destination_of}
+use Rattle.strand_machine.specs.AwaitedChildren.{awaited, destination_of}
 use Rattle.strand_machine.specs.Effects.{task_after_effects, HasSoundEffects, IsKnownChild}
-use Rattle.strand_machine.specs.Made.{ended}
+use Rattle.strand_machine.specs.Made.{ended_move}
 use Rattle.strand_machine.specs.Stops.{IsStep}
 use Rattle.strand_machine.specs.declared.stop.MoveOrStop.{MoveOrStop as MadeStep}
 use Rattle.strand_machine.specs.declared.stop.MoveOrStop.TheVariants as step-in
 use Rattle.strand_machine.specs.declared.stop.Stop.TheVariants as stop-in
-use Rattle.strand_machine.specs.Tasks.{view_of, fresh, cut_of, AwaitsLast, RunsAt, WorksAt, IsSound, task_of, task_with, work_of, gone, waiting, with_child, ended_by}
-use Rattle.strand_machine.specs.declared.body.Body.{Body}
+use Rattle.strand_machine.specs.Tasks.{view_of, fresh, cut_of, AwaitsLast, RunsAt, RemainsAt, IsSound, task_of, task_with, remaining_of, gone, waiting, with_child, ended_by}
+use Rattle.strand_machine.specs.declared.task_state.TaskState.{TaskState}
 use Rattle.strand_machine.specs.declared.destination.Destination.{Destination}
 use Rattle.strand_machine.specs.declared.destination.Destination.TheVariants as destination
-use Rattle.strand_machine.specs.declared.work.InstanceState.TheVariants as stage
-use Rattle.strand_machine.specs.declared.work.Left.{Left}
-use Rattle.strand_machine.specs.declared.work.Work.{Work}
-use Rattle.strand_machine.specs.declared.work.Work.TheVariants as work
+use Rattle.strand_machine.specs.declared.remaining.Stage.TheVariants as stage
+use Rattle.strand_machine.specs.declared.remaining.Left.{Left}
+use Rattle.strand_machine.specs.declared.remaining.Remaining.{Remaining}
+use Rattle.strand_machine.specs.declared.remaining.Remaining.TheVariants as remaining
 
 -- Sound moves
 
-sound-step : StepsAreSound → (b : Body) (w : Work) (s : meaning.MoveOrStop) → IsSound b w → meaning.step (task_of b w) ≡ s → IsSoundStep (task_of b w) s
+sound-step : StepsAreSound → (b : TaskState) (w : Remaining) (s : meaning.MoveOrStop) → IsSound b w → meaning.step (task_of b w) ≡ s → IsSoundStep (task_of b w) s
 sound-step steps_are_sound b w s h e = subst (IsSoundStep (task_of b w)) e (steps_are_sound (task_of b w) h.task)
 
-pub pass-sound : StepsAreSound → (b : Body) (w next : Work) → IsSound b w → meaning.step (task_of b w) ≡ meaning.Passes (task_of (gone b) next) → WorksAt b.family.plan b.family.origin next → IsSound (gone b) next
-pass-sound law b w next h e works = record { task = sound-step law b w (meaning.Passes (task_of (gone b) next)) h e; family = h.family; works = works }
+pub pass-sound : StepsAreSound → (b : TaskState) (w next : Remaining) → IsSound b w → meaning.step (task_of b w) ≡ meaning.Passes (task_of (gone b) next) → RemainsAt b.family.plan b.family.origin next → IsSound (gone b) next
+pass-sound law b w next h e of_plan = record { task = sound-step law b w (meaning.Passes (task_of (gone b) next)) h e; family = h.family; of_plan = of_plan }
 
-pub wait-sound : StepsAreSound → (b : Body) (w next : Work) → IsSound b w → meaning.step (task_of b w) ≡ meaning.Stops (meaning.Wait (task_of (waiting b) next)) → WorksAt b.family.plan b.family.origin next → IsSound (waiting b) next
-wait-sound law b w next h e works = record { task = sound-step law b w (meaning.Stops (meaning.Wait (task_of (waiting b) next))) h e; family = h.family; works = works }
+pub wait-sound : StepsAreSound → (b : TaskState) (w next : Remaining) → IsSound b w → meaning.step (task_of b w) ≡ meaning.Stops (meaning.Wait (task_of (waiting b) next)) → RemainsAt b.family.plan b.family.origin next → IsSound (waiting b) next
+wait-sound law b w next h e of_plan = record { task = sound-step law b w (meaning.Stops (meaning.Wait (task_of (waiting b) next))) h e; family = h.family; of_plan = of_plan }
 
 awaited-append : (ps qs : List AwaitedChild) → awaited (ps ++ qs) ≡ awaited ps ++ awaited qs
 awaited-append [] qs = refl
@@ -80,11 +80,11 @@ awaits-more family parts p h = record {
       ∙ ap (λ l. h.passed ++ l) (one-more (length parts) ∙ ap (λ n. replicate n false) (sym (length-append parts (p ∷ []))));
 }
 
-pub spawn-sound : StepsAreSound → (b : Body) (w next : Work) (child : Origin) (p : Destination) → IsSound b w → meaning.step (task_of b w) ≡ meaning.Stops (meaning.Spawn child (task_of (with_child b child p) next)) →
-    WorksAt b.family.plan b.family.origin next → IsOriginOf b.family.plan child × IsSound (with_child b child p) next
-spawn-sound law b w next child p h e works =
+pub spawn-sound : StepsAreSound → (b : TaskState) (w next : Remaining) (child : Origin) (p : Destination) → IsSound b w → meaning.step (task_of b w) ≡ meaning.Stops (meaning.Spawn child (task_of (with_child b child p) next)) →
+    RemainsAt b.family.plan b.family.origin next → IsOriginOf b.family.plan child × IsSound (with_child b child p) next
+spawn-sound law b w next child p h e of_plan =
     let s = sound-step law b w (meaning.Stops (meaning.Spawn child (task_of (with_child b child p) next))) h e in
-    (s.0, record { task = s.1; family = awaits-more b.family b.trace.handed (record { child = child; destination = destination_of p; after = [] }) h.family; works = works })
+    (s.0, record { task = s.1; family = awaits-more b.family b.trace.handed (record { child = child; destination = destination_of p; after = [] }) h.family; of_plan = of_plan })
 
 -- Ends
 
@@ -101,32 +101,32 @@ answer-of plan o out (outcome.Values vs) e f = e
 answer-of plan o out (outcome.Fault g) e f = e
 answer-of plan o out (outcome.Cut g) e f = absurd f
 
-pub end-answers : StepsAreSound → (b : Body) (w : Work) (o : Outcome) → IsSound b w → meaning.step (task_of b w) ≡ ends (task_of b w) o → IsAnswer b.family.plan b.family.origin b.trace.prefix (ended_by b.trace.fault o)
+pub end-answers : StepsAreSound → (b : TaskState) (w : Remaining) (o : Outcome) → IsSound b w → meaning.step (task_of b w) ≡ ends (task_of b w) o → IsAnswer b.family.plan b.family.origin b.trace.prefix (ended_by b.trace.fault o)
 end-answers law b w o h e =
     let s = sound-step law b w (meaning.Stops (meaning.End b.trace.prefix (ended_by b.trace.fault o))) h (e ∙ ends-is (task_of b w) o) in
     answer-of b.family.plan b.family.origin b.trace.prefix (ended_by b.trace.fault o) s.0 s.1
 
 -- What a call gives
 
-pub end-is : (b : Body) (w : Work) (o : Outcome) (s : MadeStep) → meaning.step (task_of b w) ≡ ends (task_of b w) o → s ≡ ended b o → IsStep (view_of b w) s
+pub end-is : (b : TaskState) (w : Remaining) (o : Outcome) (s : MadeStep) → meaning.step (task_of b w) ≡ ends (task_of b w) o → s ≡ ended_move b o → IsStep (view_of b w) s
 end-is b w o s e h = rw h (record { is = e ∙ ends-is (task_of b w) o; keeps = (refl, refl, refl) })
 
 -- no work of a task that goes on is that of one that took a cut
-pub works-on : (plan : PlanView) (o : Origin) (w : Work) → WorksAt plan o w → cut_of w ≡ None
-works-on plan o (work.Splits left) h = refl
-works-on plan o (work.Runs s) h = refl
-works-on plan o (work.Finished v gone_on) h = refl
-works-on plan o (work.Ends ended) h = absurd h
+pub of_plan-on : (plan : PlanView) (o : Origin) (w : Remaining) → RemainsAt plan o w → cut_of w ≡ None
+of_plan-on plan o (remaining.Splits left) h = refl
+of_plan-on plan o (remaining.Runs s) h = refl
+of_plan-on plan o (remaining.Finished v gone_on) h = refl
+of_plan-on plan o (remaining.Ends ended) h = absurd h
 
-pub pass-is : (b : Body) (w next : Work) (s : MadeStep) → WorksAt b.family.plan b.family.origin next → meaning.step (task_of b w) ≡ meaning.Passes (task_of (gone b) next) → s ≡ step-in.Passes (view_of (gone b) next) → IsStep (view_of b w) s
-pass-is b w next s works e h = rw h (record { is = e; keeps = (refl, refl, works-on b.family.plan b.family.origin next works) })
+pub pass-is : (b : TaskState) (w next : Remaining) (s : MadeStep) → RemainsAt b.family.plan b.family.origin next → meaning.step (task_of b w) ≡ meaning.Passes (task_of (gone b) next) → s ≡ step-in.Passes (view_of (gone b) next) → IsStep (view_of b w) s
+pass-is b w next s of_plan e h = rw h (record { is = e; keeps = (refl, refl, of_plan-on b.family.plan b.family.origin next of_plan) })
 
-pub wait-is : (b : Body) (w next : Work) (s : MadeStep) → WorksAt b.family.plan b.family.origin next → meaning.step (task_of b w) ≡ meaning.Stops (meaning.Wait (task_of (waiting b) next)) → s ≡ step-in.Stops (stop-in.Wait (view_of (waiting b) next)) → IsStep (view_of b w) s
-wait-is b w next s works e h = rw h (record { is = e; keeps = (refl, refl, works-on b.family.plan b.family.origin next works) })
+pub wait-is : (b : TaskState) (w next : Remaining) (s : MadeStep) → RemainsAt b.family.plan b.family.origin next → meaning.step (task_of b w) ≡ meaning.Stops (meaning.Wait (task_of (waiting b) next)) → s ≡ step-in.Stops (stop-in.Wait (view_of (waiting b) next)) → IsStep (view_of b w) s
+wait-is b w next s of_plan e h = rw h (record { is = e; keeps = (refl, refl, of_plan-on b.family.plan b.family.origin next of_plan) })
 
-pub spawn-is : (b : Body) (w next : Work) (child : Origin) (p : Destination) (s : MadeStep) → WorksAt b.family.plan b.family.origin next → meaning.step (task_of b w) ≡ meaning.Stops (meaning.Spawn child (task_of (with_child b child p) next)) →
+pub spawn-is : (b : TaskState) (w next : Remaining) (child : Origin) (p : Destination) (s : MadeStep) → RemainsAt b.family.plan b.family.origin next → meaning.step (task_of b w) ≡ meaning.Stops (meaning.Spawn child (task_of (with_child b child p) next)) →
     s ≡ step-in.Stops (stop-in.Spawn (fresh b.family.plan child) (view_of (with_child b child p) next)) → IsStep (view_of b w) s
-spawn-is b w next child p s works e h = rw h (record { is = e; keeps = (refl, refl, refl, works-on b.family.plan b.family.origin next works) })
+spawn-is b w next child p s of_plan e h = rw h (record { is = e; keeps = (refl, refl, refl, of_plan-on b.family.plan b.family.origin next of_plan) })
 
 -- Loops
 
@@ -134,28 +134,28 @@ only-half : (o : Origin) (left : Range) → only o (lower_half left) ≡ first_h
 only-half (Instance function args path) left = refl
 only-half (Loop function rest first path range) left = refl
 
-pub split-many : (b : Body) (left upper : Left) (lower : Range) (child : Origin) → 2 ≤ left.range.hi - left.range.lo → lower ≡ lower_half left.range → upper.range ≡ upper_half left.range → child ≡ only b.family.origin lower →
-    meaning.step (task_of b (work.Splits left)) ≡ meaning.Stops (meaning.Spawn child (task_of (with_child b child destination.Half) (work.Splits upper)))
+pub split-many : (b : TaskState) (left upper : Left) (lower : Range) (child : Origin) → 2 ≤ left.range.hi - left.range.lo → lower ≡ lower_half left.range → upper.range ≡ upper_half left.range → child ≡ only b.family.origin lower →
+    meaning.step (task_of b (remaining.Splits left)) ≡ meaning.Stops (meaning.Spawn child (task_of (with_child b child destination.Half) (remaining.Splits upper)))
 split-many b left upper lower child h l u c = by_size (left.range.hi - left.range.lo) refl h
   where
     same : child ≡ first_half b.family.origin left.range
     same = c ∙ ap (only b.family.origin) l ∙ only-half b.family.origin left.range
 
-    by_size : (n : ℕ) → left.range.hi - left.range.lo ≡ n → 2 ≤ n → split_step (task_of b (work.Splits left)) left.range n ≡ meaning.Stops (meaning.Spawn child (task_of (with_child b child destination.Half) (work.Splits upper)))
+    by_size : (n : ℕ) → left.range.hi - left.range.lo ≡ n → 2 ≤ n → split_step (task_of b (remaining.Splits left)) left.range n ≡ meaning.Stops (meaning.Spawn child (task_of (with_child b child destination.Half) (remaining.Splits upper)))
     by_size zero e g = absurd (omega arith)
     by_size (suc zero) e g = absurd (omega arith)
     by_size (suc (suc n)) e g =
         ap (λ (o : Origin). meaning.Stops (meaning.Spawn o (task_with (with_child b o destination.Half) (meaning.Splits (upper_half left.range))))) (sym same)
         ∙ ap (λ (r : Range). meaning.Stops (meaning.Spawn child (task_with (with_child b child destination.Half) (meaning.Splits r)))) (sym u)
 
-pub split-none : (b : Body) (left : Left) → left.range.hi - left.range.lo ≡ 0 → meaning.step (task_of b (work.Splits left)) ≡ ends (task_of b (work.Splits left)) (outcome.Values b.values)
-split-none b left e = ap (split_step (task_of b (work.Splits left)) left.range) e
+pub split-none : (b : TaskState) (left : Left) → left.range.hi - left.range.lo ≡ 0 → meaning.step (task_of b (remaining.Splits left)) ≡ ends (task_of b (remaining.Splits left)) (outcome.Values b.values)
+split-none b left e = ap (split_step (task_of b (remaining.Splits left)) left.range) e
 
-pub split-one : (b : Body) (left : Left) (next : Work) → left.range.hi - left.range.lo ≡ 1 → work_of b.family.plan next ≡ begins_last b.family.plan b.family.origin →
-    meaning.step (task_of b (work.Splits left)) ≡ meaning.Passes (task_of (gone b) next)
+pub split-one : (b : TaskState) (left : Left) (next : Remaining) → left.range.hi - left.range.lo ≡ 1 → remaining_of b.family.plan next ≡ begins_last b.family.plan b.family.origin →
+    meaning.step (task_of b (remaining.Splits left)) ≡ meaning.Passes (task_of (gone b) next)
 split-one b left next e begun =
-    ap (split_step (task_of b (work.Splits left)) left.range) e
-    ∙ ap (λ (w : meaning.Work). meaning.Passes (record (task_of b (work.Splits left)) { work = w; advanced = true })) (sym begun)
+    ap (split_step (task_of b (remaining.Splits left)) left.range) e
+    ∙ ap (λ (w : meaning.Remaining). meaning.Passes (record (task_of b (remaining.Splits left)) { remaining = w; advanced = true })) (sym begun)
 
 -- a part of a loop has the loop's path
 only-path : (o : Origin) (part : Range) → path_of (only o part) ≡ path_of o
@@ -189,70 +189,70 @@ over-ends t v (Loop function rest first path range) h = by_size (range.hi - rang
     by_size (suc zero) g k = rw g refl
     by_size (suc (suc n)) g k = absurd (true≢false (long n ∙ rw g at k))
 
-pub over-long : (b : Body) (v : Value) (gone_on : Bool) → gone_on ≡ false → is_long b.family.origin ≡ true →
-    meaning.step (task_of b (work.Finished v gone_on)) ≡ meaning.Stops (meaning.Wait (task_of (waiting b) (work.Finished v false)))
+pub over-long : (b : TaskState) (v : Value) (gone_on : Bool) → gone_on ≡ false → is_long b.family.origin ≡ true →
+    meaning.step (task_of b (remaining.Finished v gone_on)) ≡ meaning.Stops (meaning.Wait (task_of (waiting b) (remaining.Finished v false)))
 over-long b v true e h = absurd (true≢false e)
-over-long b v false e h = over-waits (task_of b (work.Finished v false)) v b.family.origin h
+over-long b v false e h = over-waits (task_of b (remaining.Finished v false)) v b.family.origin h
 
-pub over-short : (b : Body) (v : Value) (gone_on : Bool) → gone_on ≡ false → is_long b.family.origin ≡ false →
-    meaning.step (task_of b (work.Finished v gone_on)) ≡ ends (task_of b (work.Finished v gone_on)) (outcome.Values (b.values ++ v ∷ []))
+pub over-short : (b : TaskState) (v : Value) (gone_on : Bool) → gone_on ≡ false → is_long b.family.origin ≡ false →
+    meaning.step (task_of b (remaining.Finished v gone_on)) ≡ ends (task_of b (remaining.Finished v gone_on)) (outcome.Values (b.values ++ v ∷ []))
 over-short b v true e h = absurd (true≢false e)
-over-short b v false e h = over-ends (task_of b (work.Finished v false)) v b.family.origin h
+over-short b v false e h = over-ends (task_of b (remaining.Finished v false)) v b.family.origin h
 
-pub over-on : (b : Body) (v : Value) (gone_on : Bool) → gone_on ≡ true → meaning.step (task_of b (work.Finished v gone_on)) ≡ ends (task_of b (work.Finished v gone_on)) (outcome.Values (b.values ++ v ∷ []))
+pub over-on : (b : TaskState) (v : Value) (gone_on : Bool) → gone_on ≡ true → meaning.step (task_of b (remaining.Finished v gone_on)) ≡ ends (task_of b (remaining.Finished v gone_on)) (outcome.Values (b.values ++ v ∷ []))
 over-on b v true e = refl
 over-on b v false e = absurd (true≢false (sym e))
 
 -- Instances
 
-pub give-instance : (b : Body) (v : Value) (function : ℕ) (args : List Value) (path : List ℕ) → b.family.origin ≡ Instance function args path →
-    meaning.step (task_of b (work.Runs (stage.Returned v))) ≡ ends (task_of b (work.Runs (stage.Returned v))) (outcome.Value v)
-give-instance b v function args path e = ap (λ (o : Origin). gave (task_of b (work.Runs (stage.Returned v))) o v) e
+pub give-instance : (b : TaskState) (v : Value) (function : ℕ) (args : List Value) (path : List ℕ) → b.family.origin ≡ Instance function args path →
+    meaning.step (task_of b (remaining.Runs (stage.Returned v))) ≡ ends (task_of b (remaining.Runs (stage.Returned v))) (outcome.Value v)
+give-instance b v function args path e = ap (λ (o : Origin). returned (task_of b (remaining.Runs (stage.Returned v))) o v) e
 
-pub give-loop : (b : Body) (v : Value) (function : ℕ) (rest : List Value) (first : ℤ) (path : List ℕ) (range : Range) → b.family.origin ≡ Loop function rest first path range →
-    meaning.step (task_of b (work.Runs (stage.Returned v))) ≡ meaning.Passes (task_of (gone b) (work.Finished v false))
-give-loop b v function rest first path range e = ap (λ (o : Origin). gave (task_of b (work.Runs (stage.Returned v))) o v) e
+pub give-loop : (b : TaskState) (v : Value) (function : ℕ) (rest : List Value) (first : ℤ) (path : List ℕ) (range : Range) → b.family.origin ≡ Loop function rest first path range →
+    meaning.step (task_of b (remaining.Runs (stage.Returned v))) ≡ meaning.Passes (task_of (gone b) (remaining.Finished v false))
+give-loop b v function rest first path range e = ap (λ (o : Origin). returned (task_of b (remaining.Runs (stage.Returned v))) o v) e
 
-pub fault-alone : (b : Body) (f : Fault) → b.trace.handed ≡ [] → meaning.step (task_of b (work.Runs (stage.Faulted f))) ≡ ends (task_of b (work.Runs (stage.Faulted f))) (outcome.Fault f)
-fault-alone b f e = ap (λ (ps : List AwaitedChild). faults_after ps (task_of b (work.Runs (stage.Faulted f))) f) e
+pub fault-alone : (b : TaskState) (f : Fault) → b.trace.handed ≡ [] → meaning.step (task_of b (remaining.Runs (stage.Faulted f))) ≡ ends (task_of b (remaining.Runs (stage.Faulted f))) (outcome.Fault f)
+fault-alone b f e = ap (λ (ps : List AwaitedChild). faults_after ps (task_of b (remaining.Runs (stage.Faulted f))) f) e
 
-pub fault-after : (b : Body) (f : Fault) → (b.trace.handed ≡ [] → ⊥) → meaning.step (task_of b (work.Runs (stage.Faulted f))) ≡ meaning.Stops (meaning.Wait (task_of (waiting b) (work.Runs (stage.Faulted f))))
+pub fault-after : (b : TaskState) (f : Fault) → (b.trace.handed ≡ [] → ⊥) → meaning.step (task_of b (remaining.Runs (stage.Faulted f))) ≡ meaning.Stops (meaning.Wait (task_of (waiting b) (remaining.Runs (stage.Faulted f))))
 fault-after b f h = from b.trace.handed h
   where
-    from : (ps : List AwaitedChild) → (ps ≡ [] → ⊥) → faults_after ps (task_of b (work.Runs (stage.Faulted f))) f ≡ waits (task_of b (work.Runs (stage.Faulted f)))
+    from : (ps : List AwaitedChild) → (ps ≡ [] → ⊥) → faults_after ps (task_of b (remaining.Runs (stage.Faulted f))) f ≡ waits (task_of b (remaining.Runs (stage.Faulted f)))
     from [] g = absurd (g refl)
     from (p ∷ ps) g = refl
 
 -- Moves
 
-module _ (b : Body) (i : RawInstance) where
+module _ (b : TaskState) (i : RawInstance) where
   abbrev here : Task
-  here = task_of b (work.Runs (stage.Running i))
+  here = task_of b (remaining.Runs (stage.Running i))
 
   abbrev made : Run Effect Fault Reached → meaning.MoveOrStop
-  made r = moved here r.items r.ending
+  made r = step_result here r.items r.ending
 
   pub go-went : (next : RawInstance) (s : Effects) → RunsAt b.family.plan (path_of (own_instance b.family.origin)) i →
-      move b.family.plan (moves.path_of i) (moves.machine_of b.family.plan i) ≡ run_of (moved-in.Went s) (moves.machine_of b.family.plan next) →
+      move b.family.plan (moves.path_of i) (moves.machine_of b.family.plan i) ≡ run_of (move_result-in.Went s) (moves.machine_of b.family.plan next) →
       meaning.step here ≡ stops_at (child_in (effects_of s)) (task_after_effects b next s)
   go-went next s at e = ap (λ (p : List ℕ). made (move b.family.plan p (moves.machine_of b.family.plan i))) (sym at.at) ∙ ap made e
 
   pub go-gave : (next : RawInstance) (v : Value) → RunsAt b.family.plan (path_of (own_instance b.family.origin)) i →
-      move b.family.plan (moves.path_of i) (moves.machine_of b.family.plan i) ≡ run_of (moved-in.Returned v) (moves.machine_of b.family.plan next) →
-      meaning.step here ≡ meaning.Passes (task_of (gone b) (work.Runs (stage.Returned v)))
+      move b.family.plan (moves.path_of i) (moves.machine_of b.family.plan i) ≡ run_of (move_result-in.Returned v) (moves.machine_of b.family.plan next) →
+      meaning.step here ≡ meaning.Passes (task_of (gone b) (remaining.Runs (stage.Returned v)))
   go-gave next v at e = ap (λ (p : List ℕ). made (move b.family.plan p (moves.machine_of b.family.plan i))) (sym at.at) ∙ ap made e
 
   pub go-faulted : (next : RawInstance) (f : Fault) → RunsAt b.family.plan (path_of (own_instance b.family.origin)) i →
-      move b.family.plan (moves.path_of i) (moves.machine_of b.family.plan i) ≡ run_of (moved-in.Faulted f) (moves.machine_of b.family.plan next) →
-      meaning.step here ≡ meaning.Passes (task_of (gone b) (work.Runs (stage.Faulted f)))
+      move b.family.plan (moves.path_of i) (moves.machine_of b.family.plan i) ≡ run_of (move_result-in.Faulted f) (moves.machine_of b.family.plan next) →
+      meaning.step here ≡ meaning.Passes (task_of (gone b) (remaining.Runs (stage.Faulted f)))
   go-faulted next f at e = ap (λ (p : List ℕ). made (move b.family.plan p (moves.machine_of b.family.plan i))) (sym at.at) ∙ ap made e
 
-  pub shown-sound : StepsAreSound → (next : RawInstance) (s : Effects) → IsSound b (work.Runs (stage.Running i)) →
-      move b.family.plan (moves.path_of i) (moves.machine_of b.family.plan i) ≡ run_of (moved-in.Went s) (moves.machine_of b.family.plan next) →
+  pub shown-sound : StepsAreSound → (next : RawInstance) (s : Effects) → IsSound b (remaining.Runs (stage.Running i)) →
+      move b.family.plan (moves.path_of i) (moves.machine_of b.family.plan i) ≡ run_of (move_result-in.Went s) (moves.machine_of b.family.plan next) →
       RunsAt b.family.plan (path_of (own_instance b.family.origin)) next → ShowsTrail b.family.plan s → HasSoundEffects b next s
   shown-sound law next s h moved-so runs trail =
-      let e = go-went next s h.works moved-so in
-      let known = from (child_in (effects_of s)) (sound-step law b (work.Runs (stage.Running i)) (stops_at (child_in (effects_of s)) (task_after_effects b next s)) h e) in
+      let e = go-went next s h.of_plan moved-so in
+      let known = from (child_in (effects_of s)) (sound-step law b (remaining.Runs (stage.Running i)) (stops_at (child_in (effects_of s)) (task_after_effects b next s)) h e) in
       record { task = known.0; child = known.1; family = h.family; runs = runs; trail = trail }
     where
       from : (o : Option Origin) → IsSoundStep here (stops_at o (task_after_effects b next s)) → IsTask (task_after_effects b next s) × IsKnownChild b.family.plan o

@@ -7,7 +7,7 @@ use Rattle.serial_meaning.specs.declared.event.Event.{Event}
 use Rattle.serial_meaning.specs.declared.event.Fault.{Fault}
 use Rattle.serial_meaning.specs.declared.origin.Origin.{Origin}
 use Rattle.strand_meaning.specs.Trace.{AwaitedChild, after_last, emit}
-use Rattle.strand_machine.specs.Parts.{awaited_child, awaited_children, awaited}
+use Rattle.strand_machine.specs.AwaitedChildren.{awaited_child, awaited_children, awaited}
 use Rattle.strand_machine.specs.declared.trace.AfterChild.{AfterChild}
 
 pub awaited_parts : (os : List Origin) (bs : List AfterChild) → length os ≡ length bs → awaited (awaited_children os bs) ≡ os

@@ -6,19 +6,19 @@ use Rattle.strand_meaning.specs.Laws.{MovesFall, StopsAreSound}
 use Rattle.strand_meaning.specs.Left.{moves_left}
 use Rattle.strand_meaning.specs.Task as meaning
 use Rattle.strand_meaning.specs.Task.{ends}
-use Rattle.strand_machine.specs.Made.{IsSoundMade, IsStopped, StopsSo, made, resumed_as, CanEnd, GoesOn, LeadsTo}
+use Rattle.strand_machine.specs.Made.{IsSoundMade, IsStopped, StopsSo, made, resumed_as, CanEnd, StepsOn, LeadsTo}
 use Rattle.strand_machine.specs.Stops.{IsStep, IsResumed}
-use Rattle.strand_machine.specs.Tasks.{Holds, IsSound, TaskView, task_of, view_of}
-use Rattle.strand_machine.specs.declared.body.Body.{Body}
+use Rattle.strand_machine.specs.Tasks.{HoldsOfTask, IsSound, TaskView, task_of, view_of}
+use Rattle.strand_machine.specs.declared.task_state.TaskState.{TaskState}
 use Rattle.strand_machine.specs.declared.parts.Parts.{Parts}
 use Rattle.strand_machine.specs.declared.stop.Passed.{Passed}
 use Rattle.strand_machine.specs.declared.stop.Passed.TheVariants as passed
 use Rattle.strand_machine.specs.declared.stop.MoveOrStop.{MoveOrStop}
 use Rattle.strand_machine.specs.declared.stop.MoveOrStop.TheVariants as step
 use Rattle.strand_machine.specs.declared.stop.Stop.TheVariants as stop
-use Rattle.strand_machine.specs.declared.work.Work.{Work}
+use Rattle.strand_machine.specs.declared.remaining.Remaining.{Remaining}
 use Rattle.strand_machine.proofs.NextStops.Advancing.{leads-start, run-falls, run-leads, run-stops, sound_holds}
-use Rattle.strand_machine.proofs.Moves.Dispatch.{end-is, works-on}
+use Rattle.strand_machine.proofs.Moves.Dispatch.{end-is, of_plan-on}
 
 -- what is known of a move is known of the step that it makes
 pub made-ok : {E : Type 0} (p : Parts) (r : Result Passed E) (F G : MoveOrStop → Type 0) → ((s : MoveOrStop) → F s → G s) → IfOk r (λ (x : Passed). F (made p x)) → IfOk r (λ (x : Passed). G (made p x))
@@ -26,16 +26,16 @@ made-ok p (Ok x) F G f h = f (made p x) h
 made-ok p (Err x) F G f h = tt
 
 -- an end, whose values were taken out
-module _ {E : Type 0} (b after : Body) (w left : Work) (o : Outcome) (r : Result Passed E) (is : IfOk r (λ (x : Passed). x ≡ passed.Ends o)) (same : OnOk r (after ≡ record b { values = [] })) where
-  abbrev left_so : Body → Parts
-  left_so x = record { body = x; work = left }
+module _ {E : Type 0} (b after : TaskState) (w left : Remaining) (o : Outcome) (r : Result Passed E) (is : IfOk r (λ (x : Passed). x ≡ passed.Ends o)) (same : OnOk r (after ≡ record b { values = [] })) where
+  abbrev left_so : TaskState → Parts
+  left_so x = record { state = x; remaining = left }
 
   pub closes : meaning.step (task_of b w) ≡ ends (task_of b w) o → IfOk r (λ (x : Passed). IsStep (view_of b w) (made (left_so after) x))
   closes e = by_result r is same
     where
       by_result : (q : Result Passed E) → IfOk q (λ (x : Passed). x ≡ passed.Ends o) → OnOk q (after ≡ record b { values = [] }) → IfOk q (λ (x : Passed). IsStep (view_of b w) (made (left_so after) x))
       by_result (Ok x) g k =
-          subst (λ (y : Body). IsStep (view_of b w) (made (left_so y) x)) (sym k)
+          subst (λ (y : TaskState). IsStep (view_of b w) (made (left_so y) x)) (sym k)
           (subst (λ (y : Passed). IsStep (view_of b w) (made (left_so (record b { values = [] })) y)) (sym g) (end-is b w o _ e refl))
       by_result (Err x) g k = tt
 
@@ -44,24 +44,24 @@ module _ {E : Type 0} (b after : Body) (w left : Work) (o : Outcome) (r : Result
     where
       by_result : (q : Result Passed E) → IfOk q (λ (x : Passed). x ≡ passed.Ends o) → OnOk q (after ≡ record b { values = [] }) → IfOk q (IsSoundMade (left_so after))
       by_result (Ok x) g k =
-          subst (λ (y : Body). IsSoundMade (left_so y) x) (sym k)
+          subst (λ (y : TaskState). IsSoundMade (left_so y) x) (sym k)
           (subst (λ (y : Passed). IsSoundMade (left_so (record b { values = [] })) y) (sym g) can)
       by_result (Err x) g k = tt
 
 -- what holds of the task, by what the move came to
-pub goes-holds : (p : Parts) (x : Passed) → x ≡ passed.Goes → IsSoundMade p x → Holds p.body p.work
-goes-holds p x is h = sound_holds p.body p.work (subst (IsSoundMade p) is h)
+pub goes-holds : (p : Parts) (x : Passed) → x ≡ passed.Continues → IsSoundMade p x → HoldsOfTask p.state p.remaining
+goes-holds p x is h = sound_holds p.state p.remaining (subst (IsSoundMade p) is h)
 
-pub waits-holds : (p : Parts) (x : Passed) → x ≡ passed.Waits → IsSoundMade p x → Holds p.body p.work
-waits-holds p x is h = sound_holds p.body p.work (subst (IsSoundMade p) is h)
+pub waits-holds : (p : Parts) (x : Passed) → x ≡ passed.Waits → IsSoundMade p x → HoldsOfTask p.state p.remaining
+waits-holds p x is h = sound_holds p.state p.remaining (subst (IsSoundMade p) is h)
 
-pub spawned-holds : (p : Parts) (x : Passed) (child : TaskView) → x ≡ passed.Spawned child → IsSoundMade p x → Holds p.body p.work
-spawned-holds p x child is h = sound_holds p.body p.work (subst (IsSoundMade p) is h)
+pub spawned-holds : (p : Parts) (x : Passed) (child : TaskView) → x ≡ passed.Spawned child → IsSoundMade p x → HoldsOfTask p.state p.remaining
+spawned-holds p x child is h = sound_holds p.state p.remaining (subst (IsSoundMade p) is h)
 
-pub ends-can : (p : Parts) (x : Passed) (o : Outcome) → x ≡ passed.Ends o → IsSoundMade p x → CanEnd p.body o
+pub ends-can : (p : Parts) (x : Passed) (o : Outcome) → x ≡ passed.Ends o → IsSoundMade p x → CanEnd p.state o
 ends-can p x o is h = subst (IsSoundMade p) is h
 
-pub sound-at : (b : Body) (w v : Work) → w ≡ v → IsSound b w → IsSound b v
+pub sound-at : (b : TaskState) (w v : Remaining) → w ≡ v → IsSound b w → IsSound b v
 sound-at b w v e h = subst (IsSound b) e h
 
 -- what became of a wait, once it is known whether all have answered
@@ -69,40 +69,40 @@ pub resumed-so : (v t next : TaskView) (ready known : Bool) → v ≡ t → read
 resumed-so v t next ready known same is h = subst (λ (b : Bool). IsResumed t (resumed_as b next)) is (subst (λ (x : TaskView). IsResumed x (resumed_as ready next)) same h)
 
 -- what is no move is a stop
-pub is-stopped : (x : Passed) → (x ≡ passed.Goes → ⊥) → IsStopped x
-is-stopped passed.Goes other = other refl
+pub is-stopped : (x : Passed) → (x ≡ passed.Continues → ⊥) → IsStopped x
+is-stopped passed.Continues other = other refl
 is-stopped passed.Waits other = tt
 is-stopped (passed.Spawned child) other = tt
 is-stopped (passed.Ends o) other = tt
 
-pub never-goes : (x : Passed) → x ≡ passed.Goes → IsStopped x → ⊥
+pub never-goes : (x : Passed) → x ≡ passed.Continues → IsStopped x → ⊥
 never-goes x is h = subst IsStopped is h
 
 -- The parts of a task to which moves in a row have led.
 pub record IsOnWay (first : TaskView) (p : Parts) : Type 0 where
-  pub sound : IsSound p.body p.work
-  pub leads : LeadsTo first (view_of p.body p.work)
+  pub sound : IsSound p.state p.remaining
+  pub leads : LeadsTo first (view_of p.state p.remaining)
 
-pub way-start : (p : Parts) → IsSound p.body p.work → IsOnWay (view_of p.body p.work) p
-way-start p h = record { sound = h; leads = leads-start (view_of p.body p.work) (works-on p.body.family.plan p.body.family.origin p.work h.works) }
+pub way-start : (p : Parts) → IsSound p.state p.remaining → IsOnWay (view_of p.state p.remaining) p
+way-start p h = record { sound = h; leads = leads-start (view_of p.state p.remaining) (of_plan-on p.state.family.plan p.state.family.origin p.remaining h.of_plan) }
 
-module _ (first : TaskView) (now next : Parts) (x : Passed) (way : IsOnWay first now) (goes : GoesOn (view_of now.body now.work) (made next x)) (sound : IsSoundMade next x) where
+module _ (first : TaskView) (now next : Parts) (x : Passed) (way : IsOnWay first now) (goes : StepsOn (view_of now.state now.remaining) (made next x)) (sound : IsSoundMade next x) where
   abbrev here : TaskView
-  here = view_of now.body now.work
+  here = view_of now.state now.remaining
 
-  passes : x ≡ passed.Goes → made next x ≡ step.Passes (view_of next.body next.work)
+  passes : x ≡ passed.Continues → made next x ≡ step.Passes (view_of next.state next.remaining)
   passes is = ap (made next) is
 
-  pub way-on : MovesFall → x ≡ passed.Goes → IsOnWay first next
-  way-on law is = record { sound = subst (IsSoundMade next) is sound; leads = run-leads law first here (view_of next.body next.work) (made next x) way.leads goes (passes is) }
+  pub way-on : MovesFall → x ≡ passed.Continues → IsOnWay first next
+  way-on law is = record { sound = subst (IsSoundMade next) is sound; leads = run-leads law first here (view_of next.state next.remaining) (made next x) way.leads goes (passes is) }
 
-  pub way-falls : MovesFall → x ≡ passed.Goes → moves_left (task_of next.body next.work) < moves_left (task_of now.body now.work)
-  way-falls law is = run-falls law here (view_of next.body next.work) (made next x) way.leads.cut goes (passes is)
+  pub way-falls : MovesFall → x ≡ passed.Continues → moves_left (task_of next.state next.remaining) < moves_left (task_of now.state now.remaining)
+  way-falls law is = run-falls law here (view_of next.state next.remaining) (made next x) way.leads.cut goes (passes is)
 
-pub way-stops : StopsAreSound → (start now next : Parts) (x : Passed) → IsSound start.body start.work → IsOnWay (view_of start.body start.work) now → GoesOn (view_of now.body now.work) (made next x) → IsStopped x → StopsSo (view_of start.body start.work) (made next x)
-way-stops law start now next passed.Goes sound way goes h = h
+pub way-stops : StopsAreSound → (start now next : Parts) (x : Passed) → IsSound start.state start.remaining → IsOnWay (view_of start.state start.remaining) now → StepsOn (view_of now.state now.remaining) (made next x) → IsStopped x → StopsSo (view_of start.state start.remaining) (made next x)
+way-stops law start now next passed.Continues sound way goes h = h
 way-stops law start now next passed.Waits sound way goes h =
-    run-stops law (view_of start.body start.work) (view_of now.body now.work) (made next passed.Waits) (stop.Wait (view_of next.body next.work)) sound.task way.leads goes refl
+    run-stops law (view_of start.state start.remaining) (view_of now.state now.remaining) (made next passed.Waits) (stop.Wait (view_of next.state next.remaining)) sound.task way.leads goes refl
 way-stops law start now next (passed.Spawned child) sound way goes h =
-    run-stops law (view_of start.body start.work) (view_of now.body now.work) (made next (passed.Spawned child)) (stop.Spawn child (view_of next.body next.work)) sound.task way.leads goes refl
-way-stops law start now next (passed.Ends o) sound way goes h = run-stops law (view_of start.body start.work) (view_of now.body now.work) (made next (passed.Ends o)) _ sound.task way.leads goes refl
+    run-stops law (view_of start.state start.remaining) (view_of now.state now.remaining) (made next (passed.Spawned child)) (stop.Spawn child (view_of next.state next.remaining)) sound.task way.leads goes refl
+way-stops law start now next (passed.Ends o) sound way goes h = run-stops law (view_of start.state start.remaining) (view_of now.state now.remaining) (made next (passed.Ends o)) _ sound.task way.leads goes refl

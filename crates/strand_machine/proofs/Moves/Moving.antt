@@ -26,24 +26,24 @@ use Rattle.strand_moves.proofs.Cursors.Passing.{comes-has, comes-moved, comes-pa
 use Rattle.strand_moves.specs.declared.effects.LoopedChild.{LoopedChild}
 use Rattle.strand_moves.specs.declared.effects.SpawnedChild.{SpawnedChild}
 use Rattle.strand_moves.specs.declared.effects.MoveResult.{MoveResult}
-use Rattle.strand_moves.specs.declared.effects.MoveResult.TheVariants as moved-in
+use Rattle.strand_moves.specs.declared.effects.MoveResult.TheVariants as move_result-in
 use Rattle.strand_moves.specs.declared.effects.Effects.{Effects}
 use Rattle.strand_moves.specs.declared.effects.Effects.TheVariants as shown-in
 use Rattle.strand_machine.specs.Family.{FamilyView}
-use Rattle.strand_machine.specs.Parts.{awaited, destination_of}
+use Rattle.strand_machine.specs.AwaitedChildren.{awaited, destination_of}
 use Rattle.strand_machine.specs.Effects.{task_after_effects, HasSoundEffects}
 use Rattle.strand_machine.specs.Made.{IsRun, LeadsTo}
-use Rattle.strand_machine.specs.Stops.{IsStep, KeepsStep, step_of}
+use Rattle.strand_machine.specs.Stops.{IsStep, KeepsFamilyInStep, step_of}
 use Rattle.strand_machine.specs.Tasks.{TaskView, task_of, view_of, fresh, cut_of, AwaitsLast, RunsAt, IsSound, gone, waiting, with_child}
-use Rattle.strand_machine.specs.declared.body.Body.{Body}
+use Rattle.strand_machine.specs.declared.task_state.TaskState.{TaskState}
 use Rattle.strand_machine.specs.declared.destination.Destination.{Destination}
 use Rattle.strand_machine.specs.declared.destination.Destination.TheVariants as destination
 use Rattle.strand_machine.specs.declared.stop.MoveOrStop.{MoveOrStop as MadeStep}
 use Rattle.strand_machine.specs.declared.stop.MoveOrStop.TheVariants as step-in
 use Rattle.strand_machine.specs.declared.stop.Stop.TheVariants as stop-in
-use Rattle.strand_machine.specs.declared.work.InstanceState.TheVariants as stage
-use Rattle.strand_machine.specs.declared.work.Work.{Work}
-use Rattle.strand_machine.specs.declared.work.Work.TheVariants as work
+use Rattle.strand_machine.specs.declared.remaining.Stage.TheVariants as stage
+use Rattle.strand_machine.specs.declared.remaining.Remaining.{Remaining}
+use Rattle.strand_machine.specs.declared.remaining.Remaining.TheVariants as remaining
 use Rattle.strand_machine.proofs.NextStops.Advancing.{falls, leads-on, leads-over, leads-start}
 use Rattle.strand_machine.proofs.Moves.Dispatch.{awaits-more, pass-sound, pass-is, wait-sound, wait-is, go-went, go-gave, go-faulted, shown-sound}
 
@@ -75,12 +75,12 @@ awaits-emitted family trace e h = from trace.handed refl
 
 -- The body after an event
 
-abbrev pub with_trace : Body → Trace → Body
+abbrev pub with_trace : TaskState → Trace → TaskState
 with_trace b p = record b { trace = p }
 
-module _ (b : Body) (i : RawInstance) where
-  abbrev goes : Work
-  goes = work.Runs (stage.Running i)
+module _ (b : TaskState) (i : RawInstance) where
+  abbrev goes : Remaining
+  goes = remaining.Runs (stage.Running i)
 
   -- nothing, or where a scope begins or has ended
 
@@ -88,7 +88,7 @@ module _ (b : Body) (i : RawInstance) where
   IsQuiet s = (s ≡ shown-in.Nothing) ⊎ (((j : List ℕ) × s ≡ shown-in.Opened j) ⊎ ((j : List ℕ) × s ≡ shown-in.Closed j))
 
   pub nothing-sound : (s : Effects) → s ≡ shown-in.Nothing → HasSoundEffects b i s → IsSound (gone b) goes
-  nothing-sound s is h = let k : HasSoundEffects b i shown-in.Nothing = subst (HasSoundEffects b i) is h in record { task = k.task; family = k.family; works = k.runs }
+  nothing-sound s is h = let k : HasSoundEffects b i shown-in.Nothing = subst (HasSoundEffects b i) is h in record { task = k.task; family = k.family; of_plan = k.runs }
 
   pub nothing-step : (s : Effects) (r : MadeStep) → s ≡ shown-in.Nothing → r ≡ step-in.Passes (view_of (gone b) goes) →
       step_of r ≡ stops_at (child_in (effects_of s)) (task_after_effects b i s)
@@ -96,8 +96,8 @@ module _ (b : Body) (i : RawInstance) where
 
   pub quiet-sound : (s : Effects) → IsQuiet s → HasSoundEffects b i s → IsSound (gone b) goes
   quiet-sound s (inl is) h = nothing-sound s is h
-  quiet-sound s (inr (inl (j, is))) h = let k : HasSoundEffects b i (shown-in.Opened j) = subst (HasSoundEffects b i) is h in record { task = k.task; family = k.family; works = k.runs }
-  quiet-sound s (inr (inr (j, is))) h = let k : HasSoundEffects b i (shown-in.Closed j) = subst (HasSoundEffects b i) is h in record { task = k.task; family = k.family; works = k.runs }
+  quiet-sound s (inr (inl (j, is))) h = let k : HasSoundEffects b i (shown-in.Opened j) = subst (HasSoundEffects b i) is h in record { task = k.task; family = k.family; of_plan = k.runs }
+  quiet-sound s (inr (inr (j, is))) h = let k : HasSoundEffects b i (shown-in.Closed j) = subst (HasSoundEffects b i) is h in record { task = k.task; family = k.family; of_plan = k.runs }
 
   pub quiet-step : (s : Effects) (r : MadeStep) → IsQuiet s → r ≡ step-in.Passes (view_of (gone b) goes) → step_of r ≡ stops_at (child_in (effects_of s)) (task_after_effects b i s)
   quiet-step s r (inl is) h = nothing-step s r is h
@@ -107,7 +107,7 @@ module _ (b : Body) (i : RawInstance) where
   -- an event
 
   emitted-at : (e : Event) → HasSoundEffects b i (shown-in.Emitted e) → IsSound (gone (with_trace b (emit e b.trace))) goes
-  emitted-at e h = record { task = h.task; family = awaits-emitted b.family b.trace e h.family; works = h.runs }
+  emitted-at e h = record { task = h.task; family = awaits-emitted b.family b.trace e h.family; of_plan = h.runs }
 
   pub emitted-sound : (s : Effects) (e : Event) (p : Trace) → s ≡ shown-in.Emitted e → p ≡ emit e b.trace → HasSoundEffects b i s → IsSound (gone (with_trace b p)) goes
   emitted-sound s e p is q h = subst (λ (x : Trace). IsSound (gone (with_trace b x)) goes) (sym q) (emitted-at e (subst (HasSoundEffects b i) is h))
@@ -118,11 +118,11 @@ module _ (b : Body) (i : RawInstance) where
 
   -- a sync
 
-  abbrev at-sync : Work
-  at-sync = work.Runs (stage.AtSync i)
+  abbrev at-sync : Remaining
+  at-sync = remaining.Runs (stage.AtSync i)
 
   synced-at : (e : Event) → HasSoundEffects b i (shown-in.Synced e) → IsSound (gone (with_trace b (emit e b.trace))) at-sync
-  synced-at e h = record { task = h.task; family = awaits-emitted b.family b.trace e h.family; works = h.runs }
+  synced-at e h = record { task = h.task; family = awaits-emitted b.family b.trace e h.family; of_plan = h.runs }
 
   pub synced-sound : (s : Effects) (e : Event) (p : Trace) → s ≡ shown-in.Synced e → p ≡ emit e b.trace → HasSoundEffects b i s → IsSound (gone (with_trace b p)) at-sync
   synced-sound s e p is q h = subst (λ (x : Trace). IsSound (gone (with_trace b x)) at-sync) (sym q) (synced-at e (subst (HasSoundEffects b i) is h))
@@ -144,7 +144,7 @@ module _ (b : Body) (i : RawInstance) where
   spawned-at e o h = record {
     task = h.task;
     family = awaits-more b.family (emit e b.trace).handed (record { child = o.child.origin; destination = destination_of (destination.Spawned o.height o.target); after = [] }) (awaits-emitted b.family b.trace e h.family);
-    works = h.runs;
+    of_plan = h.runs;
   }
 
   pub spawned-sound : (s : Effects) (e : Event) (o : SpawnedChild) (p : Trace) → s ≡ shown-in.Spawned e o → p ≡ emit e b.trace → HasSoundEffects b i s →
@@ -159,8 +159,8 @@ module _ (b : Body) (i : RawInstance) where
 
   -- a loop
 
-  abbrev at-loop : Work
-  at-loop = work.Runs (stage.AtLoop i)
+  abbrev at-loop : Remaining
+  at-loop = remaining.Runs (stage.AtLoop i)
 
   pub looped-known : (s : Effects) (e : Event) (o : LoopedChild) → s ≡ shown-in.Looped e o → HasSoundEffects b i s → IsOriginOf b.family.plan o.child.origin
   looped-known s e o is h = let k : HasSoundEffects b i (shown-in.Looped e o) = subst (HasSoundEffects b i) is h in k.child
@@ -173,7 +173,7 @@ module _ (b : Body) (i : RawInstance) where
   looped-at e o h = record {
     task = h.task;
     family = awaits-more b.family (emit e b.trace).handed (record { child = o.child.origin; destination = destination_of (destination.Looped o.target); after = [] }) (awaits-emitted b.family b.trace e h.family);
-    works = h.runs;
+    of_plan = h.runs;
   }
 
   pub looped-sound : (s : Effects) (e : Event) (o : LoopedChild) (p : Trace) → s ≡ shown-in.Looped e o → p ≡ emit e b.trace → HasSoundEffects b i s →
@@ -188,102 +188,102 @@ module _ (b : Body) (i : RawInstance) where
 
 -- What the family keeps
 
-pub passes-keep : (b : Body) (p : Trace) (w next : Work) (r : MadeStep) → cut_of next ≡ None → r ≡ step-in.Passes (view_of (gone (with_trace b p)) next) → KeepsStep (view_of b w) r
+pub passes-keep : (b : TaskState) (p : Trace) (w next : Remaining) (r : MadeStep) → cut_of next ≡ None → r ≡ step-in.Passes (view_of (gone (with_trace b p)) next) → KeepsFamilyInStep (view_of b w) r
 passes-keep b p w next r none h = rw h (refl, refl, none)
 
-pub spawns-keep : (b : Body) (p : Trace) (w next : Work) (o : Origin) (at : Destination) (r : MadeStep) → cut_of next ≡ None →
-    r ≡ step-in.Stops (stop-in.Spawn (fresh b.family.plan o) (view_of (with_child (with_trace b p) o at) next)) → KeepsStep (view_of b w) r
+pub spawns-keep : (b : TaskState) (p : Trace) (w next : Remaining) (o : Origin) (at : Destination) (r : MadeStep) → cut_of next ≡ None →
+    r ≡ step-in.Stops (stop-in.Spawn (fresh b.family.plan o) (view_of (with_child (with_trace b p) o at) next)) → KeepsFamilyInStep (view_of b w) r
 spawns-keep b p w next o at r none h = rw h (refl, refl, refl, none)
 
-keeps-alike : (b : Body) (w other : Work) (r : MadeStep) → KeepsStep (view_of b w) r → KeepsStep (view_of b other) r
+keeps-alike : (b : TaskState) (w other : Remaining) (r : MadeStep) → KeepsFamilyInStep (view_of b w) r → KeepsFamilyInStep (view_of b other) r
 keeps-alike b w other (step-in.Passes next) h = h
 keeps-alike b w other (step-in.Stops (stop-in.Spawn child rest)) h = h
 keeps-alike b w other (step-in.Stops (stop-in.Wait rest)) h = h
 keeps-alike b w other (step-in.Stops (stop-in.Done answer give)) h = h
 
 -- The instance of a task that moves in a row have led to goes on.
-pub record IsOnRun (first : TaskView) (b : Body) (i : RawInstance) : Type 0 where
-  pub sound : IsSound b (work.Runs (stage.Running i))
-  pub leads : LeadsTo first (view_of b (work.Runs (stage.Running i)))
+pub record IsOnRun (first : TaskView) (b : TaskState) (i : RawInstance) : Type 0 where
+  pub sound : IsSound b (remaining.Runs (stage.Running i))
+  pub leads : LeadsTo first (view_of b (remaining.Runs (stage.Running i)))
 
 -- A move
 
-module _ (b : Body) (i next : RawInstance) (plan : PlanView) (m : MoveResult) (p : plan ≡ b.family.plan) (e : move plan (moves.path_of i) (moves.machine_of plan i) ≡ run_of m (moves.machine_of plan next)) (h : IsSound b (work.Runs (stage.Running i))) where
+module _ (b : TaskState) (i next : RawInstance) (plan : PlanView) (m : MoveResult) (p : plan ≡ b.family.plan) (e : move plan (moves.path_of i) (moves.machine_of plan i) ≡ run_of m (moves.machine_of plan next)) (h : IsSound b (remaining.Runs (stage.Running i))) where
   pub runs-on : moves.path_of next ≡ moves.path_of i → moves.IsInstance plan next → RunsAt b.family.plan (path_of (own_instance b.family.origin)) next
-  runs-on path sound = record { sound = subst (λ (q : PlanView). moves.IsInstance q next) p sound; at = path ∙ h.works.at }
+  runs-on path sound = record { sound = subst (λ (q : PlanView). moves.IsInstance q next) p sound; at = path ∙ h.of_plan.at }
 
   moves-so : (n : MoveResult) → m ≡ n → move b.family.plan (moves.path_of i) (moves.machine_of b.family.plan i) ≡ run_of n (moves.machine_of b.family.plan next)
   moves-so n is =
       subst (λ (q : PlanView). move q (moves.path_of i) (moves.machine_of q i) ≡ run_of n (moves.machine_of q next)) p
       (e ∙ ap (λ (x : MoveResult). run_of x (moves.machine_of plan next)) is)
 
-  pub went-sound : StepsAreSound → (s : Effects) → m ≡ moved-in.Went s → moves.path_of next ≡ moves.path_of i → moves.IsInstance plan next → MovesTrail plan m → HasSoundEffects b next s
+  pub went-sound : StepsAreSound → (s : Effects) → m ≡ move_result-in.Went s → moves.path_of next ≡ moves.path_of i → moves.IsInstance plan next → MovesTrail plan m → HasSoundEffects b next s
   went-sound law s is path sound trail =
-      shown-sound b i law next s h (moves-so (moved-in.Went s) is) (runs-on path sound)
+      shown-sound b i law next s h (moves-so (move_result-in.Went s) is) (runs-on path sound)
       (subst (λ (q : PlanView). ShowsTrail q s) p (subst (MovesTrail plan) is trail))
 
-  pub gave-sound : StepsAreSound → (v : Value) → m ≡ moved-in.Returned v → IsSound (gone b) (work.Runs (stage.Returned v))
-  gave-sound law v is = pass-sound law b (work.Runs (stage.Running i)) (work.Runs (stage.Returned v)) h (go-gave b i next v h.works (moves-so (moved-in.Returned v) is)) tt
+  pub gave-sound : StepsAreSound → (v : Value) → m ≡ move_result-in.Returned v → IsSound (gone b) (remaining.Runs (stage.Returned v))
+  gave-sound law v is = pass-sound law b (remaining.Runs (stage.Running i)) (remaining.Runs (stage.Returned v)) h (go-gave b i next v h.of_plan (moves-so (move_result-in.Returned v) is)) tt
 
-  pub gave-is : (v : Value) (r : MadeStep) → m ≡ moved-in.Returned v → r ≡ step-in.Passes (view_of (gone b) (work.Runs (stage.Returned v))) → IsStep (view_of b (work.Runs (stage.Running i))) r
-  gave-is v r is = pass-is b (work.Runs (stage.Running i)) (work.Runs (stage.Returned v)) r tt (go-gave b i next v h.works (moves-so (moved-in.Returned v) is))
+  pub gave-is : (v : Value) (r : MadeStep) → m ≡ move_result-in.Returned v → r ≡ step-in.Passes (view_of (gone b) (remaining.Runs (stage.Returned v))) → IsStep (view_of b (remaining.Runs (stage.Running i))) r
+  gave-is v r is = pass-is b (remaining.Runs (stage.Running i)) (remaining.Runs (stage.Returned v)) r tt (go-gave b i next v h.of_plan (moves-so (move_result-in.Returned v) is))
 
-  pub faulted-sound : StepsAreSound → (f : Fault) → m ≡ moved-in.Faulted f → IsSound (gone b) (work.Runs (stage.Faulted f))
-  faulted-sound law f is = pass-sound law b (work.Runs (stage.Running i)) (work.Runs (stage.Faulted f)) h (go-faulted b i next f h.works (moves-so (moved-in.Faulted f) is)) tt
+  pub faulted-sound : StepsAreSound → (f : Fault) → m ≡ move_result-in.Faulted f → IsSound (gone b) (remaining.Runs (stage.Faulted f))
+  faulted-sound law f is = pass-sound law b (remaining.Runs (stage.Running i)) (remaining.Runs (stage.Faulted f)) h (go-faulted b i next f h.of_plan (moves-so (move_result-in.Faulted f) is)) tt
 
-  pub faulted-is : (f : Fault) (r : MadeStep) → m ≡ moved-in.Faulted f → r ≡ step-in.Passes (view_of (gone b) (work.Runs (stage.Faulted f))) → IsStep (view_of b (work.Runs (stage.Running i))) r
-  faulted-is f r is = pass-is b (work.Runs (stage.Running i)) (work.Runs (stage.Faulted f)) r tt (go-faulted b i next f h.works (moves-so (moved-in.Faulted f) is))
+  pub faulted-is : (f : Fault) (r : MadeStep) → m ≡ move_result-in.Faulted f → r ≡ step-in.Passes (view_of (gone b) (remaining.Runs (stage.Faulted f))) → IsStep (view_of b (remaining.Runs (stage.Running i))) r
+  faulted-is f r is = pass-is b (remaining.Runs (stage.Running i)) (remaining.Runs (stage.Faulted f)) r tt (go-faulted b i next f h.of_plan (moves-so (move_result-in.Faulted f) is))
 
-  went-one : (s : Effects) (r : MadeStep) → m ≡ moved-in.Went s → step_of r ≡ stops_at (child_in (effects_of s)) (task_after_effects b next s) → KeepsStep (view_of b (work.Runs (stage.Running next))) r →
-      IsStep (view_of b (work.Runs (stage.Running i))) r
-  went-one s r is g k = record { is = go-went b i next s h.works (moves-so (moved-in.Went s) is) ∙ sym g; keeps = keeps-alike b (work.Runs (stage.Running next)) (work.Runs (stage.Running i)) r k }
+  went-one : (s : Effects) (r : MadeStep) → m ≡ move_result-in.Went s → step_of r ≡ stops_at (child_in (effects_of s)) (task_after_effects b next s) → KeepsFamilyInStep (view_of b (remaining.Runs (stage.Running next))) r →
+      IsStep (view_of b (remaining.Runs (stage.Running i))) r
+  went-one s r is g k = record { is = go-went b i next s h.of_plan (moves-so (move_result-in.Went s) is) ∙ sym g; keeps = keeps-alike b (remaining.Runs (stage.Running next)) (remaining.Runs (stage.Running i)) r k }
 
-  pub went-is : {X E : Type 0} (f : X → MadeStep) (s : Effects) (r : Result X E) → m ≡ moved-in.Went s → IfOk r (λ x. step_of (f x) ≡ stops_at (child_in (effects_of s)) (task_after_effects b next s)) →
-      IfOk r (λ x. KeepsStep (view_of b (work.Runs (stage.Running next))) (f x)) → IfOk r (λ x. IsStep (view_of b (work.Runs (stage.Running i))) (f x))
+  pub went-is : {X E : Type 0} (f : X → MadeStep) (s : Effects) (r : Result X E) → m ≡ move_result-in.Went s → IfOk r (λ x. step_of (f x) ≡ stops_at (child_in (effects_of s)) (task_after_effects b next s)) →
+      IfOk r (λ x. KeepsFamilyInStep (view_of b (remaining.Runs (stage.Running next))) (f x)) → IfOk r (λ x. IsStep (view_of b (remaining.Runs (stage.Running i))) (f x))
   went-is f s (Ok x) is g k = went-one s (f x) is g k
   went-is f s (Err x) is g k = tt
 
   -- one that shows nothing, or an event alone: the instance goes on
 
-  still-is : (s : Effects) → m ≡ moved-in.Went s → s ≡ shown-in.Nothing → IsStep (view_of b (work.Runs (stage.Running i))) (step-in.Passes (view_of (gone b) (work.Runs (stage.Running next))))
+  still-is : (s : Effects) → m ≡ move_result-in.Went s → s ≡ shown-in.Nothing → IsStep (view_of b (remaining.Runs (stage.Running i))) (step-in.Passes (view_of (gone b) (remaining.Runs (stage.Running next))))
   still-is s is shows = went-one s _ is (nothing-step b next s _ shows refl) (refl, refl, refl)
 
-  pub still-on : StepsAreSound → MovesFall → (first : TaskView) → LeadsTo first (view_of b (work.Runs (stage.Running i))) → (s : Effects) → m ≡ moved-in.Went s → s ≡ shown-in.Nothing →
+  pub still-on : StepsAreSound → MovesFall → (first : TaskView) → LeadsTo first (view_of b (remaining.Runs (stage.Running i))) → (s : Effects) → m ≡ move_result-in.Went s → s ≡ shown-in.Nothing →
       moves.path_of next ≡ moves.path_of i → moves.IsInstance plan next → MovesTrail plan m → IsOnRun first (gone b) next
   still-on law fall first leads s is shows path sound trail = record {
     sound = nothing-sound b next s shows (went-sound law s is path sound trail);
     leads = leads-on fall first _ _ _ leads (still-is s is shows) refl;
   }
 
-  pub still-falls : MovesFall → (s : Effects) → m ≡ moved-in.Went s → s ≡ shown-in.Nothing → moves_left (task_of (gone b) (work.Runs (stage.Running next))) < moves_left (task_of b (work.Runs (stage.Running i)))
-  still-falls fall s is shows = falls fall (view_of b (work.Runs (stage.Running i))) (view_of (gone b) (work.Runs (stage.Running next))) _ (still-is s is shows) refl
+  pub still-falls : MovesFall → (s : Effects) → m ≡ move_result-in.Went s → s ≡ shown-in.Nothing → moves_left (task_of (gone b) (remaining.Runs (stage.Running next))) < moves_left (task_of b (remaining.Runs (stage.Running i)))
+  still-falls fall s is shows = falls fall (view_of b (remaining.Runs (stage.Running i))) (view_of (gone b) (remaining.Runs (stage.Running next))) _ (still-is s is shows) refl
 
-  tells-is : (s : Effects) (t : Event) (q : Trace) → m ≡ moved-in.Went s → s ≡ shown-in.Emitted t → q ≡ emit t b.trace →
-      IsStep (view_of b (work.Runs (stage.Running i))) (step-in.Passes (view_of (gone (with_trace b q)) (work.Runs (stage.Running next))))
+  tells-is : (s : Effects) (t : Event) (q : Trace) → m ≡ move_result-in.Went s → s ≡ shown-in.Emitted t → q ≡ emit t b.trace →
+      IsStep (view_of b (remaining.Runs (stage.Running i))) (step-in.Passes (view_of (gone (with_trace b q)) (remaining.Runs (stage.Running next))))
   tells-is s t q is shows g = went-one s _ is (emitted-step b next s t q _ shows g refl) (refl, refl, refl)
 
-  pub tells-on : StepsAreSound → MovesFall → (first : TaskView) → LeadsTo first (view_of b (work.Runs (stage.Running i))) → (s : Effects) (t : Event) (q : Trace) → m ≡ moved-in.Went s → s ≡ shown-in.Emitted t → q ≡ emit t b.trace →
+  pub tells-on : StepsAreSound → MovesFall → (first : TaskView) → LeadsTo first (view_of b (remaining.Runs (stage.Running i))) → (s : Effects) (t : Event) (q : Trace) → m ≡ move_result-in.Went s → s ≡ shown-in.Emitted t → q ≡ emit t b.trace →
       moves.path_of next ≡ moves.path_of i → moves.IsInstance plan next → MovesTrail plan m → IsOnRun first (gone (with_trace b q)) next
   tells-on law fall first leads s t q is shows g path sound trail = record {
     sound = emitted-sound b next s t q shows g (went-sound law s is path sound trail);
     leads = leads-on fall first _ _ _ leads (tells-is s t q is shows g) refl;
   }
 
-  pub tells-falls : MovesFall → (s : Effects) (t : Event) (q : Trace) → m ≡ moved-in.Went s → s ≡ shown-in.Emitted t → q ≡ emit t b.trace →
-      moves_left (task_of (gone (with_trace b q)) (work.Runs (stage.Running next))) < moves_left (task_of b (work.Runs (stage.Running i)))
-  tells-falls fall s t q is shows g = falls fall (view_of b (work.Runs (stage.Running i))) (view_of (gone (with_trace b q)) (work.Runs (stage.Running next))) _ (tells-is s t q is shows g) refl
+  pub tells-falls : MovesFall → (s : Effects) (t : Event) (q : Trace) → m ≡ move_result-in.Went s → s ≡ shown-in.Emitted t → q ≡ emit t b.trace →
+      moves_left (task_of (gone (with_trace b q)) (remaining.Runs (stage.Running next))) < moves_left (task_of b (remaining.Runs (stage.Running i)))
+  tells-falls fall s t q is shows g = falls fall (view_of b (remaining.Runs (stage.Running i))) (view_of (gone (with_trace b q)) (remaining.Runs (stage.Running next))) _ (tells-is s t q is shows g) refl
 
   -- one that ends the moves in a row: a wait at a sync, a value, a fault
 
-  abbrev syncs : Work
-  syncs = work.Runs (stage.AtSync next)
+  abbrev syncs : Remaining
+  syncs = remaining.Runs (stage.AtSync next)
 
-  pub syncs-sound : StepsAreSound → (s : Effects) (t : Event) (q : Trace) → m ≡ moved-in.Went s → s ≡ shown-in.Synced t → q ≡ emit t b.trace →
+  pub syncs-sound : StepsAreSound → (s : Effects) (t : Event) (q : Trace) → m ≡ move_result-in.Went s → s ≡ shown-in.Synced t → q ≡ emit t b.trace →
       moves.path_of next ≡ moves.path_of i → moves.IsInstance plan next → MovesTrail plan m → IsSound (waiting (gone (with_trace b q))) syncs
   syncs-sound law s t q is shows g path sound trail =
-      let k = synced-sound b next s t q shows g (went-sound law s is path sound trail) in wait-sound law (gone (with_trace b q)) syncs syncs k refl k.works
+      let k = synced-sound b next s t q shows g (went-sound law s is path sound trail) in wait-sound law (gone (with_trace b q)) syncs syncs k refl k.of_plan
 
-  pub syncs-run : MovesFall → (first : TaskView) → LeadsTo first (view_of b (work.Runs (stage.Running i))) → (s : Effects) (t : Event) (q : Trace) → m ≡ moved-in.Went s → s ≡ shown-in.Synced t → q ≡ emit t b.trace →
+  pub syncs-run : MovesFall → (first : TaskView) → LeadsTo first (view_of b (remaining.Runs (stage.Running i))) → (s : Effects) (t : Event) (q : Trace) → m ≡ move_result-in.Went s → s ≡ shown-in.Synced t → q ≡ emit t b.trace →
       RunsAt b.family.plan (path_of (own_instance b.family.origin)) next → (r : MadeStep) → r ≡ step-in.Stops (stop-in.Wait (view_of (waiting (gone (with_trace b q))) syncs)) → IsRun first r
   syncs-run fall first leads s t q is shows g at r e = record {
     before = view_of (gone (with_trace b q)) syncs;
@@ -291,29 +291,29 @@ module _ (b : Body) (i next : RawInstance) (plan : PlanView) (m : MoveResult) (p
     step = wait-is (gone (with_trace b q)) syncs syncs r at refl e;
   }
 
-  pub gives-run : MovesFall → (first : TaskView) → LeadsTo first (view_of b (work.Runs (stage.Running i))) → (v : Value) → m ≡ moved-in.Returned v →
-      (r : MadeStep) → IsStep (view_of (gone b) (work.Runs (stage.Returned v))) r → IsRun first r
+  pub gives-run : MovesFall → (first : TaskView) → LeadsTo first (view_of b (remaining.Runs (stage.Running i))) → (v : Value) → m ≡ move_result-in.Returned v →
+      (r : MadeStep) → IsStep (view_of (gone b) (remaining.Runs (stage.Returned v))) r → IsRun first r
   gives-run fall first leads v is r e = record {
-    before = view_of (gone b) (work.Runs (stage.Returned v));
-    leads = leads-on fall first _ _ _ leads (gave-is v (step-in.Passes (view_of (gone b) (work.Runs (stage.Returned v)))) is refl) refl;
+    before = view_of (gone b) (remaining.Runs (stage.Returned v));
+    leads = leads-on fall first _ _ _ leads (gave-is v (step-in.Passes (view_of (gone b) (remaining.Runs (stage.Returned v)))) is refl) refl;
     step = e;
   }
 
-  pub faults-run : MovesFall → (first : TaskView) → LeadsTo first (view_of b (work.Runs (stage.Running i))) → (f : Fault) → m ≡ moved-in.Faulted f →
-      (r : MadeStep) → IsStep (view_of (gone b) (work.Runs (stage.Faulted f))) r → IsRun first r
+  pub faults-run : MovesFall → (first : TaskView) → LeadsTo first (view_of b (remaining.Runs (stage.Running i))) → (f : Fault) → m ≡ move_result-in.Faulted f →
+      (r : MadeStep) → IsStep (view_of (gone b) (remaining.Runs (stage.Faulted f))) r → IsRun first r
   faults-run fall first leads f is r e = record {
-    before = view_of (gone b) (work.Runs (stage.Faulted f));
-    leads = leads-on fall first _ _ _ leads (faulted-is f (step-in.Passes (view_of (gone b) (work.Runs (stage.Faulted f)))) is refl) refl;
+    before = view_of (gone b) (remaining.Runs (stage.Faulted f));
+    leads = leads-on fall first _ _ _ leads (faulted-is f (step-in.Passes (view_of (gone b) (remaining.Runs (stage.Faulted f)))) is refl) refl;
     step = e;
   }
 
 -- Moves in a row
 
-module _ (first : TaskView) (b : Body) (i : RawInstance) (h : IsOnRun first b i) where
-  run-is : (r : MadeStep) → IsStep (view_of b (work.Runs (stage.Running i))) r → IsRun first r
-  run-is r k = record { before = view_of b (work.Runs (stage.Running i)); leads = h.leads; step = k }
+module _ (first : TaskView) (b : TaskState) (i : RawInstance) (h : IsOnRun first b i) where
+  run-is : (r : MadeStep) → IsStep (view_of b (remaining.Runs (stage.Running i))) r → IsRun first r
+  run-is r k = record { before = view_of b (remaining.Runs (stage.Running i)); leads = h.leads; step = k }
 
-  pub run-is-ok : {X E : Type 0} (f : X → MadeStep) (r : Result X E) → IfOk r (λ x. IsStep (view_of b (work.Runs (stage.Running i))) (f x)) → IfOk r (λ x. IsRun first (f x))
+  pub run-is-ok : {X E : Type 0} (f : X → MadeStep) (r : Result X E) → IfOk r (λ x. IsStep (view_of b (remaining.Runs (stage.Running i))) (f x)) → IfOk r (λ x. IsRun first (f x))
   run-is-ok f (Ok x) k = run-is (f x) k
   run-is-ok f (Err x) k = tt
 
@@ -323,7 +323,7 @@ module _ (first : TaskView) (b : Body) (i : RawInstance) (h : IsOnRun first b i)
 abbrev pub holding : RawInstance → InstanceParts → RawInstance
 holding i r = record i { parts = record i.parts { value = r } }
 
-moved-gone : (t : meaning.Task) (effects : List Effect) (ending : Result Reached Fault) → meaning.moved t effects ending ≡ meaning.moved (record t { advanced = true }) effects ending
+moved-gone : (t : meaning.Task) (effects : List Effect) (ending : Result Reached Fault) → meaning.step_result t effects ending ≡ meaning.step_result (record t { advanced = true }) effects ending
 moved-gone t effects (Ok (Stands m)) = refl
 moved-gone t effects (Ok (Gives v)) = refl
 moved-gone t effects (Err f) = refl
@@ -333,9 +333,9 @@ next-alike : (t other : meaning.Task) (stop : meaning.Stop) → meaning.step t �
 next-alike t other stop same (Now e) = Now (same ∙ e)
 next-alike t other stop same (Later next e n) = Later next (same ∙ e) n
 
-module _ (b : Body) (i : RawInstance) where
+module _ (b : TaskState) (i : RawInstance) where
   abbrev on_task : meaning.Task
-  on_task = task_of b (work.Runs (stage.Running i))
+  on_task = task_of b (remaining.Runs (stage.Running i))
 
   step-gone : meaning.step on_task ≡ meaning.step (record on_task { advanced = true })
   step-gone = let r = move b.family.plan (path_of (own_instance b.family.origin)) (moves.machine_of b.family.plan i) in moved-gone on_task r.items r.ending
@@ -347,9 +347,9 @@ module _ (b : Body) (i : RawInstance) where
       let l = h.leads in
       record {
         sound = record {
-          task = record { finishes = t.finishes; known = t.known; clear = t.clear; parts = t.parts; shown = t.shown; work = t.work; pending = t.pending; found = t.found };
+          task = record { finishes = t.finishes; known = t.known; clear = t.clear; awaiting = t.awaiting; shown = t.shown; remaining = t.remaining; pending = t.pending; found = t.found };
           family = h.sound.family;
-          works = h.sound.works;
+          of_plan = h.sound.of_plan;
         };
         leads = record {
           next = λ stop n. l.next stop (next-alike on_task (record on_task { advanced = true }) stop step-gone n);
@@ -365,38 +365,38 @@ module _ (b : Body) (i : RawInstance) where
 abbrev after : Event → Trace → Trace
 after e trace = emit e trace
 
-module _ (law : StepsAreSound) (fall : MovesFall) (plan : PlanView) (first : TaskView) (b : Body) (i : RawInstance) (p : plan ≡ b.family.plan) (h : IsOnRun first (gone b) i) where
+module _ (law : StepsAreSound) (fall : MovesFall) (plan : PlanView) (first : TaskView) (b : TaskState) (i : RawInstance) (p : plan ≡ b.family.plan) (h : IsOnRun first (gone b) i) where
   row-on : (now : InstanceParts) (trace : Trace) → Row after plan i.parts.value b.trace now trace → IsOnRun first (gone (with_trace b trace)) (holding i now)
   row-on now trace (Still _ _ e q) =
       subst (λ (x : Trace). IsOnRun first (gone (with_trace b x)) (holding i now)) (sym q) (subst (λ (r : InstanceParts). IsOnRun first (gone b) (holding i r)) (sym e) h)
   row-on now trace (More before _ _ row e path sound) =
       let k = row-on before trace row in
-      still-on (gone (with_trace b trace)) (holding i before) (holding i now) plan (moved-in.Went shown-in.Nothing) p e k.sound law fall first k.leads shown-in.Nothing refl refl path sound tt
-  row-on now trace (Emits before _ heard _ t row e q path sound) =
-      let k = row-on before heard row in
-      tells-on (gone (with_trace b heard)) (holding i before) (holding i now) plan (moved-in.Went (shown-in.Emitted t)) p e k.sound law fall first k.leads (shown-in.Emitted t) t trace refl refl q path sound tt
+      still-on (gone (with_trace b trace)) (holding i before) (holding i now) plan (move_result-in.Went shown-in.Nothing) p e k.sound law fall first k.leads shown-in.Nothing refl refl path sound tt
+  row-on now trace (Emits before _ merging _ t row e q path sound) =
+      let k = row-on before merging row in
+      tells-on (gone (with_trace b merging)) (holding i before) (holding i now) plan (move_result-in.Went (shown-in.Emitted t)) p e k.sound law fall first k.leads (shown-in.Emitted t) t trace refl refl q path sound tt
 
 -- where the moves in a row came to, before the last one
-pub row-run : StepsAreSound → MovesFall → (plan : PlanView) (b : Body) (i : RawInstance) → plan ≡ b.family.plan → IsSound b (work.Runs (stage.Running i)) → (now : InstanceParts) (trace : Trace) → Row after plan i.parts.value b.trace now trace →
-    IsOnRun (view_of b (work.Runs (stage.Running i))) (gone (with_trace b trace)) (holding i now)
+pub row-run : StepsAreSound → MovesFall → (plan : PlanView) (b : TaskState) (i : RawInstance) → plan ≡ b.family.plan → IsSound b (remaining.Runs (stage.Running i)) → (now : InstanceParts) (trace : Trace) → Row after plan i.parts.value b.trace now trace →
+    IsOnRun (view_of b (remaining.Runs (stage.Running i))) (gone (with_trace b trace)) (holding i now)
 row-run law fall plan b i p sound now trace row =
-    let first = view_of b (work.Runs (stage.Running i)) in
+    let first = view_of b (remaining.Runs (stage.Running i)) in
     row-on law fall plan first b i p (gone-run b i first (record { sound = sound; leads = leads-start first refl })) now trace row
 
-pub on-run-over : (first : TaskView) (b c : Body) (i j : RawInstance) → IsOnRun first b i → IsOnRun (view_of b (work.Runs (stage.Running i))) c j → IsOnRun first c j
+pub on-run-over : (first : TaskView) (b c : TaskState) (i j : RawInstance) → IsOnRun first b i → IsOnRun (view_of b (remaining.Runs (stage.Running i))) c j → IsOnRun first c j
 on-run-over first b c i j h k = record { sound = k.sound; leads = leads-over first _ _ h.leads k.leads }
 
 -- A move of an instance to which moves in a row have led. This much was left before them.
-pub record IsLast (first : TaskView) (b : Body) (left : ℕ) (plan : PlanView) (m : MoveResult) (new : RawInstance) : Type 0 where
+pub record IsLast (first : TaskView) (b : TaskState) (left : ℕ) (plan : PlanView) (m : MoveResult) (new : RawInstance) : Type 0 where
   pub before : RawInstance
   pub runs : IsOnRun first b before
-  pub fewer : moves_left (task_of b (work.Runs (stage.Running before))) ≤ left
+  pub fewer : moves_left (task_of b (remaining.Runs (stage.Running before))) ≤ left
   pub last : move plan (moves.path_of before) (moves.machine_of plan before) ≡ run_of m (moves.machine_of plan new)
   pub path : moves.path_of new ≡ moves.path_of before
   pub sound : moves.IsInstance plan new
 
 -- The instance to which moves in a row came, which a spawn may have looked at since, and one move more of it.
-module _ (law : StepsAreSound) (fall : MovesFall) (plan : PlanView) (first : TaskView) (b : Body) (i : RawInstance) (p : plan ≡ b.family.plan) (h : IsOnRun first b i) (now : RawInstance) (sent : Trace) (next : Option Stmt) (came : moves.ComesToStatement after plan i b.trace now sent next) (from : RawInstance) (same : from.parts.value ≡ now.parts.value) where
+module _ (law : StepsAreSound) (fall : MovesFall) (plan : PlanView) (first : TaskView) (b : TaskState) (i : RawInstance) (p : plan ≡ b.family.plan) (h : IsOnRun first b i) (now : RawInstance) (sent : Trace) (next : Option Stmt) (came : moves.ComesToStatement after plan i b.trace now sent next) (from : RawInstance) (same : from.parts.value ≡ now.parts.value) where
   pub came-sound : moves.IsInstance plan from
   came-sound = subst (λ (r : InstanceParts). instance_parts.IsInstance plan r) (sym same) (comes-sound after plan i.parts.value b.trace now.parts.value sent next came)
 
@@ -406,7 +406,7 @@ module _ (law : StepsAreSound) (fall : MovesFall) (plan : PlanView) (first : Tas
       (subst (λ (r : InstanceParts). rows.HasPassedStatement plan r next) (sym same) (comes-has after plan i.parts.value b.trace now.parts.value sent next came))
 
   pub one-more : (at : Option Stmt) → next ≡ at → (new : RawInstance) (m : MoveResult) → move plan (moves.path_of from) (moves.unpassed plan from at) ≡ run_of m (moves.machine_of plan new) → moves.path_of new ≡ moves.path_of from → moves.IsInstance plan new →
-      IsLast first (gone (with_trace b sent)) (moves_left (task_of b (work.Runs (stage.Running i)))) plan m new
+      IsLast first (gone (with_trace b sent)) (moves_left (task_of b (remaining.Runs (stage.Running i)))) plan m new
   one-more at is new m e path sound =
       let k : move plan (instance_parts.path_of now.parts.value) (rows.unpassed plan now.parts.value next) ≡ run_of m (moves.machine_of plan new) =
       subst (λ (o : Option Stmt). move plan (instance_parts.path_of now.parts.value) (rows.unpassed plan now.parts.value o) ≡ run_of m (moves.machine_of plan new)) (sym is)
@@ -418,6 +418,6 @@ module _ (law : StepsAreSound) (fall : MovesFall) (plan : PlanView) (first : Tas
         runs = on-run-over first b (gone (with_trace b sent)) i (holding i r.before) h q;
         fewer = q.leads.fewer;
         last = r.last;
-        path = path ∙ ap (λ (r : InstanceParts). instance_parts.path_of r) same ∙ comes-path after plan i.parts.value b.trace now.parts.value sent next came ∙ h.sound.works.at ∙ sym q.sound.works.at;
+        path = path ∙ ap (λ (r : InstanceParts). instance_parts.path_of r) same ∙ comes-path after plan i.parts.value b.trace now.parts.value sent next came ∙ h.sound.of_plan.at ∙ sym q.sound.of_plan.at;
         sound = sound;
       }

@@ -13,21 +13,21 @@ use Rattle.serial_meaning.specs.declared.event.Fault.{Fault}
 use Rattle.serial_meaning.specs.declared.origin.Origin.{Origin}
 use Rattle.serial_meaning.specs.declared.origin.Origin.TheVariants.{Instance, Loop}
 use Rattle.serial_meaning.specs.declared.answer.Outcome.{Outcome}
-use Rattle.strand_meaning.specs.Laws.{IsOf, IsSoundStop, MovesFall, StopsAreSound}
+use Rattle.strand_meaning.specs.Laws.{IsSameTask, IsSoundStop, MovesFall, StopsAreSound}
 use Rattle.strand_meaning.specs.Left.{moves_left}
 use Rattle.strand_meaning.specs.Machine.{Effect, Reached, Stands, Gives, move}
 use Rattle.strand_meaning.specs.Trace.{AwaitedChild}
 use Rattle.strand_meaning.specs.Sound.{IsTask}
 use Rattle.strand_meaning.specs.Task as meaning
-use Rattle.strand_meaning.specs.Task.{Task, Stop, IsNext, Now, Later, own_instance, stage_after, child_in, stops_at, passing, moved, ends_unless, faults_after, gave, stage_step, split_step, over_step, work_step}
+use Rattle.strand_meaning.specs.Task.{Task, Stop, IsNext, Now, Later, own_instance, stage_after, child_in, stops_at, passing, step_result, ends_unless, faults_after, returned, stage_step, split_step, over_step, remaining_step}
 use Rattle.strand_machine.specs.Family.{tag}
-use Rattle.strand_machine.specs.Made.{IsRun, LeadsTo, GoesOn, stage_goes_on, work_goes_on}
-use Rattle.strand_machine.specs.Stops.{IsStep, IsStop, IsKnownStop, Advances, Keeps, stop_of}
+use Rattle.strand_machine.specs.Made.{IsRun, LeadsTo, StepsOn, stage_goes_on, remaining_goes_on}
+use Rattle.strand_machine.specs.Stops.{IsStep, IsStop, IsKnownStop, Advances, KeepsFamily, stop_of}
 use Rattle.strand_machine.proofs.NextStops.ByCut.{advances-so}
-use Rattle.strand_machine.specs.Tasks.{TaskView, Holds, IsCutShort, IsSound, fresh, is_cut_short, cut_of, view_of}
-use Rattle.strand_machine.specs.declared.body.Body.{Body}
-use Rattle.strand_machine.specs.declared.work.Work.{Work}
-use Rattle.strand_machine.specs.declared.work.Work.TheVariants as work
+use Rattle.strand_machine.specs.Tasks.{TaskView, HoldsOfTask, IsCutShort, IsSound, fresh, is_cut_short, cut_of, view_of}
+use Rattle.strand_machine.specs.declared.task_state.TaskState.{TaskState}
+use Rattle.strand_machine.specs.declared.remaining.Remaining.{Remaining}
+use Rattle.strand_machine.specs.declared.remaining.Remaining.TheVariants as remaining
 use Rattle.strand_machine.specs.declared.stop.MoveOrStop.{MoveOrStop as MadeStep}
 use Rattle.strand_machine.specs.declared.stop.MoveOrStop.TheVariants as step-in
 use Rattle.strand_machine.specs.declared.stop.Stop.{Stop as MadeStop}
@@ -36,7 +36,7 @@ use Rattle.strand_machine.specs.declared.stop.Stop.TheVariants as stop-in
 -- A pass keeps the plan and the origin
 
 abbrev KeepsOf : Task → meaning.MoveOrStop → Type 0
-KeepsOf t (meaning.Passes next) = IsOf t next
+KeepsOf t (meaning.Passes next) = IsSameTask t next
 KeepsOf t (meaning.Stops stop) = Unit {0}
 
 module _ (t : Task) where
@@ -44,11 +44,11 @@ module _ (t : Task) where
   of-ends None ended = tt
   of-ends (Some f) ended = tt
 
-  of-at : (o : Option Origin) (next : Task) → IsOf t next → KeepsOf t (stops_at o next)
+  of-at : (o : Option Origin) (next : Task) → IsSameTask t next → KeepsOf t (stops_at o next)
   of-at None next h = h
   of-at (Some o) next h = tt
 
-  of-moved : (ts : List Effect) (e : Result Reached Fault) → KeepsOf t (moved t ts e)
+  of-moved : (ts : List Effect) (e : Result Reached Fault) → KeepsOf t (step_result t ts e)
   of-moved ts (Ok (Stands m)) = of-at (child_in ts) (passing t ts (meaning.Runs (stage_after ts m))) (refl, refl)
   of-moved ts (Ok (Gives v)) = (refl, refl)
   of-moved ts (Err f) = (refl, refl)
@@ -57,11 +57,11 @@ module _ (t : Task) where
   of-faults [] f = of-ends t.trace.fault _
   of-faults (p ∷ ps) f = tt
 
-  of-gave : (o : Origin) (v : Value) → KeepsOf t (gave t o v)
+  of-gave : (o : Origin) (v : Value) → KeepsOf t (returned t o v)
   of-gave (Instance function args path) v = of-ends t.trace.fault _
   of-gave (Loop function rest first path range) v = (refl, refl)
 
-  of-stage : (stage : meaning.InstanceState) → KeepsOf t (stage_step t stage)
+  of-stage : (stage : meaning.Stage) → KeepsOf t (stage_step t stage)
   of-stage (meaning.Running m) = let r = move t.plan (path_of (own_instance t.origin)) m in of-moved r.items r.ending
   of-stage (meaning.AtSync m) = tt
   of-stage (meaning.AtLoop m) = tt
@@ -83,14 +83,14 @@ module _ (t : Task) where
       by_size (suc zero) g = rw g (of-ends t.trace.fault _)
       by_size (suc (suc n)) g = rw g tt
 
-  of-work : (work : meaning.Work) → KeepsOf t (work_step t work)
-  of-work (meaning.Splits left) = of-split left (left.hi - left.lo)
-  of-work (meaning.Runs stage) = of-stage stage
-  of-work (meaning.Finished v true) = of-ends t.trace.fault _
-  of-work (meaning.Finished v false) = of-over v t.origin
+  of-remaining : (remaining : meaning.Remaining) → KeepsOf t (remaining_step t remaining)
+  of-remaining (meaning.Splits left) = of-split left (left.hi - left.lo)
+  of-remaining (meaning.Runs stage) = of-stage stage
+  of-remaining (meaning.Finished v true) = of-ends t.trace.fault _
+  of-remaining (meaning.Finished v false) = of-over v t.origin
 
-pass-of : (t next : Task) → meaning.step t ≡ meaning.Passes next → IsOf t next
-pass-of t next e = subst (KeepsOf t) e (of-work t t.work)
+pass-of : (t next : Task) → meaning.step t ≡ meaning.Passes next → IsSameTask t next
+pass-of t next e = subst (KeepsOf t) e (of-remaining t t.remaining)
 
 -- Moves in a row
 
@@ -128,7 +128,7 @@ leads-on law first now next s h g e =
       cut = k.keeps.2;
     }
 
-keeps-first : (first now : TaskView) (stop : MadeStop) → LeadsTo first now → Keeps now stop → Keeps first stop
+keeps-first : (first now : TaskView) (stop : MadeStop) → LeadsTo first now → KeepsFamily now stop → KeepsFamily first stop
 keeps-first first now (stop-in.Spawn child rest) h k = (
   k.0 ∙ ap (λ (p : PlanView). fresh p child.task.origin) h.plan,
   k.1 ∙ ap (λ (l : List Origin). l ++ child.task.origin ∷ []) h.children,
@@ -155,59 +155,59 @@ stops-there law first now s stop sound h g e =
 one-step : (now : TaskView) (s : MadeStep) → now.cut ≡ None → IsStep now s → IsRun now s
 one-step now s goes g = record { before = now; leads = leads-start now goes; step = g }
 
-runs : (now : TaskView) (s : MadeStep) → now.cut ≡ None → GoesOn now s → IsRun now s
-runs now s goes g = by_work now.task.work g
+runs : (now : TaskView) (s : MadeStep) → now.cut ≡ None → StepsOn now s → IsRun now s
+runs now s goes g = by_remaining now.task.remaining g
   where
-    by_stage : (stage : meaning.InstanceState) → stage_goes_on stage now s → IsRun now s
+    by_stage : (stage : meaning.Stage) → stage_goes_on stage now s → IsRun now s
     by_stage (meaning.Running m) h = h
     by_stage (meaning.AtSync m) h = one-step now s goes h
     by_stage (meaning.AtLoop m) h = one-step now s goes h
     by_stage (meaning.Ended e) h = one-step now s goes h
 
-    by_work : (work : meaning.Work) → work_goes_on work now s → IsRun now s
-    by_work (meaning.Splits left) h = one-step now s goes h
-    by_work (meaning.Runs stage) h = by_stage stage h
-    by_work (meaning.Finished v gone_on) h = one-step now s goes h
+    by_remaining : (remaining : meaning.Remaining) → remaining_goes_on remaining now s → IsRun now s
+    by_remaining (meaning.Splits left) h = one-step now s goes h
+    by_remaining (meaning.Runs stage) h = by_stage stage h
+    by_remaining (meaning.Finished v gone_on) h = one-step now s goes h
 
-pub run-leads : MovesFall → (first now next : TaskView) (s : MadeStep) → LeadsTo first now → GoesOn now s → s ≡ step-in.Passes next → LeadsTo first next
+pub run-leads : MovesFall → (first now next : TaskView) (s : MadeStep) → LeadsTo first now → StepsOn now s → s ≡ step-in.Passes next → LeadsTo first next
 run-leads law first now next s h g e =
     let r = runs now s h.cut g in leads-on law first r.before next s (leads-over first now r.before h r.leads) r.step e
 
-pub run-falls : MovesFall → (now next : TaskView) (s : MadeStep) → now.cut ≡ None → GoesOn now s → s ≡ step-in.Passes next → moves_left next.task < moves_left now.task
+pub run-falls : MovesFall → (now next : TaskView) (s : MadeStep) → now.cut ≡ None → StepsOn now s → s ≡ step-in.Passes next → moves_left next.task < moves_left now.task
 run-falls law now next s goes g e =
     let r = runs now s goes g in
     let last : moves_left next.task < moves_left r.before.task = falls law r.before next s r.step e in
     omega (arith, last, r.leads.fewer)
 
-pub run-stops : StopsAreSound → (first now : TaskView) (s : MadeStep) (stop : MadeStop) → IsTask first.task → LeadsTo first now → GoesOn now s → s ≡ step-in.Stops stop → IsStop first stop
+pub run-stops : StopsAreSound → (first now : TaskView) (s : MadeStep) (stop : MadeStop) → IsTask first.task → LeadsTo first now → StepsOn now s → s ≡ step-in.Stops stop → IsStop first stop
 run-stops law first now s stop sound h g e =
     let r = runs now s h.cut g in stops-there law first r.before s stop sound (leads-over first now r.before h r.leads) r.step e
 
 -- what holds of a task by its type, where it took no cut
-pub holds-sound : (b : Body) (w : Work) → cut_of w ≡ None → Holds b w → IsSound b w
-holds-sound b (work.Splits left) e h = h
-holds-sound b (work.Runs s) e h = h
-holds-sound b (work.Finished v gone_on) e h = h
-holds-sound b (work.Ends ended) e h = absurd (cc)
+pub holds-sound : (b : TaskState) (w : Remaining) → cut_of w ≡ None → HoldsOfTask b w → IsSound b w
+holds-sound b (remaining.Splits left) e h = h
+holds-sound b (remaining.Runs s) e h = h
+holds-sound b (remaining.Finished v gone_on) e h = h
+holds-sound b (remaining.Ends ended) e h = absurd (cc)
 
-pub sound_holds : (b : Body) (w : Work) → IsSound b w → Holds b w
-sound_holds b (work.Splits left) h = h
-sound_holds b (work.Runs s) h = h
-sound_holds b (work.Finished v gone_on) h = h
-sound_holds b (work.Ends ended) h = absurd h.works
+pub sound_holds : (b : TaskState) (w : Remaining) → IsSound b w → HoldsOfTask b w
+sound_holds b (remaining.Splits left) h = h
+sound_holds b (remaining.Runs s) h = h
+sound_holds b (remaining.Finished v gone_on) h = h
+sound_holds b (remaining.Ends ended) h = absurd h.of_plan
 
-pub is-sound : (b : Body) (w : Work) (t : TaskView) → view_of b w ≡ t → t.cut ≡ None → Holds b w → IsSound b w
+pub is-sound : (b : TaskState) (w : Remaining) (t : TaskView) → view_of b w ≡ t → t.cut ≡ None → HoldsOfTask b w → IsSound b w
 is-sound b w t view goes h = holds-sound b w (ap (λ (v : TaskView). v.cut) view ∙ goes) h
 
-pub is-task : (b : Body) (w : Work) (t : TaskView) → view_of b w ≡ t → t.cut ≡ None → Holds b w → IsTask t.task
+pub is-task : (b : TaskState) (w : Remaining) (t : TaskView) → view_of b w ≡ t → t.cut ≡ None → HoldsOfTask b w → IsTask t.task
 is-task b w t view goes h = subst (λ (v : TaskView). IsTask v.task) view (is-sound b w t view goes h).task
 
 -- a task that waits took none
-pub waits-sound : (b : Body) (w : Work) (t : TaskView) → view_of b w ≡ t → t.task.waiting ≡ true → Holds b w → IsSound b w
-waits-sound b (work.Splits left) t view waits h = h
-waits-sound b (work.Runs s) t view waits h = h
-waits-sound b (work.Finished v gone_on) t view waits h = h
-waits-sound b (work.Ends ended) t view waits h = absurd (true≢false (sym waits ∙ ap (λ (v : TaskView). v.task.waiting) (sym view) ∙ h.waits))
+pub waits-sound : (b : TaskState) (w : Remaining) (t : TaskView) → view_of b w ≡ t → t.task.waiting ≡ true → HoldsOfTask b w → IsSound b w
+waits-sound b (remaining.Splits left) t view waits h = h
+waits-sound b (remaining.Runs s) t view waits h = h
+waits-sound b (remaining.Finished v gone_on) t view waits h = h
+waits-sound b (remaining.Ends ended) t view waits h = absurd (true≢false (sym waits ∙ ap (λ (v : TaskView). v.task.waiting) (sym view) ∙ h.waits))
 
 -- one that took none, and one that did
 not-cut : (o : Option Outcome) → is_cut_short o ≡ false → o ≡ None
@@ -222,24 +222,24 @@ advances-uncut t stop e h = advances-so t stop None e h
 
 -- one that took a cut ends so
 
-pub is-short : (b : Body) (w : Work) (t : TaskView) → view_of b w ≡ t → is_cut_short t.cut ≡ true → ((o : Outcome) → w ≡ work.Ends o → ⊥) → ⊥
-is-short b w t view short other = by_work w (ap (λ (v : TaskView). is_cut_short v.cut) view ∙ short) other
+pub is-short : (b : TaskState) (w : Remaining) (t : TaskView) → view_of b w ≡ t → is_cut_short t.cut ≡ true → ((o : Outcome) → w ≡ remaining.Ends o → ⊥) → ⊥
+is-short b w t view short other = by_remaining w (ap (λ (v : TaskView). is_cut_short v.cut) view ∙ short) other
   where
-    by_work : (x : Work) → is_cut_short (cut_of x) ≡ true → ((o : Outcome) → x ≡ work.Ends o → ⊥) → ⊥
-    by_work (work.Splits left) e h = true≢false (sym e)
-    by_work (work.Runs s) e h = true≢false (sym e)
-    by_work (work.Finished v gone_on) e h = true≢false (sym e)
-    by_work (work.Ends o) e h = h o refl
+    by_remaining : (x : Remaining) → is_cut_short (cut_of x) ≡ true → ((o : Outcome) → x ≡ remaining.Ends o → ⊥) → ⊥
+    by_remaining (remaining.Splits left) e h = true≢false (sym e)
+    by_remaining (remaining.Runs s) e h = true≢false (sym e)
+    by_remaining (remaining.Finished v gone_on) e h = true≢false (sym e)
+    by_remaining (remaining.Ends o) e h = h o refl
 
-held-short : (b : Body) (w : Work) (o : Outcome) → w ≡ work.Ends o → Holds b w → IsCutShort b o
-held-short b w o is h = subst (Holds b) is h
+held-short : (b : TaskState) (w : Remaining) (o : Outcome) → w ≡ remaining.Ends o → HoldsOfTask b w → IsCutShort b o
+held-short b w o is h = subst (HoldsOfTask b) is h
 
-pub short-answers : (b : Body) (w : Work) (o : Outcome) (prefix : List Event) → w ≡ work.Ends o → prefix ≡ b.trace.prefix → Holds b w → IsAnswer b.family.plan b.family.origin prefix o
+pub short-answers : (b : TaskState) (w : Remaining) (o : Outcome) (prefix : List Event) → w ≡ remaining.Ends o → prefix ≡ b.trace.prefix → HoldsOfTask b w → IsAnswer b.family.plan b.family.origin prefix o
 short-answers b w o prefix is same h = subst (λ (es : List Event). IsAnswer b.family.plan b.family.origin es o) (sym same) (held-short b w o is h).answers
 
-pub short-ends : (b : Body) (w : Work) (o : Outcome) (t : TaskView) → view_of b w ≡ t → w ≡ work.Ends o → Holds b w → (prefix : List Event) (answer : AnswerView) (give : AnswerTag) → prefix ≡ b.trace.prefix →
+pub short-ends : (b : TaskState) (w : Remaining) (o : Outcome) (t : TaskView) → view_of b w ≡ t → w ≡ remaining.Ends o → HoldsOfTask b w → (prefix : List Event) (answer : AnswerView) (give : AnswerTag) → prefix ≡ b.trace.prefix →
     answer ≡ record { plan = b.family.plan; origin = b.family.origin; out = prefix; outcome = o } → give ≡ tag b.family.plan b.family.origin → Advances t (stop-in.Done answer give)
-short-ends b w o t view is h prefix answer give same e g = subst (λ (v : TaskView). Advances v (stop-in.Done answer give)) view (subst (λ (x : Work). Advances (view_of b x) (stop-in.Done answer give)) (sym is) (advances-so (view_of b (work.Ends o)) (stop-in.Done answer give) (Some o) refl (record {
+short-ends b w o t view is h prefix answer give same e g = subst (λ (v : TaskView). Advances v (stop-in.Done answer give)) view (subst (λ (x : Remaining). Advances (view_of b x) (stop-in.Done answer give)) (sym is) (advances-so (view_of b (remaining.Ends o)) (stop-in.Done answer give) (Some o) refl (record {
   is = ap (λ (a : AnswerView). stop-in.Done a give) (e ∙ ap (λ (es : List Event). record { plan = b.family.plan; origin = b.family.origin; out = es; outcome = o }) same)
       ∙ ap (λ (y : AnswerTag). stop-in.Done (record { plan = b.family.plan; origin = b.family.origin; out = b.trace.prefix; outcome = o }) y) g;
   known = (held-short b w o is h).known;

@@ -9,8 +9,8 @@ use Rattle.strand_meaning.specs.Laws.{IsFaultOf}
 use Rattle.strand_machine.specs.Family.{FamilyView, tag}
 use Rattle.strand_machine.specs.Made.{KeepsAnswer, KnowsEnd, PausesAs, StopsSo, made}
 use Rattle.strand_machine.specs.Stops.{Advances, HasEnded, IsCutEnd, IsStop, Pauses}
-use Rattle.strand_machine.specs.Tasks.{Holds, TaskView, cut_of, ended_by, is_cut_short, view_of}
-use Rattle.strand_machine.specs.declared.body.Body.{Body}
+use Rattle.strand_machine.specs.Tasks.{HoldsOfTask, TaskView, cut_of, ended_by, is_cut_short, view_of}
+use Rattle.strand_machine.specs.declared.task_state.TaskState.{TaskState}
 use Rattle.strand_machine.specs.declared.parts.Parts.{Parts}
 use Rattle.strand_machine.specs.declared.stop.MoveOrStop.{MoveOrStop}
 use Rattle.strand_machine.specs.declared.stop.MoveOrStop.TheVariants as step-in
@@ -20,8 +20,8 @@ use Rattle.strand_machine.specs.declared.stop.Paused.{Paused}
 use Rattle.strand_machine.specs.declared.stop.Paused.TheVariants as paused-in
 use Rattle.strand_machine.specs.declared.stop.Stop.{Stop}
 use Rattle.strand_machine.specs.declared.stop.Stop.TheVariants as stop-in
-use Rattle.strand_machine.specs.declared.work.Work.{Work}
-use Rattle.strand_machine.specs.declared.work.Work.TheVariants as work
+use Rattle.strand_machine.specs.declared.remaining.Remaining.{Remaining}
+use Rattle.strand_machine.specs.declared.remaining.Remaining.TheVariants as remaining
 use Rattle.strand_machine.proofs.NextStops.Advancing.{advances-uncut}
 
 by-fault : (plan : PlanView) (o : Outcome) → IsFaultOf plan o → IsByFaultOf plan o
@@ -32,11 +32,11 @@ by-fault plan (outcome.Cut f) h = absurd h
 
 -- The fault by which it ended is known.
 pub knows-end : (t : TaskView) (p : Parts) (passed : Passed) → StopsSo t (made p passed) → KnowsEnd p passed
-knows-end t p passed-in.Goes h = tt
+knows-end t p passed-in.Continues h = tt
 knows-end t p passed-in.Waits h = tt
 knows-end t p (passed-in.Spawned child) h = tt
 knows-end t p (passed-in.Ends o) h =
-    let ended = ended_by p.body.trace.fault o in by-fault p.body.family.plan ended (subst (λ (plan : PlanView). IsFaultOf plan ended) (sym h.keeps.0) h.known)
+    let ended = ended_by p.state.trace.fault o in by-fault p.state.family.plan ended (subst (λ (plan : PlanView). IsFaultOf plan ended) (sym h.keeps.0) h.known)
 
 kept-end : (t rest : TaskView) (a : AnswerView) (give : AnswerTag) → IsStop t (stop-in.Done a give) → KeepsAnswer a (paused-in.Ended rest) → HasEnded t rest
 kept-end t rest a give h k =
@@ -55,23 +55,23 @@ ended-stop t rest s h a =
     subst (IsStop t) (sym end.is) h.stop
 
 -- What the code makes of a stop.
-pub waits-as : (p : Parts) (passed : Passed) → passed ≡ passed-in.Waits → PausesAs (made p passed) (paused-in.Wait (view_of p.body p.work))
-waits-as p passed is = subst (λ (x : Passed). PausesAs (made p x) (paused-in.Wait (view_of p.body p.work))) (sym is) refl
+pub waits-as : (p : Parts) (passed : Passed) → passed ≡ passed-in.Waits → PausesAs (made p passed) (paused-in.Wait (view_of p.state p.remaining))
+waits-as p passed is = subst (λ (x : Passed). PausesAs (made p x) (paused-in.Wait (view_of p.state p.remaining))) (sym is) refl
 
-pub spawns-as : (p : Parts) (passed : Passed) (child : TaskView) → passed ≡ passed-in.Spawned child → PausesAs (made p passed) (paused-in.Spawn child (view_of p.body p.work))
-spawns-as p passed child is = subst (λ (x : Passed). PausesAs (made p x) (paused-in.Spawn child (view_of p.body p.work))) (sym is) refl
+pub spawns-as : (p : Parts) (passed : Passed) (child : TaskView) → passed ≡ passed-in.Spawned child → PausesAs (made p passed) (paused-in.Spawn child (view_of p.state p.remaining))
+spawns-as p passed child is = subst (λ (x : Passed). PausesAs (made p x) (paused-in.Spawn child (view_of p.state p.remaining))) (sym is) refl
 
-pub knows-at : (p : Parts) (passed : Passed) (o : Outcome) → passed ≡ passed-in.Ends o → KnowsEnd p passed → IsByFaultOf p.body.family.plan (ended_by p.body.trace.fault o)
+pub knows-at : (p : Parts) (passed : Passed) (o : Outcome) → passed ≡ passed-in.Ends o → KnowsEnd p passed → IsByFaultOf p.state.family.plan (ended_by p.state.trace.fault o)
 knows-at p passed o is h = subst (KnowsEnd p) is h
 
-pub keeps-end : (p new : Parts) (passed : Passed) (o : Outcome) → passed ≡ passed-in.Ends o → new.work ≡ work.Ends (ended_by p.body.trace.fault o) → new.body.family ≡ p.body.family → new.body.trace.prefix ≡ p.body.trace.prefix →
-    PausesAs (made p passed) (paused-in.Ended (view_of new.body new.work))
+pub keeps-end : (p new : Parts) (passed : Passed) (o : Outcome) → passed ≡ passed-in.Ends o → new.remaining ≡ remaining.Ends (ended_by p.state.trace.fault o) → new.state.family ≡ p.state.family → new.state.trace.prefix ≡ p.state.trace.prefix →
+    PausesAs (made p passed) (paused-in.Ended (view_of new.state new.remaining))
 keeps-end p new passed o is ends family prefix =
-    subst (λ (x : Passed). PausesAs (made p x) (paused-in.Ended (view_of new.body new.work))) (sym is)
+    subst (λ (x : Passed). PausesAs (made p x) (paused-in.Ended (view_of new.state new.remaining))) (sym is)
     (ap (λ (f : FamilyView). f.plan) family, ap (λ (f : FamilyView). f.origin) family, prefix, ap cut_of ends)
 
-pub holds-end : (b : Body) (ended : Outcome) (w : Work) → w ≡ work.Ends ended → IsAnswer b.family.plan b.family.origin b.trace.prefix ended → IsByFaultOf b.family.plan ended → b.waiting ≡ false → Holds b w
-holds-end b ended w is answers known waits = subst (Holds b) (sym is) (record { answers = answers; known = known; waits = waits })
+pub holds-end : (b : TaskState) (ended : Outcome) (w : Remaining) → w ≡ remaining.Ends ended → IsAnswer b.family.plan b.family.origin b.trace.prefix ended → IsByFaultOf b.family.plan ended → b.waiting ≡ false → HoldsOfTask b w
+holds-end b ended w is answers known waits = subst (HoldsOfTask b) (sym is) (record { answers = answers; known = known; waits = waits })
 
 -- What the code makes of it is its pause.
 pub pauses : (t : TaskView) (m : MoveOrStop) (p : Paused) → StopsSo t m → PausesAs m p → Pauses t p

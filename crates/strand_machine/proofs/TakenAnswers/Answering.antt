@@ -11,7 +11,7 @@ use Rattle.serial_meaning.specs.declared.answer.Outcome.{Outcome}
 use Rattle.serial_meaning.specs.declared.answer.Outcome.TheVariants as outcome
 use Rattle.strand_meaning.specs.Trace.{AwaitedChild}
 use Rattle.strand_machine.specs.Family.{FamilyView, AwaitsCount, tag, tags, origins}
-use Rattle.strand_machine.specs.Parts.{awaited}
+use Rattle.strand_machine.specs.AwaitedChildren.{awaited}
 use Rattle.strand_machine.specs.Stops.{answer_tags, is_cut}
 use Rattle.strand_machine.specs.Tasks.{AwaitsLast}
 

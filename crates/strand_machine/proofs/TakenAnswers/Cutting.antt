@@ -14,22 +14,22 @@ use Rattle.strand_meaning.specs.Answers.{evaluation_of, answer_evaluations}
 use Rattle.strand_meaning.specs.Cuts.{AreAnswersOf, AnswersEnd, IsByFaultOf, by_fault, ended_after, or_ends}
 use Rattle.strand_meaning.specs.Laws.{AnswersAreEvaluations}
 use Rattle.strand_meaning.specs.Machine.{Half}
-use Rattle.strand_meaning.specs.Trace.{AwaitedChild, Trace, heard, heard_all, heard_unless}
+use Rattle.strand_meaning.specs.Trace.{AwaitedChild, Trace, merged_answer, merged_answers, merged_answer_unless}
 use Rattle.strand_meaning.specs.Sound.{IsTask}
 use Rattle.strand_meaning.specs.Task.{takes, more_values}
 use Rattle.strand_machine.specs.Family.{FamilyView, tag, tags, origins}
-use Rattle.strand_machine.specs.Merge.{AreSaid, BecomesWork, EndsShort, IsShort, KeepsRest, Merge, Takes, TakesAnswers, WorkFindsAll, Works, end_of, ended_of, result_of_outcome, meanings, merge_of, trace_of, with_stage}
-use Rattle.strand_machine.specs.Parts.{awaited, awaited_child, awaited_children, destination_of}
+use Rattle.strand_machine.specs.Merge.{AreSaid, BecomesRemaining, EndsShort, IsShort, KeepsRest, Merge, IsMergeOf, TakesAnswers, RemainingFindsAll, IsRemainingOfPlan, end_of, ended_of, result_of_outcome, meanings, merge_of, trace_of, with_stage}
+use Rattle.strand_machine.specs.AwaitedChildren.{awaited, awaited_child, awaited_children, destination_of}
 use Rattle.strand_machine.specs.declared.destination.Destination.{Destination}
 use Rattle.strand_machine.specs.declared.destination.Destination.TheVariants as destination
 use Rattle.strand_machine.specs.Stops.{IsCutOn, WentOn, answer_tags, any_cut, is_cut, prefix_with, view_on}
-use Rattle.strand_machine.specs.Tasks.{TaskView, IsCutShort, task_of, view_of, work_of}
-use Rattle.strand_machine.specs.declared.body.Body.{Body}
-use Rattle.strand_machine.specs.declared.merge.Heard.{Heard}
+use Rattle.strand_machine.specs.Tasks.{TaskView, IsCutShort, task_of, view_of, remaining_of}
+use Rattle.strand_machine.specs.declared.task_state.TaskState.{TaskState}
+use Rattle.strand_machine.specs.declared.merge.Merging.{Merging}
 use Rattle.strand_machine.specs.declared.parts.Parts.{Parts}
 use Rattle.strand_machine.specs.declared.trace.AfterChild.{AfterChild}
-use Rattle.strand_machine.specs.declared.work.Work.{Work}
-use Rattle.strand_machine.specs.declared.work.Work.TheVariants as work
+use Rattle.strand_machine.specs.declared.remaining.Remaining.{Remaining}
+use Rattle.strand_machine.specs.declared.remaining.Remaining.TheVariants as remaining
 use Rattle.strand_machine.proofs.TakenAnswers.Answering.{eval-of, origins-tags}
 use Rattle.strand_machine.proofs.Moves.Handed.{awaited_parts}
 use Rattle.strand_machine.proofs.TakenAnswers.Targets.{found-kept}
@@ -48,24 +48,24 @@ or-false true = refl
 or-false false = refl
 
 -- what was heard leaves no child, whichever there were
-heard-none : (f : Option Fault) (prefix : List Event) (p : AwaitedChild) (events : List Event) (ending : Result (List Value) Fault) → (heard_unless f prefix p events ending).handed ≡ []
-heard-none (Some f) prefix p events ending = refl
-heard-none None prefix p events (Ok vs) = refl
-heard-none None prefix p events (Err f) = refl
+merging-none : (f : Option Fault) (prefix : List Event) (p : AwaitedChild) (events : List Event) (ending : Result (List Value) Fault) → (merged_answer_unless f prefix p events ending).handed ≡ []
+merging-none (Some f) prefix p events ending = refl
+merging-none None prefix p events (Ok vs) = refl
+merging-none None prefix p events (Err f) = refl
 
-pub heard-alone : (p : AwaitedChild) (e : Evaluation) (before after : Trace) → after ≡ heard p e before → after.handed ≡ []
-heard-alone p e before after h = ap (λ (t : Trace). t.handed) h ∙ heard-none before.fault before.prefix p e.items e.ending
+pub merging-alone : (p : AwaitedChild) (e : Evaluation) (before after : Trace) → after ≡ merged_answer p e before → after.handed ≡ []
+merging-alone p e before after h = ap (λ (t : Trace). t.handed) h ∙ merging-none before.fault before.prefix p e.items e.ending
 
-pub heard-front : (p : AwaitedChild) (e : Evaluation) (before after : Trace) → after ≡ heard p e before → record after { handed = [] } ≡ heard p e (record before { handed = [] })
-heard-front p e before after h =
+pub merging-front : (p : AwaitedChild) (e : Evaluation) (before after : Trace) → after ≡ merged_answer p e before → record after { handed = [] } ≡ merged_answer p e (record before { handed = [] })
+merging-front p e before after h =
     ap (λ (t : Trace). record t { handed = [] }) h
-    ∙ ap (λ (ps : List AwaitedChild). record (heard p e before) { handed = ps }) (sym (heard-none before.fault before.prefix p e.items e.ending))
+    ∙ ap (λ (ps : List AwaitedChild). record (merged_answer p e before) { handed = ps }) (sym (merging-none before.fault before.prefix p e.items e.ending))
 
-pub takes-answer : (p : AwaitedChild) (a : AnswerView) (before after : Merge) → trace_of after ≡ heard p (record { items = a.out; ending = result_of_outcome a.outcome }) (trace_of before) →
+pub takes-answer : (p : AwaitedChild) (a : AnswerView) (before after : Merge) → trace_of after ≡ merged_answer p (record { items = a.out; ending = result_of_outcome a.outcome }) (trace_of before) →
     ended_of after ≡ or_ends (ended_of before) a.outcome → after.cut ≡ (before.cut || is_cut a.outcome) → after.values ≡ more_values p.destination (result_of_outcome a.outcome) before.values →
-    BecomesWork (with_stage (takes p.destination (result_of_outcome a.outcome))) before.work after.work → IsAnswer a.plan a.origin a.out a.outcome → TakesAnswers (p ∷ []) (a ∷ []) before after
-takes-answer p a before after trace ended cut values work said = record {
-  takes = subst (λ (e : Evaluation). Takes (p ∷ []) (e ∷ []) before after) (sym (says a.out a.outcome)) (record { trace = trace; values = values; work = work });
+    BecomesRemaining (with_stage (takes p.destination (result_of_outcome a.outcome))) before.remaining after.remaining → IsAnswer a.plan a.origin a.out a.outcome → TakesAnswers (p ∷ []) (a ∷ []) before after
+takes-answer p a before after trace ended cut values remaining said = record {
+  takes = subst (λ (e : Evaluation). IsMergeOf (p ∷ []) (e ∷ []) before after) (sym (says a.out a.outcome)) (record { trace = trace; values = values; remaining = remaining });
   ended = ended;
   cut = cut ∙ ap (λ (b : Bool). before.cut || b) (sym (or-false (is_cut a.outcome)));
   said = (said, tt);
@@ -75,10 +75,10 @@ takes-answer p a before after trace ended cut values work said = record {
 pub half-values : (p : Destination) (ending : Result (List Value) Fault) (values after : List Value) → p ≡ destination.Half → after ≡ more_values Half ending values → after ≡ more_values (destination_of p) ending values
 half-values p ending values after at is = subst (λ (q : Destination). after ≡ more_values (destination_of q) ending values) (sym at) is
 
-pub half-work : (p : Destination) (ending : Result (List Value) Fault) (w : Work) → p ≡ destination.Half → BecomesWork (with_stage (takes (destination_of p) ending)) w w
-half-work p ending w at =
-    let stays : BecomesWork (with_stage (takes Half ending)) w w = record { is = λ plan. sym (same-stage (work_of plan w)); works = λ plan o h. h } in
-    subst (λ (q : Destination). BecomesWork (with_stage (takes (destination_of q) ending)) w w) (sym at) stays
+pub half-remaining : (p : Destination) (ending : Result (List Value) Fault) (w : Remaining) → p ≡ destination.Half → BecomesRemaining (with_stage (takes (destination_of p) ending)) w w
+half-remaining p ending w at =
+    let stays : BecomesRemaining (with_stage (takes Half ending)) w w = record { is = λ plan. sym (same-stage (remaining_of plan w)); of_plan = λ plan o h. h } in
+    subst (λ (q : Destination). BecomesRemaining (with_stage (takes (destination_of q) ending)) w w) (sym at) stays
 
 -- One child, and then the others
 
@@ -158,7 +158,7 @@ fault-first : (f : Option Fault) → end_of f false ≡ by_fault f
 fault-first None = refl
 fault-first (Some f) = refl
 
-pub own-children : (b : Body) (os : List Origin) (bs : List AfterChild) (ts : List AnswerTag) → awaited_children os bs ≡ b.trace.handed → length os ≡ length bs → ts ≡ tags b.family.plan (awaited b.trace.handed) → origins ts ≡ os
+pub own-children : (b : TaskState) (os : List Origin) (bs : List AfterChild) (ts : List AnswerTag) → awaited_children os bs ≡ b.trace.handed → length os ≡ length bs → ts ≡ tags b.family.plan (awaited b.trace.handed) → origins ts ≡ os
 own-children b os bs ts parts same e = ap origins e ∙ origins-tags b.family.plan (awaited b.trace.handed) ∙ ap awaited (sym parts) ∙ awaited_parts os bs same
 
 pub went-whole : (answers : List AnswerView) (t next : TaskView) → any_cut answers ≡ false → next ≡ view_on t → WentOn answers t next
@@ -170,42 +170,42 @@ went-short answers t next cut h = record { whole = λ none. absurd (true≢false
 -- Answers change the trace and the values of a body, and what remains.
 
 pub keeps-then : (p q r : Parts) → KeepsRest p q → KeepsRest q r → KeepsRest p r
-keeps-then p q r h k = record { body = k.body ∙ ap (λ (b : Body). record b { trace = r.body.trace; values = r.body.values }) h.body; handed = k.handed }
+keeps-then p q r h k = record { state = k.state ∙ ap (λ (b : TaskState). record b { trace = r.state.trace; values = r.state.values }) h.state; handed = k.handed }
 
-pub works-then : (p q : Parts) (heard after : Heard) (ps : List AwaitedChild) (answers : List AnswerView) → KeepsRest p q → TakesAnswers ps answers (merge_of p heard) (merge_of q after) →
-    Works p.body.family.plan p.work → Works q.body.family.plan q.work
-works-then p q heard after ps answers kept h w =
-    subst (λ (f : FamilyView). Works f.plan q.work) (sym (ap (λ (b : Body). b.family) kept.body)) (w.0, h.takes.work.works p.body.family.plan w.0 w.1)
+pub of_plan-then : (p q : Parts) (merging after : Merging) (ps : List AwaitedChild) (answers : List AnswerView) → KeepsRest p q → TakesAnswers ps answers (merge_of p merging) (merge_of q after) →
+    IsRemainingOfPlan p.state.family.plan p.remaining → IsRemainingOfPlan q.state.family.plan q.remaining
+of_plan-then p q merging after ps answers kept h w =
+    subst (λ (f : FamilyView). IsRemainingOfPlan f.plan q.remaining) (sym (ap (λ (b : TaskState). b.family) kept.state)) (w.0, h.takes.remaining.of_plan p.state.family.plan w.0 w.1)
 
 -- the variables of the children that are left are found still
-pub found-then : (p q : Parts) (heard after : Heard) (child : AwaitedChild) (a : AnswerView) (bs : List AfterChild) → KeepsRest p q → TakesAnswers (child ∷ []) (a ∷ []) (merge_of p heard) (merge_of q after) →
-    WorkFindsAll p.body.family.plan bs (work_of p.body.family.plan p.work) → WorkFindsAll q.body.family.plan bs (work_of q.body.family.plan q.work)
-found-then p q heard after child a bs kept h found =
-    subst (λ (f : FamilyView). WorkFindsAll f.plan bs (work_of f.plan q.work)) (sym (ap (λ (b : Body). b.family) kept.body))
-    (found-kept p.body.family.plan child.destination (evaluation_of a.out a.outcome).ending p.work q.work bs h.takes.work found)
+pub found-then : (p q : Parts) (merging after : Merging) (child : AwaitedChild) (a : AnswerView) (bs : List AfterChild) → KeepsRest p q → TakesAnswers (child ∷ []) (a ∷ []) (merge_of p merging) (merge_of q after) →
+    RemainingFindsAll p.state.family.plan bs (remaining_of p.state.family.plan p.remaining) → RemainingFindsAll q.state.family.plan bs (remaining_of q.state.family.plan q.remaining)
+found-then p q merging after child a bs kept h found =
+    subst (λ (f : FamilyView). RemainingFindsAll f.plan bs (remaining_of f.plan q.remaining)) (sym (ap (λ (b : TaskState). b.family) kept.state))
+    (found-kept p.state.family.plan child.destination (evaluation_of a.out a.outcome).ending p.remaining q.remaining bs h.takes.remaining found)
 
-pub kept-body : (p q : Parts) → KeepsRest p q → q.body ≡ record p.body { trace = record q.body.trace { handed = [] }; values = q.body.values }
-kept-body p q k = k.body ∙ ap (λ (ps : List AwaitedChild). record p.body { trace = record q.body.trace { handed = ps }; values = q.body.values }) k.handed
+pub kept-state : (p q : Parts) → KeepsRest p q → q.state ≡ record p.state { trace = record q.state.trace { handed = [] }; values = q.state.values }
+kept-state p q k = k.state ∙ ap (λ (ps : List AwaitedChild). record p.state { trace = record q.state.trace { handed = ps }; values = q.state.values }) k.handed
 
 -- the task as it was before its children were taken out of the trace
-pub taken-from : (b : Body) (w : Work) (trace : Trace) (ps : List AwaitedChild) (answers : List AnswerView) (after : Merge) → trace ≡ record b.trace { handed = [] } →
+pub taken-from : (b : TaskState) (w : Remaining) (trace : Trace) (ps : List AwaitedChild) (answers : List AnswerView) (after : Merge) → trace ≡ record b.trace { handed = [] } →
     TakesAnswers ps answers (begins (record b { trace = trace }) w) after → TakesAnswers ps answers (begins b w) after
 taken-from b w trace ps answers after e h = subst (λ (t : Trace). TakesAnswers ps answers (begins (record b { trace = t }) w) after) e h
 
 -- What is left of a task that took a cut
 
-module _ (b : Body) (w : Work) (os : List Origin) (bs : List AfterChild) (answers : List AnswerView) (after : Merge) where
+module _ (b : TaskState) (w : Remaining) (os : List Origin) (bs : List AfterChild) (answers : List AnswerView) (after : Merge) where
   -- where none is a cut they are the children's evaluations
   pub takes-whole : AnswersAreEvaluations → TakesAnswers (awaited_children (origins (answer_tags answers)) bs) answers (begins b w) after → any_cut answers ≡ false →
-      Takes (awaited_children (origins (answer_tags answers)) bs) (meanings (answer_tags answers)) (begins b w) after
-  takes-whole law h whole = subst (λ (es : List Evaluation). Takes (awaited_children (origins (answer_tags answers)) bs) es (begins b w) after) (whole-answers law answers h.said whole) h.takes
+      IsMergeOf (awaited_children (origins (answer_tags answers)) bs) (meanings (answer_tags answers)) (begins b w) after
+  takes-whole law h whole = subst (λ (es : List Evaluation). IsMergeOf (awaited_children (origins (answer_tags answers)) bs) es (begins b w) after) (whole-answers law answers h.said whole) h.takes
 
   module _ (parts : awaited_children os bs ≡ b.trace.handed) (children : origins (answer_tags answers) ≡ os) (h : TakesAnswers (awaited_children (origins (answer_tags answers)) bs) answers (begins b w) after) where
     handed : awaited_children (origins (answer_tags answers)) bs ≡ b.trace.handed
     handed = ap (λ (cs : List Origin). awaited_children cs bs) children ∙ parts
 
     prefix-same : after.prefix ≡ prefix_with answers (task_of b w)
-    prefix-same = ap (λ (p : Trace). p.prefix) h.takes.trace ∙ ap (λ (ps : List AwaitedChild). (heard_all ps (answer_evaluations answers) (record b.trace { handed = [] })).prefix) handed
+    prefix-same = ap (λ (p : Trace). p.prefix) h.takes.trace ∙ ap (λ (ps : List AwaitedChild). (merged_answers ps (answer_evaluations answers) (record b.trace { handed = [] })).prefix) handed
 
     ended-same : ended_of after ≡ ended_after (by_fault b.trace.fault) answers
     ended-same = h.ended ∙ ap (λ (o : Option Outcome). ended_after o answers) (fault-first b.trace.fault)
@@ -240,7 +240,7 @@ same-end : (family : FamilyView) (g : Merge) (h : EndsShort family g) (o : Outco
 same-end family g h o r e is = let some : Some h.outcome ≡ Some o = sym h.ended ∙ sym e ∙ is in cc
 
 pub short-holds : (family : FamilyView) (g : Merge) → EndsShort family g → (o : Outcome) (r : Option Outcome) → r ≡ ended_of g → r ≡ Some o →
-    (b : Body) → b.family ≡ family → b.trace ≡ record { prefix = g.prefix; fault = None; handed = [] } → b.waiting ≡ false → IsCutShort b o
+    (b : TaskState) → b.family ≡ family → b.trace ≡ record { prefix = g.prefix; fault = None; handed = [] } → b.waiting ≡ false → IsCutShort b o
 short-holds family g h o r e is b same trace waits =
     let prefix : b.trace.prefix ≡ g.prefix = ap (λ (p : Trace). p.prefix) trace in
     let end = same-end family g h o r e is in
@@ -252,7 +252,7 @@ short-holds family g h o r e is b same trace waits =
     }
 
 pub short-view : (family : FamilyView) (g : Merge) (advanced : Bool) (o : Outcome) (r : Option Outcome) → r ≡ ended_of g → r ≡ Some o →
-    (b : Body) → b.family ≡ family → b.trace ≡ record { prefix = g.prefix; fault = None; handed = [] } → b.waiting ≡ false → b.advanced ≡ advanced → IsShort family g advanced (view_of b (work.Ends o))
+    (b : TaskState) → b.family ≡ family → b.trace ≡ record { prefix = g.prefix; fault = None; handed = [] } → b.waiting ≡ false → b.advanced ≡ advanced → IsShort family g advanced (view_of b (remaining.Ends o))
 short-view family g advanced o r e is b same trace waits was = record {
   plan = ap (λ (f : FamilyView). f.plan) same;
   origin = ap (λ (f : FamilyView). f.origin) same;

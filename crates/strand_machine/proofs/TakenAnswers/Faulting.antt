@@ -16,17 +16,17 @@ use Rattle.serial_meaning.specs.declared.origin.Origin.TheVariants.{Instance, Lo
 use Rattle.serial_meaning.specs.declared.answer.Outcome.{Outcome}
 use Rattle.serial_meaning.specs.declared.answer.Outcome.TheVariants as outcome
 use Rattle.strand_meaning.specs.Laws.{IsFaultOf}
-use Rattle.strand_meaning.specs.Trace.{AwaitedChild, Trace, heard_unless, heard, heard_all}
-use Rattle.strand_meaning.specs.Rest.{evaluations, prefix_run, parts_run, work_run}
+use Rattle.strand_meaning.specs.Trace.{AwaitedChild, Trace, merged_answer_unless, merged_answer, merged_answers}
+use Rattle.strand_meaning.specs.Rest.{evaluations, prefix_run, awaited_run, remaining_run}
 use Rattle.strand_meaning.specs.Sound.{IsTask}
 use Rattle.strand_meaning.specs.Task.{Task}
 use Rattle.strand_machine.specs.Family.{tag, tags}
 use Rattle.strand_machine.specs.Faults.{is_fault, EndsByFault}
-use Rattle.strand_machine.specs.Parts.{awaited}
+use Rattle.strand_machine.specs.AwaitedChildren.{awaited}
 use Rattle.strand_machine.specs.Stops.{WentOn, answer_tags, any_cut, is_cut, view_on}
 use Rattle.strand_machine.specs.Tasks.{TaskView, task_of, view_of, IsSound}
-use Rattle.strand_machine.specs.declared.body.Body.{Body}
-use Rattle.strand_machine.specs.declared.work.Work.{Work}
+use Rattle.strand_machine.specs.declared.task_state.TaskState.{TaskState}
+use Rattle.strand_machine.specs.declared.remaining.Remaining.{Remaining}
 use Rattle.strand_machine.proofs.TakenAnswers.Answering.{answer-tags-more}
 
 -- The fault is there
@@ -47,21 +47,21 @@ answers-err plan o out (outcome.Value v) is h = absurd (cc)
 answers-err plan o out (outcome.Values vs) is h = absurd (cc)
 answers-err plan o out (outcome.Cut f) is h = absurd (cc)
 
-heard-err : (f : Option Fault) (prefix : List Event) (p : AwaitedChild) (events : List Event) (ending : Result (List Value) Fault) → IsErr ending → (heard_unless f prefix p events ending).fault ≡ None → ⊥
-heard-err (Some g) prefix p events ending is h = absurd (cc)
-heard-err None prefix p events (Ok vs) is h = is
-heard-err None prefix p events (Err g) is h = absurd (cc)
+merging-err : (f : Option Fault) (prefix : List Event) (p : AwaitedChild) (events : List Event) (ending : Result (List Value) Fault) → IsErr ending → (merged_answer_unless f prefix p events ending).fault ≡ None → ⊥
+merging-err (Some g) prefix p events ending is h = absurd (cc)
+merging-err None prefix p events (Ok vs) is h = is
+merging-err None prefix p events (Err g) is h = absurd (cc)
 
 -- where the last of the children ends by a fault, there is one in the trace once they are heard
 pub last-err : (plan : PlanView) (ps : List AwaitedChild) (ts : List AnswerTag) (t : AnswerTag) → ts ++ t ∷ [] ≡ tags plan (awaited ps) → IsErr (eval t.plan t.origin).ending →
-    (trace : Trace) → (heard_all ps (evaluations (eval plan) ps) trace).fault ≡ None → ⊥
+    (trace : Trace) → (merged_answers ps (evaluations (eval plan) ps) trace).fault ≡ None → ⊥
 last-err plan [] [] t e is trace h = absurd (cc)
 last-err plan [] (x ∷ ts) t e is trace h = absurd (cc)
 last-err plan (p ∷ []) [] t e is trace h =
     let same : t ≡ tag plan p.child = cc in
-    heard-err trace.fault trace.prefix p (eval plan p.child).items (eval plan p.child).ending (subst (λ (s : AnswerTag). IsErr (eval s.plan s.origin).ending) same is) h
+    merging-err trace.fault trace.prefix p (eval plan p.child).items (eval plan p.child).ending (subst (λ (s : AnswerTag). IsErr (eval s.plan s.origin).ending) same is) h
 last-err plan (p ∷ q ∷ ps) [] t e is trace h = absurd (cc)
-last-err plan (p ∷ ps) (x ∷ ts) t e is trace h = last-err plan ps ts t (cc) is (heard p (eval plan p.child) trace) h
+last-err plan (p ∷ ps) (x ∷ ts) t e is trace h = last-err plan ps ts t (cc) is (merged_answer p (eval plan p.child) trace) h
 
 -- The end by it
 
@@ -74,7 +74,7 @@ faulted-same : (t : Task) → IsTask t → (f : Fault) → t.trace.fault ≡ Som
 faulted-same t is f h = ap run (sym h) ∙ is.finishes
   where
     run : Option Fault → Evaluation
-    run g = prefix_run (record t.trace { fault = g }) then λ u. parts_run (eval t.plan) t.trace.handed t.values then work_run t.plan t.origin t.trace.handed t.work
+    run g = prefix_run (record t.trace { fault = g }) then λ u. awaited_run (eval t.plan) t.trace.handed t.values then remaining_run t.plan t.origin t.trace.handed t.remaining
 
 pub faulted-answer : (t : Task) → IsTask t → (f : Fault) → t.trace.fault ≡ Some f → IsEval t.plan t.origin t.trace.prefix (outcome.Fault f)
 faulted-answer t is f h =
@@ -84,7 +84,7 @@ faulted-answer t is f h =
 pub faulted-known : (t : Task) → IsTask t → (f : Fault) → t.trace.fault ≡ Some f → IsFaultOf t.plan (outcome.Fault f)
 faulted-known t is f h = subst (λ (q : Evaluation). EndsWithin (faults t.plan) q.ending) (sym (faulted-same t is f h)) (origins_end_within_faults t.plan t.origin is.known)
 
-pub answers-by : (b : Body) (w : Work) (prefix : List Event) (f : Fault) → IsSound b w → prefix ≡ b.trace.prefix → b.trace.fault ≡ Some f → IsEval b.family.plan b.family.origin prefix (outcome.Fault f)
+pub answers-by : (b : TaskState) (w : Remaining) (prefix : List Event) (f : Fault) → IsSound b w → prefix ≡ b.trace.prefix → b.trace.fault ≡ Some f → IsEval b.family.plan b.family.origin prefix (outcome.Fault f)
 answers-by b w prefix f sound same h = subst (λ (es : List Event). IsEval b.family.plan b.family.origin es (outcome.Fault f)) (sym same) (faulted-answer (task_of b w) sound.task f h)
 
 -- The call
@@ -124,7 +124,7 @@ not-none v begun after ts t same on tagged err none =
     last-err v.task.plan v.task.trace.handed ts t tagged err (record v.task.trace { handed = [] }) (ap (λ (w : TaskView). w.task.trace.fault) (sym is) ∙ none)
 
 -- the answer of the task after them is the task's own
-pub ends-by : (b : Body) (w : Work) (v begun after : TaskView) → begun ≡ v → after ≡ view_on begun → view_of b w ≡ after → IsSound b w → (f : Fault) → b.trace.fault ≡ Some f →
+pub ends-by : (b : TaskState) (w : Remaining) (v begun after : TaskView) → begun ≡ v → after ≡ view_on begun → view_of b w ≡ after → IsSound b w → (f : Fault) → b.trace.fault ≡ Some f →
     (out : List Event) (answer : AnswerView) (by : AnswerTag) → answer ≡ record { plan = b.family.plan; origin = b.family.origin; out = out; outcome = outcome.Fault f } → by ≡ tag b.family.plan b.family.origin →
     EndsByFault v answer by
 ends-by b w v begun after same on view sound f h out answer by e g =

@@ -14,43 +14,43 @@ use Rattle.serial_meaning.specs.declared.origin.Origin.{Origin}
 use Rattle.serial_meaning.specs.declared.answer.Outcome.{Outcome}
 use Rattle.strand_meaning.specs.Machine as machine
 use Rattle.strand_meaning.specs.Machine.{Half}
-use Rattle.strand_meaning.specs.Trace.{AwaitedChild, Trace, heard_all}
+use Rattle.strand_meaning.specs.Trace.{AwaitedChild, Trace, merged_answers}
 use Rattle.strand_meaning.specs.Laws.{AnswersKeepTasks}
 use Rattle.strand_meaning.specs.Rest.{evaluations}
 use Rattle.strand_meaning.specs.Sound.{IsTask}
 use Rattle.strand_meaning.specs.Task as meaning
-use Rattle.strand_meaning.specs.Task.{Splits, Runs, Finished, Task, changed, frame_with_answer, with_values, joins, resumed, takes, takes_all, more_values, all_values, resumed_work, on, own_instance}
+use Rattle.strand_meaning.specs.Task.{Splits, Runs, Finished, Task, changed, frame_with_answer, with_values, pass_sync, resumed, takes, takes_all, more_values, all_values, resumed_remaining, on, own_instance}
 use Rattle.strand_machine.specs.Family.{FamilyView, HasPassed, HasStopped, tags, origins}
-use Rattle.strand_machine.specs.Merge.{BecomesStage, BecomesWork, Merge, Stands, Takes, HasTakenAnswers, Works, with_stage, trace_of, meanings}
-use Rattle.strand_machine.specs.Parts.{awaited, awaited_children, destination_of}
+use Rattle.strand_machine.specs.Merge.{BecomesStage, BecomesRemaining, Merge, IsStageOfPlan, IsMergeOf, HasTakenAnswers, IsRemainingOfPlan, with_stage, trace_of, meanings}
+use Rattle.strand_machine.specs.AwaitedChildren.{awaited, awaited_children, destination_of}
 use Rattle.strand_meaning.specs.Cuts.{AreAnswersOf}
-use Rattle.strand_machine.specs.Stops.{IsCutOn, IsOn, ResumesBy, WentOn, any_cut, view_on}
+use Rattle.strand_machine.specs.Stops.{WentOn, any_cut, looked, view_on}
 use Rattle.strand_moves.specs.Machines.{IsInstance, machine_of, path_of}
 use Rattle.strand_moves.specs.declared.instance.Instance.{Instance}
-use Rattle.strand_machine.specs.Tasks.{TaskView, cut_of, work_of, task_of, view_of, AwaitsLast, IsSound, RunsAt, StandsAt, WorksAt}
-use Rattle.strand_machine.specs.declared.body.Body.{Body}
+use Rattle.strand_machine.specs.Tasks.{TaskView, cut_of, remaining_of, task_of, view_of, AwaitsLast, IsSound, RunsAt, StandsAt, RemainsAt}
+use Rattle.strand_machine.specs.declared.task_state.TaskState.{TaskState}
 use Rattle.strand_machine.specs.declared.trace.AfterChild.{AfterChild}
 use Rattle.strand_machine.specs.declared.destination.Destination.{Destination}
 use Rattle.strand_machine.specs.declared.destination.Destination.TheVariants as destination
-use Rattle.strand_machine.specs.declared.work.InstanceState.{InstanceState}
-use Rattle.strand_machine.specs.declared.work.InstanceState.TheVariants as stage
-use Rattle.strand_machine.specs.declared.work.Work.{Work}
-use Rattle.strand_machine.specs.declared.work.Work.TheVariants as work
+use Rattle.strand_machine.specs.declared.remaining.Stage.{Stage}
+use Rattle.strand_machine.specs.declared.remaining.Stage.TheVariants as stage
+use Rattle.strand_machine.specs.declared.remaining.Remaining.{Remaining}
+use Rattle.strand_machine.specs.declared.remaining.Remaining.TheVariants as remaining
 use Rattle.strand_machine.proofs.TakenAnswers.Answering.{origins-tags, awaits-count, taken-length}
-use Rattle.strand_machine.proofs.Moves.Dispatch.{works-on}
+use Rattle.strand_machine.proofs.Moves.Dispatch.{of_plan-on}
 use Rattle.strand_machine.proofs.Moves.Handed.{awaited_parts}
 
-pub same-stage : (w : meaning.Work) → with_stage (λ s. s) w ≡ w
+pub same-stage : (w : meaning.Remaining) → with_stage (λ s. s) w ≡ w
 same-stage (Splits left) = refl
 same-stage (Runs stage) = refl
 same-stage (Finished v gone_on) = refl
 
-two-stages : (f g : meaning.InstanceState → meaning.InstanceState) (w : meaning.Work) → with_stage g (with_stage f w) ≡ with_stage (λ s. g (f s)) w
+two-stages : (f g : meaning.Stage → meaning.Stage) (w : meaning.Remaining) → with_stage g (with_stage f w) ≡ with_stage (λ s. g (f s)) w
 two-stages f g (Splits left) = refl
 two-stages f g (Runs stage) = refl
 two-stages f g (Finished v gone_on) = refl
 
-resumed-stage : (ps : List AwaitedChild) (es : List Evaluation) (w : meaning.Work) → resumed_work [] [] (with_stage (takes_all ps es) w) ≡ resumed_work ps es w
+resumed-stage : (ps : List AwaitedChild) (es : List Evaluation) (w : meaning.Remaining) → resumed_remaining [] [] (with_stage (takes_all ps es) w) ≡ resumed_remaining ps es w
 resumed-stage ps es (Splits left) = refl
 resumed-stage ps es (Runs stage) = refl
 resumed-stage ps es (Finished v gone_on) = refl
@@ -68,7 +68,7 @@ values-taken plan target t values given before after to is e =
     e ∙ ap (λ (x : Option Name). with_values x given (machine_of plan before)) to ∙ ap (λ (x : List Value). with_values target x (machine_of plan before)) is
 
 -- An instance that remains is one of the plan.
-module _ (plan : PlanView) (s : InstanceState) (i : Instance) (h : Stands plan s) where
+module _ (plan : PlanView) (s : Stage) (i : Instance) (h : IsStageOfPlan plan s) where
   pub goes-of : s ≡ stage.Running i → IsInstance plan i
   goes-of is = let at : RunsAt plan h.0 i = subst (StandsAt plan h.0) is h.1 in at.sound
 
@@ -78,35 +78,35 @@ module _ (plan : PlanView) (s : InstanceState) (i : Instance) (h : Stands plan s
   pub loop-of : s ≡ stage.AtLoop i → IsInstance plan i
   loop-of is = let at : RunsAt plan h.0 i = subst (StandsAt plan h.0) is h.1 in at.sound
 
-pub stands-of : (plan : PlanView) (w : Work) (s : InstanceState) → Works plan w → w ≡ work.Runs s → Stands plan s
-stands-of plan w s h is = (origins-of.path_of (own_instance h.0), subst (WorksAt plan h.0) is h.1)
+pub stands-of : (plan : PlanView) (w : Remaining) (s : Stage) → IsRemainingOfPlan plan w → w ≡ remaining.Runs s → IsStageOfPlan plan s
+stands-of plan w s h is = (origins-of.path_of (own_instance h.0), subst (RemainsAt plan h.0) is h.1)
 
 -- A stage
 
-module _ (change : meaning.InstanceState → meaning.InstanceState) (f : machine.Machine → machine.Machine) (s : InstanceState) (i j : Instance) where
+module _ (change : meaning.Stage → meaning.Stage) (f : machine.Machine → machine.Machine) (s : Stage) (i j : Instance) where
   pub at-goes : ((m : machine.Machine) → change (meaning.Running m) ≡ meaning.Running (f m)) → s ≡ stage.Running i → ((plan : PlanView) → machine_of plan j ≡ f (machine_of plan i)) →
       path_of j ≡ path_of i → ((plan : PlanView) → IsInstance plan i → IsInstance plan j) → BecomesStage change s (stage.Running j)
-  at-goes meant is made path sound = subst (λ (x : InstanceState). BecomesStage change x (stage.Running j)) (sym is) (record {
+  at-goes meant is made path sound = subst (λ (x : Stage). BecomesStage change x (stage.Running j)) (sym is) (record {
     is = λ plan. ap (λ m. meaning.Running m) (made plan) ∙ sym (meant (machine_of plan i));
     stands = λ plan at h. record { sound = sound plan h.sound; at = path ∙ h.at };
   })
 
   pub at-sync : ((m : machine.Machine) → change (meaning.AtSync m) ≡ meaning.AtSync (f m)) → s ≡ stage.AtSync i → ((plan : PlanView) → machine_of plan j ≡ f (machine_of plan i)) →
       path_of j ≡ path_of i → ((plan : PlanView) → IsInstance plan i → IsInstance plan j) → BecomesStage change s (stage.AtSync j)
-  at-sync meant is made path sound = subst (λ (x : InstanceState). BecomesStage change x (stage.AtSync j)) (sym is) (record {
+  at-sync meant is made path sound = subst (λ (x : Stage). BecomesStage change x (stage.AtSync j)) (sym is) (record {
     is = λ plan. ap (λ m. meaning.AtSync m) (made plan) ∙ sym (meant (machine_of plan i));
     stands = λ plan at h. record { sound = sound plan h.sound; at = path ∙ h.at };
   })
 
   pub at-loop : ((m : machine.Machine) → change (meaning.AtLoop m) ≡ meaning.AtLoop (f m)) → s ≡ stage.AtLoop i → ((plan : PlanView) → machine_of plan j ≡ f (machine_of plan i)) →
       path_of j ≡ path_of i → ((plan : PlanView) → IsInstance plan i → IsInstance plan j) → BecomesStage change s (stage.AtLoop j)
-  at-loop meant is made path sound = subst (λ (x : InstanceState). BecomesStage change x (stage.AtLoop j)) (sym is) (record {
+  at-loop meant is made path sound = subst (λ (x : Stage). BecomesStage change x (stage.AtLoop j)) (sym is) (record {
     is = λ plan. ap (λ m. meaning.AtLoop m) (made plan) ∙ sym (meant (machine_of plan i));
     stands = λ plan at h. record { sound = sound plan h.sound; at = path ∙ h.at };
   })
 
 -- The same where it is the values of a loop that are taken.
-module _ (ending : Result (List Value) Fault) (target t : Option Name) (values given : List Value) (s : InstanceState) (i j : Instance) where
+module _ (ending : Result (List Value) Fault) (target t : Option Name) (values given : List Value) (s : Stage) (i j : Instance) where
   pub loops-goes : ending ≡ Ok values → t ≡ target → given ≡ values → s ≡ stage.Running i → ((plan : PlanView) → machine_of plan j ≡ with_values t given (machine_of plan i)) →
       path_of j ≡ path_of i → ((plan : PlanView) → IsInstance plan i → IsInstance plan j) → BecomesStage (takes (machine.Looped target) ending) s (stage.Running j)
   loops-goes is to same at made path sound =
@@ -127,35 +127,35 @@ module _ (ending : Result (List Value) Fault) (target t : Option Name) (values g
 
 pub joins-none : (i : Instance) (r : Option (Bor Fault)) → ((plan : PlanView) → option_copied r ≡ (machine_of plan i).top.faulted) → r ≡ None → BecomesStage resumed (stage.AtSync i) (stage.Running i)
 joins-none i r h e = record {
-  is = λ plan. sym (ap (λ f. joins f (machine_of plan i)) (sym (h plan) ∙ ap option_copied e));
+  is = λ plan. sym (ap (λ f. pass_sync f (machine_of plan i)) (sym (h plan) ∙ ap option_copied e));
   stands = λ plan path k. k;
 }
 
 pub joins-some : (i : Instance) (r : Option (Bor Fault)) (b : Bor Fault) (fault : Fault) → ((plan : PlanView) → option_copied r ≡ (machine_of plan i).top.faulted) → r ≡ Some b → fault ≡ b.now →
     BecomesStage resumed (stage.AtSync i) (stage.ChildFaulted fault)
 joins-some i r b fault h e same = record {
-  is = λ plan. sym (ap (λ f. joins f (machine_of plan i)) (sym (h plan) ∙ ap option_copied e ∙ ap (λ (x : Fault). Some x) (sym same)));
+  is = λ plan. sym (ap (λ f. pass_sync f (machine_of plan i)) (sym (h plan) ∙ ap option_copied e ∙ ap (λ (x : Fault). Some x) (sym same)));
   stands = λ plan path k. tt;
 }
 
-pub runs-on : (w : Work) (before after : InstanceState) → w ≡ work.Runs before → BecomesStage resumed before after → BecomesWork (resumed_work [] []) w (work.Runs after)
-runs-on w before after is h = subst (λ (x : Work). BecomesWork (resumed_work [] []) x (work.Runs after)) (sym is) (record {
+pub runs-on : (w : Remaining) (before after : Stage) → w ≡ remaining.Runs before → BecomesStage resumed before after → BecomesRemaining (resumed_remaining [] []) w (remaining.Runs after)
+runs-on w before after is h = subst (λ (x : Remaining). BecomesRemaining (resumed_remaining [] []) x (remaining.Runs after)) (sym is) (record {
   is = λ plan. ap (λ s. meaning.Runs s) (h.is plan);
-  works = λ plan o k. h.stands plan (origins-of.path_of (own_instance o)) k;
+  of_plan = λ plan o k. h.stands plan (origins-of.path_of (own_instance o)) k;
 })
 
 -- the stage after an answer, by the child's place
-pub placed : (p : Destination) (q : machine.Destination) (ending : Result (List Value) Fault) (before after : InstanceState) → destination_of p ≡ q → BecomesStage (takes q ending) before after → BecomesStage (takes (destination_of p) ending) before after
+pub placed : (p : Destination) (q : machine.Destination) (ending : Result (List Value) Fault) (before after : Stage) → destination_of p ≡ q → BecomesStage (takes q ending) before after → BecomesStage (takes (destination_of p) ending) before after
 placed p q ending before after at h = subst (λ (x : machine.Destination). BecomesStage (takes x ending) before after) (sym at) h
 
 -- what remains is an instance, whose stage changed
-pub runs-taken : (change : meaning.InstanceState → meaning.InstanceState) (w : Work) (before after : InstanceState) → w ≡ work.Runs before → BecomesStage change before after → BecomesWork (with_stage change) w (work.Runs after)
-runs-taken change w before after is h = subst (λ (x : Work). BecomesWork (with_stage change) x (work.Runs after)) (sym is) (record {
+pub runs-taken : (change : meaning.Stage → meaning.Stage) (w : Remaining) (before after : Stage) → w ≡ remaining.Runs before → BecomesStage change before after → BecomesRemaining (with_stage change) w (remaining.Runs after)
+runs-taken change w before after is h = subst (λ (x : Remaining). BecomesRemaining (with_stage change) x (remaining.Runs after)) (sym is) (record {
   is = λ plan. ap (λ s. meaning.Runs s) (h.is plan);
-  works = λ plan o k. h.stands plan (origins-of.path_of (own_instance o)) k;
+  of_plan = λ plan o k. h.stands plan (origins-of.path_of (own_instance o)) k;
 })
 
-pub stage-stays : (ending : Result (List Value) Fault) (s : InstanceState) → BecomesStage (takes Half ending) s s
+pub stage-stays : (ending : Result (List Value) Fault) (s : Stage) → BecomesStage (takes Half ending) s s
 stage-stays ending s = record { is = λ plan. refl; stands = λ plan path h. h }
 
 pub on-ok : {A E : Type 0} (r : Result A E) (P Q : Type 0) → (P → Q) → OnOk r P → OnOk r Q
@@ -179,22 +179,22 @@ other-values destination.Half h ending values = absurd (h refl)
 
 -- One child, and then the others
 
-pub takes-then : (p : AwaitedChild) (ps : List AwaitedChild) (e : Evaluation) (es : List Evaluation) (before between after : Merge) → Takes (p ∷ []) (e ∷ []) before between → Takes ps es between after →
-    Takes (p ∷ ps) (e ∷ es) before after
+pub takes-then : (p : AwaitedChild) (ps : List AwaitedChild) (e : Evaluation) (es : List Evaluation) (before between after : Merge) → IsMergeOf (p ∷ []) (e ∷ []) before between → IsMergeOf ps es between after →
+    IsMergeOf (p ∷ ps) (e ∷ es) before after
 takes-then p ps e es before between after h k = record {
-  trace = k.trace ∙ ap (heard_all ps es) h.trace;
+  trace = k.trace ∙ ap (merged_answers ps es) h.trace;
   values = k.values ∙ ap (all_values ps es) h.values;
-  work = record {
-    is = λ plan. k.work.is plan ∙ ap (with_stage (takes_all ps es)) (h.work.is plan) ∙ two-stages (takes p.destination e.ending) (takes_all ps es) (work_of plan before.work);
-    works = λ plan o w. k.work.works plan o (h.work.works plan o w);
+  remaining = record {
+    is = λ plan. k.remaining.is plan ∙ ap (with_stage (takes_all ps es)) (h.remaining.is plan) ∙ two-stages (takes p.destination e.ending) (takes_all ps es) (remaining_of plan before.remaining);
+    of_plan = λ plan o w. k.remaining.of_plan plan o (h.remaining.of_plan plan o w);
   };
 }
 
-pub takes-none : (g : Merge) → Takes [] [] g g
+pub takes-none : (g : Merge) → IsMergeOf [] [] g g
 takes-none g = record {
   trace = refl;
   values = refl;
-  work = record { is = λ plan. sym (same-stage (work_of plan g.work)); works = λ plan o h. h };
+  remaining = record { is = λ plan. sym (same-stage (remaining_of plan g.remaining)); of_plan = λ plan o h. h };
 }
 
 -- All children
@@ -206,65 +206,65 @@ meanings-tags plan (o ∷ os) (b ∷ bs) h = ap (λ es. eval plan o ∷ es) (mea
 
 -- answers with the children's tags are the children's evaluations
 pub takes-awaited : (plan : PlanView) (os : List Origin) (bs : List AfterChild) (ts : List AnswerTag) (before after : Merge) → length os ≡ length bs → ts ≡ tags plan (awaited (awaited_children os bs)) →
-    Takes (awaited_children (origins ts) bs) (meanings ts) before after → Takes (awaited_children os bs) (evaluations (eval plan) (awaited_children os bs)) before after
+    IsMergeOf (awaited_children (origins ts) bs) (meanings ts) before after → IsMergeOf (awaited_children os bs) (evaluations (eval plan) (awaited_children os bs)) before after
 takes-awaited plan os bs ts before after same are h =
     let all : ts ≡ tags plan os = are ∙ ap (tags plan) (awaited_parts os bs same) in
     let children : origins ts ≡ os = ap origins all ∙ origins-tags plan os in
     let answers : meanings ts ≡ evaluations (eval plan) (awaited_children os bs) = ap meanings all ∙ meanings-tags plan os bs same in
-    subst (λ es. Takes (awaited_children os bs) es before after) answers (subst (λ cs. Takes (awaited_children cs bs) (meanings ts) before after) children h)
+    subst (λ es. IsMergeOf (awaited_children os bs) es before after) answers (subst (λ cs. IsMergeOf (awaited_children cs bs) (meanings ts) before after) children h)
 
 -- the task with the answers of its children, once its wait is over
-pub goes-on : (t : Task) (before after : Merge) (rest : Work) → trace_of before ≡ record t.trace { handed = [] } → before.values ≡ t.values → work_of t.plan before.work ≡ t.work →
-    Takes t.trace.handed (evaluations (eval t.plan) t.trace.handed) before after → BecomesWork (resumed_work [] []) after.work rest →
-    ◌≡◌ {A = Task} (record t { trace = trace_of after; values = after.values; work = work_of t.plan rest; waiting = false }) (on (evaluations (eval t.plan) t.trace.handed) t)
-goes-on t before after rest trace values work h over =
+pub goes-on : (t : Task) (before after : Merge) (rest : Remaining) → trace_of before ≡ record t.trace { handed = [] } → before.values ≡ t.values → remaining_of t.plan before.remaining ≡ t.remaining →
+    IsMergeOf t.trace.handed (evaluations (eval t.plan) t.trace.handed) before after → BecomesRemaining (resumed_remaining [] []) after.remaining rest →
+    ◌≡◌ {A = Task} (record t { trace = trace_of after; values = after.values; remaining = remaining_of t.plan rest; waiting = false }) (on (evaluations (eval t.plan) t.trace.handed) t)
+goes-on t before after rest trace values remaining h over =
     let ps = t.trace.handed in
     let es = evaluations (eval t.plan) ps in
-    let prefix : trace_of after ≡ heard_all ps es (record t.trace { handed = [] }) = h.trace ∙ ap (heard_all ps es) trace in
+    let prefix : trace_of after ≡ merged_answers ps es (record t.trace { handed = [] }) = h.trace ∙ ap (merged_answers ps es) trace in
     let given : after.values ≡ all_values ps es t.values = h.values ∙ ap (all_values ps es) values in
-    let left : work_of t.plan rest ≡ resumed_work ps es t.work =
-    over.is t.plan ∙ ap (resumed_work [] []) (h.work.is t.plan) ∙ resumed-stage ps es (work_of t.plan before.work) ∙ ap (resumed_work ps es) work in
-    ap (λ (p : Trace). record t { trace = p; values = after.values; work = work_of t.plan rest; waiting = false }) prefix
-    ∙ ap (λ (vs : List Value). record t { trace = heard_all ps es (record t.trace { handed = [] }); values = vs; work = work_of t.plan rest; waiting = false }) given
-    ∙ ap (λ (w : meaning.Work). record t { trace = heard_all ps es (record t.trace { handed = [] }); values = all_values ps es t.values; work = w; waiting = false }) left
+    let left : remaining_of t.plan rest ≡ resumed_remaining ps es t.remaining =
+    over.is t.plan ∙ ap (resumed_remaining [] []) (h.remaining.is t.plan) ∙ resumed-stage ps es (remaining_of t.plan before.remaining) ∙ ap (resumed_remaining ps es) remaining in
+    ap (λ (p : Trace). record t { trace = p; values = after.values; remaining = remaining_of t.plan rest; waiting = false }) prefix
+    ∙ ap (λ (vs : List Value). record t { trace = merged_answers ps es (record t.trace { handed = [] }); values = vs; remaining = remaining_of t.plan rest; waiting = false }) given
+    ∙ ap (λ (w : meaning.Remaining). record t { trace = merged_answers ps es (record t.trace { handed = [] }); values = all_values ps es t.values; remaining = w; waiting = false }) left
 
 -- The task after its wait
 
-abbrev pub begins : Body → Work → Merge
-begins b w = record { prefix = b.trace.prefix; fault = b.trace.fault; values = b.values; work = w; cut = false; by_cut = false }
+abbrev pub begins : TaskState → Remaining → Merge
+begins b w = record { prefix = b.trace.prefix; fault = b.trace.fault; values = b.values; remaining = w; cut = false; by_cut = false }
 
-module _ (b : Body) (w : Work) (os : List Origin) (bs : List AfterChild) (ts : List AnswerTag) (after : Merge) (rest : Work) where
-  abbrev next-body : Body
-  next-body = record b { trace = trace_of after; values = after.values; waiting = false }
+module _ (b : TaskState) (w : Remaining) (os : List Origin) (bs : List AfterChild) (ts : List AnswerTag) (after : Merge) (rest : Remaining) where
+  abbrev next-state : TaskState
+  next-state = record b { trace = trace_of after; values = after.values; waiting = false }
 
-  task-on : awaited_children os bs ≡ b.trace.handed → length os ≡ length bs → ts ≡ tags b.family.plan (awaited b.trace.handed) → Takes (awaited_children (origins ts) bs) (meanings ts) (begins b w) after →
-      BecomesWork (resumed_work [] []) after.work rest → task_of next-body rest ≡ on (evaluations (eval b.family.plan) b.trace.handed) (task_of b w)
+  task-on : awaited_children os bs ≡ b.trace.handed → length os ≡ length bs → ts ≡ tags b.family.plan (awaited b.trace.handed) → IsMergeOf (awaited_children (origins ts) bs) (meanings ts) (begins b w) after →
+      BecomesRemaining (resumed_remaining [] []) after.remaining rest → task_of next-state rest ≡ on (evaluations (eval b.family.plan) b.trace.handed) (task_of b w)
   task-on parts same are h over =
       let plan = b.family.plan in
       let tagged : ts ≡ tags plan (awaited (awaited_children os bs)) = are ∙ ap (λ (ps : List AwaitedChild). tags plan (awaited ps)) (sym parts) in
-      let taken : Takes b.trace.handed (evaluations (eval plan) b.trace.handed) (begins b w) after =
-      subst (λ (ps : List AwaitedChild). Takes ps (evaluations (eval plan) ps) (begins b w) after) parts (takes-awaited plan os bs ts (begins b w) after same tagged h) in
+      let taken : IsMergeOf b.trace.handed (evaluations (eval plan) b.trace.handed) (begins b w) after =
+      subst (λ (ps : List AwaitedChild). IsMergeOf ps (evaluations (eval plan) ps) (begins b w) after) parts (takes-awaited plan os bs ts (begins b w) after same tagged h) in
       goes-on (task_of b w) (begins b w) after rest refl refl refl taken over
 
-  pub goes-on-view : awaited_children os bs ≡ b.trace.handed → length os ≡ length bs → ts ≡ tags b.family.plan (awaited b.trace.handed) → Takes (awaited_children (origins ts) bs) (meanings ts) (begins b w) after →
-      BecomesWork (resumed_work [] []) after.work rest → HasTakenAnswers b w → view_of next-body rest ≡ view_on (view_of b w)
+  pub goes-on-view : awaited_children os bs ≡ b.trace.handed → length os ≡ length bs → ts ≡ tags b.family.plan (awaited b.trace.handed) → IsMergeOf (awaited_children (origins ts) bs) (meanings ts) (begins b w) after →
+      BecomesRemaining (resumed_remaining [] []) after.remaining rest → HasTakenAnswers b w → view_of next-state rest ≡ view_on (view_of b w)
   goes-on-view parts same are h over sound =
       let plan = b.family.plan in
-      let uncut : cut_of rest ≡ cut_of w = works-on plan b.family.origin rest (over.works plan _ (h.work.works plan _ sound.works)) ∙ sym (works-on plan b.family.origin w sound.works) in
+      let uncut : cut_of rest ≡ cut_of w = of_plan-on plan b.family.origin rest (over.of_plan plan _ (h.remaining.of_plan plan _ sound.of_plan)) ∙ sym (of_plan-on plan b.family.origin w sound.of_plan) in
       ap (λ (t : Task). record (view_of b w) { task = t; cut = cut_of rest }) (task-on parts same are h over) ∙ ap (λ (o : Option Outcome). record (view_on (view_of b w)) { cut = o }) uncut
 
-  pub goes-on-sound : awaited_children os bs ≡ b.trace.handed → length os ≡ length bs → ts ≡ tags b.family.plan (awaited b.trace.handed) → Takes (awaited_children (origins ts) bs) (meanings ts) (begins b w) after →
-      BecomesWork (resumed_work [] []) after.work rest → AnswersKeepTasks → HasTakenAnswers b w → IsSound next-body rest
+  pub goes-on-sound : awaited_children os bs ≡ b.trace.handed → length os ≡ length bs → ts ≡ tags b.family.plan (awaited b.trace.handed) → IsMergeOf (awaited_children (origins ts) bs) (meanings ts) (begins b w) after →
+      BecomesRemaining (resumed_remaining [] []) after.remaining rest → AnswersKeepTasks → HasTakenAnswers b w → IsSound next-state rest
   goes-on-sound parts same are h over law sound =
       let plan = b.family.plan in
       record {
         task = subst IsTask (sym (task-on parts same are h over)) (law (task_of b w) sound.task);
         family = record { before = b.family.children; passed = b.family.taken; same = sound.taken; children = sym (append-nil b.family.children); taken = sym (append-nil b.family.taken) };
-        works = over.works plan _ (h.work.works plan _ sound.works);
+        of_plan = over.of_plan plan _ (h.remaining.of_plan plan _ sound.of_plan);
       }
 
-pub answered-sound : (b : Body) (w : Work) → IsSound b w → HasTakenAnswers b w
-answered-sound b w h = record { task = h.task; taken = taken-length b.family _ (awaits-count b.family b.trace.handed h.family); works = h.works }
+pub answered-sound : (b : TaskState) (w : Remaining) → IsSound b w → HasTakenAnswers b w
+answered-sound b w h = record { task = h.task; taken = taken-length b.family _ (awaits-count b.family b.trace.handed h.family); of_plan = h.of_plan }
 
 -- Looks
 
@@ -274,22 +274,22 @@ looked-last f g ps ready loads e h =
     subst (λ (x : FamilyView). AwaitsLast x ps) (sym e) there
 
 -- a look that finds no answers leaves the task as it was
-pub looked-sound : (b : Body) (w : Work) (g : FamilyView) (ready : Bool) (loads : List ℕ) → g ≡ record b.family { ready = ready; loads = loads } → IsSound b w → IsSound (record b { family = g }) w
+pub looked-sound : (b : TaskState) (w : Remaining) (g : FamilyView) (ready : Bool) (loads : List ℕ) → g ≡ record b.family { ready = ready; loads = loads } → IsSound b w → IsSound (record b { family = g }) w
 looked-sound b w g ready loads e h =
     let there : IsSound (record b { family = record b.family { ready = ready; loads = loads } }) w =
-    record { task = h.task; family = looked-last b.family (record b.family { ready = ready; loads = loads }) b.trace.handed ready loads refl h.family; works = h.works } in
+    record { task = h.task; family = looked-last b.family (record b.family { ready = ready; loads = loads }) b.trace.handed ready loads refl h.family; of_plan = h.of_plan } in
     subst (λ (x : FamilyView). IsSound (record b { family = x }) w) (sym e) there
 
 -- a look that finds all answers, and the answers taken
-pub taken-answered : (b : Body) (w : Work) (g k : FamilyView) (ready : Bool) (loads : List ℕ) → g ≡ record b.family { ready = ready; loads = loads } → k ≡ record g { taken = k.taken } →
+pub taken-answered : (b : TaskState) (w : Remaining) (g k : FamilyView) (ready : Bool) (loads : List ℕ) → g ≡ record b.family { ready = ready; loads = loads } → k ≡ record g { taken = k.taken } →
     length k.taken ≡ length g.taken → IsSound b w → HasTakenAnswers (record b { family = k }) w
 taken-answered b w g k ready loads e d same h =
     let looked = looked-sound b w g ready loads e h in
     let whole = answered-sound (record b { family = g }) w looked in
-    let there : HasTakenAnswers (record b { family = record g { taken = k.taken } }) w = record { task = whole.task; taken = same ∙ whole.taken; works = whole.works } in
+    let there : HasTakenAnswers (record b { family = record g { taken = k.taken } }) w = record { task = whole.task; taken = same ∙ whole.taken; of_plan = whole.of_plan } in
     subst (λ (x : FamilyView). HasTakenAnswers (record b { family = x }) w) (sym d) there
 
-pub looked-same : (b : Body) (w : Work) (g : FamilyView) (ready : Bool) (loads : List ℕ) → g ≡ record b.family { ready = ready; loads = loads } → (t : TaskView) → view_of b w ≡ t → HasStopped b.family.loads g.loads →
+pub looked-same : (b : TaskState) (w : Remaining) (g : FamilyView) (ready : Bool) (loads : List ℕ) → g ≡ record b.family { ready = ready; loads = loads } → (t : TaskView) → view_of b w ≡ t → HasStopped b.family.loads g.loads →
     (task_of (record b { family = g }) w ≡ t.task) × (g.children ≡ t.children) × HasStopped t.loads g.loads × (cut_of w ≡ t.cut)
 looked-same b w g ready loads e t view stopped = (
   ap (λ (f : FamilyView). task_of (record b { family = f }) w) e ∙ ap (λ (v : TaskView). v.task) view,
@@ -299,17 +299,17 @@ looked-same b w g ready loads e t view stopped = (
 )
 
 -- with the numbers that the look has loaded
-taken-view : (b : Body) (w : Work) (g k : FamilyView) (ready : Bool) (loads : List ℕ) → g ≡ record b.family { ready = ready; loads = loads } → k ≡ record g { taken = k.taken } → (t : TaskView) → view_of b w ≡ t →
+taken-view : (b : TaskState) (w : Remaining) (g k : FamilyView) (ready : Bool) (loads : List ℕ) → g ≡ record b.family { ready = ready; loads = loads } → k ≡ record g { taken = k.taken } → (t : TaskView) → view_of b w ≡ t →
     view_of (record b { family = k }) w ≡ record t { loads = g.loads }
 taken-view b w g k ready loads e d t view =
     ap (λ (f : FamilyView). view_of (record b { family = f }) w) d
     ∙ ap (λ (f : FamilyView). record (view_of (record b { family = record f { taken = k.taken } }) w) { loads = g.loads }) e
     ∙ ap (λ (v : TaskView). record v { loads = g.loads }) view
 
-pub resumed-on : (b : Body) (w : Work) (g k : FamilyView) (ready : Bool) (loads : List ℕ) → g ≡ record b.family { ready = ready; loads = loads } → k ≡ record g { taken = k.taken } →
+pub resumed-on : (b : TaskState) (w : Remaining) (g k : FamilyView) (ready : Bool) (loads : List ℕ) → g ≡ record b.family { ready = ready; loads = loads } → k ≡ record g { taken = k.taken } →
     (t next : TaskView) → view_of b w ≡ t → t.cut ≡ None → (answers : List AnswerView) → AreAnswersOf k.plan b.trace.handed answers → WentOn answers (view_of (record b { family = k }) w) next → HasPassed b.family.loads g.loads →
-    (xs : List AnswerView) × AreAnswersOf t.task.plan t.task.trace.handed xs × ResumesBy xs t next × HasPassed t.loads next.loads
-resumed-on b w g k ready loads e d t next view goes answers are went-on passed = (answers, frame_with_answer, record { whole = λ none. (whole none).0; cut = λ is. (short is).0 }, by_cut (any_cut answers) refl)
+    (xs : List AnswerView) × AreAnswersOf t.task.plan t.task.trace.handed xs × WentOn xs (looked next.loads t) next × HasPassed t.loads next.loads
+resumed-on b w g k ready loads e d t next view goes answers are went-on passed = (answers, frame_with_answer, looks, read)
   where
     plan : k.plan ≡ t.task.plan
     plan = ap (λ (f : FamilyView). f.plan) d ∙ ap (λ (f : FamilyView). f.plan) e ∙ ap (λ (v : TaskView). v.task.plan) view
@@ -320,32 +320,15 @@ resumed-on b w g k ready loads e d t next view goes answers are went-on passed =
     there : WentOn answers (record t { loads = g.loads }) next
     there = subst (λ (v : TaskView). WentOn answers v next) (taken-view b w g k ready loads e d t view) went-on
 
-    read : next.loads ≡ g.loads → HasPassed t.loads next.loads
-    read same = subst (λ (l : List ℕ). HasPassed t.loads l) (sym same) (subst (λ (l : List ℕ). HasPassed l g.loads) (ap (λ (v : TaskView). v.loads) view) passed)
+    by_cut : (cut : Bool) → any_cut answers ≡ cut → next.loads ≡ g.loads
+    by_cut false none = ap (λ (v : TaskView). v.loads) (there.whole none)
+    by_cut true is = (there.cut is).1
 
-    whole : any_cut answers ≡ false → IsOn t next × HasPassed t.loads next.loads
-    whole none =
-        let h = there.whole none in (
-          record { task = ap (λ (v : TaskView). v.task) h; children = ap (λ (v : TaskView). v.children) h; cut = ap (λ (v : TaskView). v.cut) h ∙ goes },
-          read (ap (λ (v : TaskView). v.loads) h),
-        )
+    same : next.loads ≡ g.loads
+    same = by_cut (any_cut answers) refl
 
-    short : any_cut answers ≡ true → IsCutOn answers t next × HasPassed t.loads next.loads
-    short is =
-        let h = there.cut is in (
-          record {
-            plan = h.0.plan;
-            origin = h.0.origin;
-            prefix = h.0.prefix;
-            handed = h.0.handed;
-            waits = h.0.waits;
-            advanced = h.0.advanced;
-            cut = h.0.cut;
-            children = h.0.children;
-          },
-          read h.1,
-        )
+    looks : WentOn answers (looked next.loads t) next
+    looks = subst (λ (v : TaskView). WentOn answers v next) (ap (λ (l : List ℕ). record t { loads = l }) (sym same) ∙ ap (λ (o : Option Outcome). record t { loads = next.loads; cut = o }) goes) there
 
-    by_cut : (cut : Bool) → any_cut answers ≡ cut → HasPassed t.loads next.loads
-    by_cut false none = (whole none).1
-    by_cut true is = (short is).1
+    read : HasPassed t.loads next.loads
+    read = subst (λ (l : List ℕ). HasPassed t.loads l) (sym same) (subst (λ (l : List ℕ). HasPassed l g.loads) (ap (λ (v : TaskView). v.loads) view) passed)

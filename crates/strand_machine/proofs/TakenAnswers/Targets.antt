@@ -12,36 +12,36 @@ use Rattle.strand_meaning.specs.Task as meaning
 use Rattle.strand_meaning.specs.Task.{Splits, Runs, Finished, frame_with_answer, changed, changed_at, takes}
 use Rattle.strand_moves.specs.Machines.{machine_of}
 use Rattle.strand_moves.specs.declared.instance.Instance.{Instance}
-use Rattle.strand_machine.specs.Merge.{BecomesWork, StageFinds, WorkFinds, WorkFindsAll, with_stage}
-use Rattle.strand_machine.specs.Parts.{awaited_children, destination_of}
-use Rattle.strand_machine.specs.Tasks.{stage_of, work_of}
+use Rattle.strand_machine.specs.Merge.{BecomesRemaining, StageFinds, RemainingFinds, RemainingFindsAll, with_stage}
+use Rattle.strand_machine.specs.AwaitedChildren.{awaited_children, destination_of}
+use Rattle.strand_machine.specs.Tasks.{stage_of, remaining_of}
 use Rattle.strand_machine.specs.declared.trace.AfterChild.{AfterChild}
-use Rattle.strand_machine.specs.declared.work.InstanceState.{InstanceState}
-use Rattle.strand_machine.specs.declared.work.InstanceState.TheVariants as stage
-use Rattle.strand_machine.specs.declared.work.Work.{Work}
-use Rattle.strand_machine.specs.declared.work.Work.TheVariants as work
+use Rattle.strand_machine.specs.declared.remaining.Stage.{Stage}
+use Rattle.strand_machine.specs.declared.remaining.Stage.TheVariants as stage
+use Rattle.strand_machine.specs.declared.remaining.Remaining.{Remaining}
+use Rattle.strand_machine.specs.declared.remaining.Remaining.TheVariants as remaining
 
 -- An instance
 
-module _ (plan : PlanView) (s : InstanceState) (i : Instance) (destination : machine.Destination) (h : StageFinds plan destination (stage_of plan s)) where
+module _ (plan : PlanView) (s : Stage) (i : Instance) (destination : machine.Destination) (h : StageFinds plan destination (stage_of plan s)) where
   abbrev IsFound : Type 0
   IsFound = FindsDestination plan (functions_in (machine_of plan i)) destination
 
   pub goes-found : s ≡ stage.Running i → IsFound
-  goes-found is = subst (λ (y : InstanceState). StageFinds plan destination (stage_of plan y)) is h
+  goes-found is = subst (λ (y : Stage). StageFinds plan destination (stage_of plan y)) is h
 
   pub sync-found : s ≡ stage.AtSync i → IsFound
-  sync-found is = subst (λ (y : InstanceState). StageFinds plan destination (stage_of plan y)) is h
+  sync-found is = subst (λ (y : Stage). StageFinds plan destination (stage_of plan y)) is h
 
   pub loop-found : s ≡ stage.AtLoop i → IsFound
-  loop-found is = subst (λ (y : InstanceState). StageFinds plan destination (stage_of plan y)) is h
+  loop-found is = subst (λ (y : Stage). StageFinds plan destination (stage_of plan y)) is h
 
 -- the same by the child's place
-pub found-at : (plan : PlanView) (p q : machine.Destination) (s : meaning.InstanceState) → p ≡ q → StageFinds plan p s → StageFinds plan q s
+pub found-at : (plan : PlanView) (p q : machine.Destination) (s : meaning.Stage) → p ≡ q → StageFinds plan p s → StageFinds plan q s
 found-at plan p q s e h = subst (λ (r : machine.Destination). StageFinds plan r s) e h
 
-pub target-of : (plan : PlanView) (q : machine.Destination) (w : Work) (s : InstanceState) → w ≡ work.Runs s → WorkFinds plan q (work_of plan w) → StageFinds plan q (stage_of plan s)
-target-of plan q w s is h = subst (λ (x : Work). WorkFinds plan q (work_of plan x)) is h
+pub target-of : (plan : PlanView) (q : machine.Destination) (w : Remaining) (s : Stage) → w ≡ remaining.Runs s → RemainingFinds plan q (remaining_of plan w) → StageFinds plan q (stage_of plan s)
+target-of plan q w s is h = subst (λ (x : Remaining). RemainingFinds plan q (remaining_of plan x)) is h
 
 -- An answer changes no function of a frame
 
@@ -78,7 +78,7 @@ module _ (plan : PlanView) (destination : machine.Destination) where
   changed-found : (owner : ℕ) (to : Option Name) (q : Result (List Value) Fault) (m : Machine) → FindsDestination plan (functions_in m) destination → FindsDestination plan (functions_in (changed owner (frame_with_answer to q) m)) destination
   changed-found owner to q m h = subst (λ (fs : List ℕ). FindsDestination plan fs destination) (sym (changed-same owner (frame_with_answer to q) (answered-same to q) m)) h
 
-  stage-keeps : (p : machine.Destination) (q : Result (List Value) Fault) (s : meaning.InstanceState) → StageFinds plan destination s → StageFinds plan destination (takes p q s)
+  stage-keeps : (p : machine.Destination) (q : Result (List Value) Fault) (s : meaning.Stage) → StageFinds plan destination s → StageFinds plan destination (takes p q s)
   stage-keeps (Spawned owner to) q (meaning.Running m) h = changed-found owner to q m h
   stage-keeps (Spawned owner to) q (meaning.AtSync m) h = changed-found owner to q m h
   stage-keeps (Spawned owner to) q (meaning.AtLoop m) h = changed-found owner to q m h
@@ -90,21 +90,21 @@ module _ (plan : PlanView) (destination : machine.Destination) where
   stage-keeps (Looped to) (Err f) s h = none-found destination
   stage-keeps Half q s h = h
 
-  work-keeps : (p : machine.Destination) (q : Result (List Value) Fault) (w : meaning.Work) → WorkFinds plan destination w → WorkFinds plan destination (with_stage (takes p q) w)
-  work-keeps p q (Splits left) h = h
-  work-keeps p q (Runs s) h = stage-keeps p q s h
-  work-keeps p q (Finished v gone_on) h = h
+  remaining-keeps : (p : machine.Destination) (q : Result (List Value) Fault) (w : meaning.Remaining) → RemainingFinds plan destination w → RemainingFinds plan destination (with_stage (takes p q) w)
+  remaining-keeps p q (Splits left) h = h
+  remaining-keeps p q (Runs s) h = stage-keeps p q s h
+  remaining-keeps p q (Finished v gone_on) h = h
 
-all-keep : (plan : PlanView) (p : machine.Destination) (q : Result (List Value) Fault) (w : meaning.Work) (bs : List AfterChild) → WorkFindsAll plan bs w → WorkFindsAll plan bs (with_stage (takes p q) w)
+all-keep : (plan : PlanView) (p : machine.Destination) (q : Result (List Value) Fault) (w : meaning.Remaining) (bs : List AfterChild) → RemainingFindsAll plan bs w → RemainingFindsAll plan bs (with_stage (takes p q) w)
 all-keep plan p q w [] h = tt
-all-keep plan p q w (b ∷ bs) h = (work-keeps plan (destination_of b.destination) p q w h.0, all-keep plan p q w bs h.1)
+all-keep plan p q w (b ∷ bs) h = (remaining-keeps plan (destination_of b.destination) p q w h.0, all-keep plan p q w bs h.1)
 
-pub found-kept : (plan : PlanView) (p : machine.Destination) (q : Result (List Value) Fault) (before after : Work) (bs : List AfterChild) → BecomesWork (with_stage (takes p q)) before after →
-    WorkFindsAll plan bs (work_of plan before) → WorkFindsAll plan bs (work_of plan after)
-found-kept plan p q before after bs h found = subst (WorkFindsAll plan bs) (sym (h.is plan)) (all-keep plan p q (work_of plan before) bs found)
+pub found-kept : (plan : PlanView) (p : machine.Destination) (q : Result (List Value) Fault) (before after : Remaining) (bs : List AfterChild) → BecomesRemaining (with_stage (takes p q)) before after →
+    RemainingFindsAll plan bs (remaining_of plan before) → RemainingFindsAll plan bs (remaining_of plan after)
+found-kept plan p q before after bs h found = subst (RemainingFindsAll plan bs) (sym (h.is plan)) (all-keep plan p q (remaining_of plan before) bs found)
 
 -- At first those of all children are found.
-pub all-found : (plan : PlanView) (w : meaning.Work) (os : List Origin) (bs : List AfterChild) → length os ≡ length bs → FindsTargets plan (functions_left w) (awaited_children os bs) → WorkFindsAll plan bs w
+pub all-found : (plan : PlanView) (w : meaning.Remaining) (os : List Origin) (bs : List AfterChild) → length os ≡ length bs → FindsTargets plan (functions_left w) (awaited_children os bs) → RemainingFindsAll plan bs w
 all-found plan w [] [] same h = tt
 all-found plan w [] (b ∷ bs) same h = absurd (omega arith)
 all-found plan w (o ∷ os) [] same h = tt

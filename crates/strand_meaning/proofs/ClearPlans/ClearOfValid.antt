@@ -19,7 +19,7 @@ use Rattle.script_check.specs.Functions.{function_named}
 use Rattle.script_check.specs.Names as check
 use Rattle.script_check.specs.Names.{no_names, union, with_name, after_right}
 use Rattle.script_check.specs.Rules.{Declared, kind_of_variable, scalar_use, array_use, declaration, variable_twice, too_many_variables, array_length, let_in_a_block}
-use Rattle.script_check.specs.Expressions.{wanted, two_wanted, read}
+use Rattle.script_check.specs.Expressions.{wanted, two_wanted, reading_of}
 use Rattle.script_check.specs.Statements.{Context, context, Judged, judge, judge_what, judge_act, judge_all, read_right, wanted_as, target_use, loop_call_of, violations_each, block_violations, known_each, after}
 use Rattle.script_check.specs.Valid.{IsValid, known_params, param_violations, function_violations, all_function_violations, functions_twice, main_violations}
 use Rattle.script_check.specs.Functions.{main_name}
@@ -323,7 +323,7 @@ good-if at e a b g h = record {
       let last : violations_each (judge_all b) inner known p ≡ [] = subst (λ (m : Declared). violations_each (judge_all b) inner m p ≡ []) still (last-of context known p f) in
       let more = kept (union (after a p) (after b p)) all in
       Branches e a b more (opens at (act.If e a b))
-      (free-apart p (names_in e) all (read-free e known p (wanted-left Int (read e) known p (test-of context known p f))))
+      (free-apart p (names_in e) all (read-free e known p (wanted-left Int (reading_of e) known p (test-of context known p f))))
       (clear-ends more (kept-within (after a p) (union (after a p) (after b p)) all (λ y u. or-left (after a p y) (after b p y) u))
       (clears-all a g all (λ name c. w name (Contains-append_left (own-all a g) (own-all b h) name c)) inner known p k first))
       (clear-ends more (kept-within (after b p) (union (after a p) (after b p)) all (λ y u. or-right (after a p y) (after b p y) u))
@@ -333,18 +333,18 @@ good-if at e a b g h = record {
   where
     first-of : (context : Context) (known : Declared) (p : check.NameSet) → (judgement (act.If e a b) at).violations context known p ≡ [] → violations_each (judge_all a) (record context { in_block = true }) known p ≡ []
     first-of context known p f =
-        nothing_right (wanted Int (read e) known p) (block_violations (judge_all a) context known p)
-        (nothing_left (wanted Int (read e) known p ++ block_violations (judge_all a) context known p) (block_violations (judge_all b) context (known_each (judge_all a) context.functions known) p) f)
+        nothing_right (wanted Int (reading_of e) known p) (block_violations (judge_all a) context known p)
+        (nothing_left (wanted Int (reading_of e) known p ++ block_violations (judge_all a) context known p) (block_violations (judge_all b) context (known_each (judge_all a) context.functions known) p) f)
 
     last-of : (context : Context) (known : Declared) (p : check.NameSet) → (judgement (act.If e a b) at).violations context known p ≡ [] →
         violations_each (judge_all b) (record context { in_block = true }) (known_each (judge_all a) context.functions known) p ≡ []
     last-of context known p f =
-        nothing_right (wanted Int (read e) known p ++ block_violations (judge_all a) context known p) (block_violations (judge_all b) context (known_each (judge_all a) context.functions known) p) f
+        nothing_right (wanted Int (reading_of e) known p ++ block_violations (judge_all a) context known p) (block_violations (judge_all b) context (known_each (judge_all a) context.functions known) p) f
 
-    test-of : (context : Context) (known : Declared) (p : check.NameSet) → (judgement (act.If e a b) at).violations context known p ≡ [] → wanted Int (read e) known p ≡ []
+    test-of : (context : Context) (known : Declared) (p : check.NameSet) → (judgement (act.If e a b) at).violations context known p ≡ [] → wanted Int (reading_of e) known p ≡ []
     test-of context known p f =
-        nothing_left (wanted Int (read e) known p) (block_violations (judge_all a) context known p)
-        (nothing_left (wanted Int (read e) known p ++ block_violations (judge_all a) context known p) (block_violations (judge_all b) context (known_each (judge_all a) context.functions known) p) f)
+        nothing_left (wanted Int (reading_of e) known p) (block_violations (judge_all a) context known p)
+        (nothing_left (wanted Int (reading_of e) known p ++ block_violations (judge_all a) context known p) (block_violations (judge_all b) context (known_each (judge_all a) context.functions known) p) f)
 
     either-known : (x y z : Bool) → (x || y) ≡ true → (x ≡ true → z ≡ true) → (y ≡ true → z ≡ true) → z ≡ true
     either-known true y z t u v = u refl
@@ -358,14 +358,14 @@ good-while at e a g = record {
   clears = λ all w context known p k f sts ends rest.
       let q : check.NameSet = union p (after a p) in
       Repetitions e a (kept q all) (opens at (act.While e a)) (kept-within p q all (λ y u. or-left (p y) (after a p y) u))
-      (free-apart q (names_in e) all (read-free e known q (wanted-left Int (read e) known q (nothing_left (wanted Int (read e) known q) (block_violations (judge_all a) context known q) f))))
+      (free-apart q (names_in e) all (read-free e known q (wanted-left Int (reading_of e) known q (nothing_left (wanted Int (reading_of e) known q) (block_violations (judge_all a) context known q) f))))
       (clear-ends (kept q all) (kept-within (after a q) q all (loop_closed a p))
       (clears-all a g all w (record context { in_block = true }) known q (all-known context known p k f) (body-of context known p f)))
       rest;
 }
   where
     body-of : (context : Context) (known : Declared) (p : check.NameSet) → (judgement (act.While e a) at).violations context known p ≡ [] → violations_each (judge_all a) (record context { in_block = true }) known (union p (after a p)) ≡ []
-    body-of context known p f = nothing_right (wanted Int (read e) known (union p (after a p))) (block_violations (judge_all a) context known (union p (after a p))) f
+    body-of context known p f = nothing_right (wanted Int (reading_of e) known (union p (after a p))) (block_violations (judge_all a) context known (union p (after a p))) f
 
     all-known : (context : Context) (known : Declared) (p : check.NameSet) → IsKnown p known → (judgement (act.While e a) at).violations context known p ≡ [] → IsKnown (union p (after a p)) known
     all-known context known p k f y t =
@@ -394,8 +394,8 @@ good at (act.Set x r) h = good-set at x r
 good at (act.Store x i e) h =
     good-plain at (act.Store x i e) tt (λ p. refl) (λ functions known. refl) (λ p. refl)
     (λ context known p f. free-cons p x.bytes (names_in i ++ names_in e)
-    (array-free (known.what x.bytes) p x (nothing_left (array_use (known.what x.bytes) p x) (two_wanted Int (read i) (read e) known p) f))
-    (two-free Int (names_in i) (names_in e) (read i) (read e) (read-free i) (read-free e) known p (nothing_right (array_use (known.what x.bytes) p x) (two_wanted Int (read i) (read e) known p) f)))
+    (array-free (known.what x.bytes) p x (nothing_left (array_use (known.what x.bytes) p x) (two_wanted Int (reading_of i) (reading_of e) known p) f))
+    (two-free Int (names_in i) (names_in e) (reading_of i) (reading_of e) (read-free i) (read-free e) known p (nothing_right (array_use (known.what x.bytes) p x) (two_wanted Int (reading_of i) (reading_of e) known p) f)))
 good at (act.Spawn c) h =
     good-plain at (act.Spawn c) tt (λ p. refl) (λ functions known. refl) (λ p. refl) (λ context known p f. call-free (function_named context.functions c.name.bytes) c known p f)
 good at (act.Call c) h =
@@ -408,11 +408,11 @@ good at (act.Scope a) h = good-scope at a h
 good at (act.Pfor x lo hi target c) h =
     good-plain at (act.Pfor x lo hi target c) tt (λ p. refl) (λ functions known. refl) (λ p. refl)
     (λ context known p f.
-    let bounds = two_wanted Int (read lo) (read hi) known p in
+    let bounds = two_wanted Int (reading_of lo) (reading_of hi) known p in
     let into = target_use target known p in
     let called = loop_call_of (function_named context.functions c.name.bytes) (is_some target) c known p in
     let front = nothing_left (bounds ++ into) called f in
-    let free-bounds = two-free Int (names_in lo) (names_in hi) (read lo) (read hi) (read-free lo) (read-free hi) known p (nothing_left bounds into front) in
+    let free-bounds = two-free Int (names_in lo) (names_in hi) (reading_of lo) (reading_of hi) (read-free lo) (read-free hi) known p (nothing_left bounds into front) in
     free-append p (names_in lo) (names_in hi ++ (names_in_all c.args ++ target_names target)) (λ name d. free-bounds name (Contains-append_left (names_in lo) (names_in hi) name d))
     (free-append p (names_in hi) (names_in_all c.args ++ target_names target) (λ name d. free-bounds name (Contains-append_right (names_in lo) (names_in hi) name d))
     (free-append p (names_in_all c.args) (target_names target)
@@ -428,7 +428,7 @@ valid-function : (functions : List Function) (f : Function) → function_violati
 valid-function functions f h =
     let known = known_params f.params no_entries in
     let body = violations_each (judge_all f.body) (context functions false) known no_names in
-    let front = nothing_left (param_violations f.params no_entries ++ body) (wanted f.answer (read f.result) (known_each (judge_all f.body) functions known) no_names) h in
+    let front = nothing_left (param_violations f.params no_entries ++ body) (wanted f.answer (reading_of f.result) (known_each (judge_all f.body) functions known) no_names) h in
     let each = induct_each Good all-good f.body in
     let all = own-all f.body each in (
       kept (after f.body no_names) all,

@@ -19,8 +19,8 @@ use Rattle.script_check.specs.Functions.{function_named}
 use Rattle.script_check.specs.Violations.{violation_if}
 use Rattle.script_check.specs.Names as check
 use Rattle.script_check.specs.Rules.{Declared, wrong_kind, unknown_function, wrong_number_of_arguments, scalar_use, array_use}
-use Rattle.script_check.specs.Expressions.{Reading, wanted, two_wanted, all_wanted, read_at, read, read_sum_part, read_product_part}
-use Rattle.script_check.specs.Statements.{arguments, call_of, read_right, wanted_as, loop_arguments, loop_call_of, taken_kind, target_use}
+use Rattle.script_check.specs.Expressions.{Reading, wanted, two_wanted, all_wanted, read_at, reading_of, read_sum_part, read_product_part}
+use Rattle.script_check.specs.Statements.{arguments, call_of, read_right, wanted_as, loop_arguments, loop_call_of, received_kind, target_use}
 use Rattle.script_check.proofs.FewerPending.Fewer.{nothing_left, nothing_right}
 use Rattle.serial_meaning.specs.Names.{Names, joined_names, names_at, names_in, names_in_sum_part, names_in_product_part}
 use Rattle.strand_meaning.specs.Clear.{names_in_all, names_in_right, target_names}
@@ -105,21 +105,21 @@ node_names {A} {B} {C} expr times plus = map-Expr A B C Names Names Names expr t
 
 -- one node, of parts
 abbrev LayerFree : Expr-F Expr ProductPart SumPart → Type 0
-LayerFree d = ReadsFree (names_at (node_names names_in names_in_product_part names_in_sum_part d)) (read_at (node_map read read_product_part read_sum_part d))
+LayerFree d = ReadsFree (names_at (node_names names_in names_in_product_part names_in_sum_part d)) (read_at (node_map reading_of read_product_part read_sum_part d))
 
 abbrev TreeFree : Expr → Type 0
-TreeFree e = ReadsFree (names_in e) (read e)
+TreeFree e = ReadsFree (names_in e) (reading_of e)
 
 layer-free : (d : Expr-F Expr ProductPart SumPart) → LayerFree d → TreeFree (roll-Expr d)
 layer-free d h known p none =
     let names : names_in (roll-Expr d) ≡ names_at (node_names names_in names_in_product_part names_in_sum_part d) = fold-roll-Expr Names Names Names names_at (λ p. p.operand) (λ p. p.operand) d in
-    let reading : read (roll-Expr d) ≡ read_at (node_map read read_product_part read_sum_part d) = fold-roll-Expr Reading Reading Reading read_at (λ p. p.operand) (λ p. p.operand) d in
+    let reading : reading_of (roll-Expr d) ≡ read_at (node_map reading_of read_product_part read_sum_part d) = fold-roll-Expr Reading Reading Reading read_at (λ p. p.operand) (λ p. p.operand) d in
     subst (Free p) (sym names) (h known p (ap (λ (r : Reading). r.violations known p) (sym reading) ∙ none))
 
-sum_part_is : (p : SumPart) → read_sum_part p ≡ read p.operand
+sum_part_is : (p : SumPart) → read_sum_part p ≡ reading_of p.operand
 sum_part_is p = search (rules, the_lemmas)
 
-product_part_is : (p : ProductPart) → read_product_part p ≡ read p.operand
+product_part_is : (p : ProductPart) → read_product_part p ≡ reading_of p.operand
 product_part_is p = search (rules, the_lemmas)
 
 sum_part_names : (p : SumPart) → names_in_sum_part p ≡ names_in p.operand
@@ -129,7 +129,7 @@ product_part_names : (p : ProductPart) → names_in_product_part p ≡ names_in 
 product_part_names p = search (rules, the_lemmas)
 
 module _ {A B C : Type 0} (expr : A → Expr) (times : B → ProductPart) (plus : C → SumPart)
-    (e : (a : A) → ReadsFree (names_in (expr a)) (read (expr a)))
+    (e : (a : A) → ReadsFree (names_in (expr a)) (reading_of (expr a)))
     (t : (b : B) → ReadsFree (names_in_product_part (times b)) (read_product_part (times b)))
     (s : (c : C) → ReadsFree (names_in_sum_part (plus c)) (read_sum_part (plus c))) where
   pluses-free : (xs : List C) (known : Declared) (p : check.NameSet) → all_wanted Int (map read_sum_part (map plus xs)) known p ≡ [] → Free p (joined_names (map names_in_sum_part (map plus xs)))
@@ -151,20 +151,20 @@ module _ {A B C : Type 0} (expr : A → Expr) (times : B → ProductPart) (plus 
   node-free (node.Var x) known p h = free-one p x.bytes (scalar-free (known.what x.bytes) p x h)
   node-free (node.Item x i) known p h =
       free-cons p x.bytes (names_in (expr i))
-      (array-free (known.what x.bytes) p x (nothing_left (array_use (known.what x.bytes) p x) (wanted Int (read (expr i)) known p) h))
-      (e i known p (wanted-left Int (read (expr i)) known p (nothing_right (array_use (known.what x.bytes) p x) (wanted Int (read (expr i)) known p) h)))
-  node-free (node.Neg at x) known p h = e x known p (wanted-left Int (read (expr x)) known p h)
-  node-free (node.Same at x y) known p h = two-free Id (names_in (expr x)) (names_in (expr y)) (read (expr x)) (read (expr y)) (e x) (e y) known p h
-  node-free (node.Older at x y) known p h = two-free Id (names_in (expr x)) (names_in (expr y)) (read (expr x)) (read (expr y)) (e x) (e y) known p h
-  node-free (node.Compare x how y) known p h = two-free Int (names_in (expr x)) (names_in (expr y)) (read (expr x)) (read (expr y)) (e x) (e y) known p h
+      (array-free (known.what x.bytes) p x (nothing_left (array_use (known.what x.bytes) p x) (wanted Int (reading_of (expr i)) known p) h))
+      (e i known p (wanted-left Int (reading_of (expr i)) known p (nothing_right (array_use (known.what x.bytes) p x) (wanted Int (reading_of (expr i)) known p) h)))
+  node-free (node.Neg at x) known p h = e x known p (wanted-left Int (reading_of (expr x)) known p h)
+  node-free (node.Same at x y) known p h = two-free Id (names_in (expr x)) (names_in (expr y)) (reading_of (expr x)) (reading_of (expr y)) (e x) (e y) known p h
+  node-free (node.Older at x y) known p h = two-free Id (names_in (expr x)) (names_in (expr y)) (reading_of (expr x)) (reading_of (expr y)) (e x) (e y) known p h
+  node-free (node.Compare x how y) known p h = two-free Int (names_in (expr x)) (names_in (expr y)) (reading_of (expr x)) (reading_of (expr y)) (e x) (e y) known p h
   node-free (node.Sum first rest) known p h =
       free-append p (names_in (expr first)) (joined_names (map names_in_sum_part (map plus rest)))
-      (e first known p (wanted-left Int (read (expr first)) known p (nothing_left (wanted Int (read (expr first)) known p) (all_wanted Int (map read_sum_part (map plus rest)) known p) h)))
-      (pluses-free rest known p (nothing_right (wanted Int (read (expr first)) known p) (all_wanted Int (map read_sum_part (map plus rest)) known p) h))
+      (e first known p (wanted-left Int (reading_of (expr first)) known p (nothing_left (wanted Int (reading_of (expr first)) known p) (all_wanted Int (map read_sum_part (map plus rest)) known p) h)))
+      (pluses-free rest known p (nothing_right (wanted Int (reading_of (expr first)) known p) (all_wanted Int (map read_sum_part (map plus rest)) known p) h))
   node-free (node.Product first rest) known p h =
       free-append p (names_in (expr first)) (joined_names (map names_in_product_part (map times rest)))
-      (e first known p (wanted-left Int (read (expr first)) known p (nothing_left (wanted Int (read (expr first)) known p) (all_wanted Int (map read_product_part (map times rest)) known p) h)))
-      (timeses-free rest known p (nothing_right (wanted Int (read (expr first)) known p) (all_wanted Int (map read_product_part (map times rest)) known p) h))
+      (e first known p (wanted-left Int (reading_of (expr first)) known p (nothing_left (wanted Int (reading_of (expr first)) known p) (all_wanted Int (map read_product_part (map times rest)) known p) h)))
+      (timeses-free rest known p (nothing_right (wanted Int (reading_of (expr first)) known p) (all_wanted Int (map read_product_part (map times rest)) known p) h))
 
 pub read-free : (e : Expr) → TreeFree e
 read-free =
@@ -185,12 +185,12 @@ read-free =
 pub arguments-free : (params : List Param) (es : List Expr) (known : Declared) (p : check.NameSet) → arguments params es known p ≡ [] → Free p (names_in_all es)
 arguments-free params [] known p h = free-none p
 arguments-free [] (e ∷ es) known p h =
-    free-append p (names_in e) (names_in_all es) (read-free e known p (nothing_left ((read e).violations known p) (arguments [] es known p) h))
-    (arguments-free [] es known p (nothing_right ((read e).violations known p) (arguments [] es known p) h))
+    free-append p (names_in e) (names_in_all es) (read-free e known p (nothing_left ((reading_of e).violations known p) (arguments [] es known p) h))
+    (arguments-free [] es known p (nothing_right ((reading_of e).violations known p) (arguments [] es known p) h))
 arguments-free (q ∷ params) (e ∷ es) known p h =
     free-append p (names_in e) (names_in_all es)
-    (read-free e known p (wanted-left q.kind (read e) known p (nothing_left (wanted q.kind (read e) known p) (arguments params es known p) h)))
-    (arguments-free params es known p (nothing_right (wanted q.kind (read e) known p) (arguments params es known p) h))
+    (read-free e known p (wanted-left q.kind (reading_of e) known p (nothing_left (wanted q.kind (reading_of e) known p) (arguments params es known p) h)))
+    (arguments-free params es known p (nothing_right (wanted q.kind (reading_of e) known p) (arguments params es known p) h))
 
 pub call-free : (o : Option Function) (c : CallText) (known : Declared) (p : check.NameSet) → call_of o c known p ≡ [] → Free p (names_in_all c.args)
 call-free None c known p h = arguments-free [] c.args known p (nothing_right (unknown_function c.name) (arguments [] c.args known p) h)
@@ -206,7 +206,7 @@ loop-arguments-free (q ∷ params) c known p h =
 pub loop-call-free : (o : Option Function) (has_target : Bool) (c : CallText) (known : Declared) (p : check.NameSet) → loop_call_of o has_target c known p ≡ [] → Free p (names_in_all c.args)
 loop-call-free None has_target c known p h = arguments-free [] c.args known p (nothing_right (unknown_function c.name) (arguments [] c.args known p) h)
 loop-call-free (Some f) has_target c known p h =
-    loop-arguments-free f.params c known p (nothing_right (wrong_kind Int (taken_kind has_target f.answer) c.name.at) (loop_arguments f.params c known p) h)
+    loop-arguments-free f.params c known p (nothing_right (wrong_kind Int (received_kind has_target f.answer) c.name.at) (loop_arguments f.params c known p) h)
 
 pub target-free : (target : Option Name) (known : Declared) (p : check.NameSet) → target_use target known p ≡ [] → Free p (target_names target)
 target-free None known p h = free-none p

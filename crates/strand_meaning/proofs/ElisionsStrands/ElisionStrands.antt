@@ -8,7 +8,7 @@ use Rattle.std.proofs.lemmas.List.{take-append-drop, take-append-le, take_all}
 use Rattle.serial_meaning.specs.Laws.{IsOriginOf, Main, ChildOf}
 use Rattle.serial_meaning.specs.Plan.{PlanView}
 use Rattle.serial_meaning.specs.Eval.{Evaluation, iteration, path_of, eval, depth_left, main_origin, elision}
-use Rattle.serial_meaning.specs.Open.{Item, Happened, Child, Opened, Closed, opened, strand_pedigrees}
+use Rattle.serial_meaning.specs.Open.{Item, Happened, Child, Opened, Closed, node_of, strand_pedigrees}
 use Rattle.serial_meaning.proofs.LeastFault.Children.{children, node-spread}
 use Rattle.serial_meaning.proofs.Equations.Each.{Each}
 use Rattle.serial_meaning.proofs.LeastFault.Sim.{eval-cuts}
@@ -94,35 +94,35 @@ abbrev IsElisions : PlanView → List ℕ → Origin → Strand → Type 0
 IsElisions plan j o strand = strand ≡ strand_in j (eval plan o)
 
 -- of a pedigree below a child the parent's evaluation has what the child's has
-into-child : (plan : PlanView) (j : List ℕ) (o c : Origin) (k : ℕ) (more : List ℕ) → IsOriginOf plan o → Contains (opened plan o).items (Child c) → j ≡ path_of c ++ k ∷ more →
+into-child : (plan : PlanView) (j : List ℕ) (o c : Origin) (k : ℕ) (more : List ℕ) → IsOriginOf plan o → Contains (node_of plan o).items (Child c) → j ≡ path_of c ++ k ∷ more →
     IsWholeUpTo j (eval plan o).ending → Agree j (eval plan o) (eval plan c)
 into-child plan j o c k more known among below w =
     let child : Origin → Evaluation = children_of plan o in
     let s = node-spread plan child o in
     subst (Agree j (eval plan o)) (same-answer plan o c (loop-of-plan plan o known) among)
-    (agree child (children-under plan (depth_left plan o)) j (path_of o) (opened plan o).items c k more (eval plan o) (opened plan o).ending below (items-rise plan child o) s.stops among (eval-cuts plan o) w)
+    (agree child (children-under plan (depth_left plan o)) j (path_of o) (node_of plan o).items c k more (eval plan o) (node_of plan o).ending below (items-rise plan child o) s.stops among (eval-cuts plan o) w)
 
 agreed : (j : List ℕ) (r s : Evaluation) (strand : Strand) → Agree j r s → strand ≡ strand_in j s → strand ≡ strand_in j r
 agreed j r s strand a h = h ∙ ap (λ l. record { events = l; fault = fault_at j s.ending }) (sym a.events) ∙ ap (λ f. record { events = events_at j r.items; fault = f }) (sym a.fault)
 
 -- the strand of the last instance on the way
-last-walked : (plan : PlanView) (j : List ℕ) (o : Origin) (strand : Strand) → child_on_way j (opened plan o).items ≡ None → IsWholeUpTo j (eval plan o).ending →
-    last_step (blocking_fault (opened plan o) j) (strand_of o (opened plan o) j) ≡ FoundStrand strand → IsElisions plan j o strand
-last-walked plan j o strand none w e = by_blocks (blocking_fault (opened plan o) j) (strand_of o (opened plan o) j) refl e
+last-walked : (plan : PlanView) (j : List ℕ) (o : Origin) (strand : Strand) → child_on_way j (node_of plan o).items ≡ None → IsWholeUpTo j (eval plan o).ending →
+    last_step (blocking_fault (node_of plan o) j) (strand_of o (node_of plan o) j) ≡ FoundStrand strand → IsElisions plan j o strand
+last-walked plan j o strand none w e = by_blocks (blocking_fault (node_of plan o) j) (strand_of o (node_of plan o) j) refl e
   where
-    elisions : record { events = events_at j (own_events (opened plan o).items); fault = own_fault_at j (opened plan o).ending } ≡ strand_in j (eval plan o)
+    elisions : record { events = events_at j (own_events (node_of plan o).items); fault = own_fault_at j (node_of plan o).ending } ≡ strand_in j (eval plan o)
     elisions =
         let child : Origin → Evaluation = children_of plan o in
         let s = node-spread plan child o in
-        own-strand child (children-under plan (depth_left plan o)) j (path_of o) (opened plan o).items (eval plan o) (opened plan o).ending (items-rise plan child o) s.stops (none-below j (opened plan o).items none) (eval-cuts plan o) w
+        own-strand child (children-under plan (depth_left plan o)) j (path_of o) (node_of plan o).items (eval plan o) (node_of plan o).ending (items-rise plan child o) s.stops (none-below j (node_of plan o).items none) (eval-cuts plan o) w
 
     strand-or : Found → Strand
     strand-or (FoundStrand s) = s
     strand-or Missing = strand
     strand-or (Blocked f) = strand
 
-    by_one : (b : Bool) (s : Strand) → (if b then Some (record { events = events_at j (own_events (opened plan o).items); fault = own_fault_at j (opened plan o).ending }) else None) ≡ Some s →
-        s ≡ record { events = events_at j (own_events (opened plan o).items); fault = own_fault_at j (opened plan o).ending }
+    by_one : (b : Bool) (s : Strand) → (if b then Some (record { events = events_at j (own_events (node_of plan o).items); fault = own_fault_at j (node_of plan o).ending }) else None) ≡ Some s →
+        s ≡ record { events = events_at j (own_events (node_of plan o).items); fault = own_fault_at j (node_of plan o).ending }
     by_one true s h = sym (ap or_this h)
       where
         or_this : Option Strand → Strand
@@ -130,10 +130,10 @@ last-walked plan j o strand none w e = by_blocks (blocking_fault (opened plan o)
         or_this (Some t) = t
     by_one false s h = absurd (cc)
 
-    by_blocks : (f : Option Fault) (s : Option Strand) → strand_of o (opened plan o) j ≡ s → last_step f s ≡ FoundStrand strand → IsElisions plan j o strand
+    by_blocks : (f : Option Fault) (s : Option Strand) → strand_of o (node_of plan o) j ≡ s → last_step f s ≡ FoundStrand strand → IsElisions plan j o strand
     by_blocks (Some f) s t h = absurd (cc)
     by_blocks None None t h = absurd (cc)
-    by_blocks None (Some s) t h = sym (ap strand-or h) ∙ by_one (is_one_of j (strand_pedigrees o (opened plan o))) s t ∙ elisions
+    by_blocks None (Some s) t h = sym (ap strand-or h) ∙ by_one (is_one_of j (strand_pedigrees o (node_of plan o))) s t ∙ elisions
 
 next-is : (o : Option Origin) (go : Origin → Found) (strand : Strand) → next_step o go ≡ FoundStrand strand → (c : Origin) × (o ≡ Some c) × (go c ≡ FoundStrand strand)
 next-is None go strand h = absurd (cc)
@@ -189,13 +189,13 @@ Walks plan steps j strand = (o : Origin) → IsOriginOf plan o → IsWholeUpTo j
 
 walked : (plan : PlanView) (steps : ℕ) (j : List ℕ) (o : Origin) (strand : Strand) → IsOriginOf plan o → IsWholeUpTo j (eval plan o).ending → walk_in plan steps j o ≡ FoundStrand strand → IsElisions plan j o strand
 walked plan zero j o strand known w e = absurd (cc)
-walked plan (suc steps) j o strand known w e = by_way (λ c. walked plan steps j c strand) (child_on_way j (opened plan o).items) refl e
+walked plan (suc steps) j o strand known w e = by_way (λ c. walked plan steps j c strand) (child_on_way j (node_of plan o).items) refl e
   where
     -- by the child's evaluation
-    by-child : (c : Origin) → Contains (opened plan o).items (Child c) → (k : ℕ) (more : List ℕ) → j ≡ path_of c ++ k ∷ more → (IsWholeUpTo j (eval plan c).ending → IsElisions plan j c strand) → IsElisions plan j o strand
+    by-child : (c : Origin) → Contains (node_of plan o).items (Child c) → (k : ℕ) (more : List ℕ) → j ≡ path_of c ++ k ∷ more → (IsWholeUpTo j (eval plan c).ending → IsElisions plan j c strand) → IsElisions plan j o strand
     by-child c among k more below go = let a = into-child plan j o c k more known among below w in agreed j (eval plan o) (eval plan c) strand a (go a.whole)
 
-    by_kind : Walks plan steps j strand → (c : Origin) → OnWay j (opened plan o).items c → next_step (entered_child j c) (walk_in plan steps j) ≡ FoundStrand strand → IsElisions plan j o strand
+    by_kind : Walks plan steps j strand → (c : Origin) → OnWay j (node_of plan o).items c → next_step (entered_child j c) (walk_in plan steps j) ≡ FoundStrand strand → IsElisions plan j o strand
     by_kind later (Instance function args path) way h =
         let c : Origin = Instance function args path in
         let b = below-of path j way.below in
@@ -207,17 +207,17 @@ walked plan (suc steps) j o strand known w e = by_way (λ c. walked plan steps j
         let turn = enters-turn j function rest first path (range.hi - range.lo) b.0 b.1 next.0 b.2 next.1 in
         let i : Origin = iteration function rest first path turn.turn in
         let of_plan : IsOriginOf plan c = ChildOf o c known way.among in
-        let there : Contains (opened plan c).items (Child i) = contains-turn function rest first path range.lo (range.hi - range.lo) turn.turn (let whole = way.whole in omega (arith, whole)) (let whole = way.whole in let low = turn.within in omega (arith, whole, low)) in
+        let there : Contains (node_of plan c).items (Child i) = contains-turn function rest first path range.lo (range.hi - range.lo) turn.turn (let whole = way.whole in omega (arith, whole)) (let whole = way.whole in let low = turn.within in omega (arith, whole, low)) in
         let below_turn : j ≡ path_of i ++ turn.next ∷ turn.more = turn.below ∙ ap (λ (d : Origin). path_of d ++ turn.next ∷ turn.more) turn.is in
         by-child c way.among b.0 b.1 b.2 (λ v.
         let a = into-child plan j c i turn.next turn.more of_plan there below_turn v in
         agreed j (eval plan c) (eval plan i) strand a
         (later i (ChildOf c i of_plan there) a.whole (ap (walk_in plan steps j) (sym turn.is) ∙ next.2)))
 
-    by_way : Walks plan steps j strand → (q : Option Origin) → child_on_way j (opened plan o).items ≡ q →
-        by_child q j (last_step (blocking_fault (opened plan o) j) (strand_of o (opened plan o) j)) (walk_in plan steps j) ≡ FoundStrand strand → IsElisions plan j o strand
+    by_way : Walks plan steps j strand → (q : Option Origin) → child_on_way j (node_of plan o).items ≡ q →
+        by_child q j (last_step (blocking_fault (node_of plan o) j) (strand_of o (node_of plan o) j)) (walk_in plan steps j) ≡ FoundStrand strand → IsElisions plan j o strand
     by_way later None t h = last-walked plan j o strand t w h
-    by_way later (Some c) t h = by_kind later c (on-way j (opened plan o).items c (items-rise plan (children_of plan o) o) t) h
+    by_way later (Some c) t h = by_kind later c (on-way j (node_of plan o).items c (items-rise plan (children_of plan o) o) t) h
 
 pub strands_are_the_elisions : (plan : PlanView) (j : List ℕ) (strand : Strand) → IsWholeUpTo j (elision plan).ending → strand_at plan j ≡ FoundStrand strand →
     strand ≡ strand_in j (elision plan)

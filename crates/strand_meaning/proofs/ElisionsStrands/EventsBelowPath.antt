@@ -2,7 +2,7 @@
 use Rattle.std.proofs.Common.{◌≡◌, ℕ, zero, suc, ◌+◌, ◌-◌, List, [], ◌∷◌, ◌++◌, Option, Some, None, Result, Ok, Err, refl, ◌∙◌, append_assoc}
 use Rattle.std.proofs.Common.{ℤ}
 use Rattle.script_grammar.specs.declared.tree.Function.{Function}
-use Rattle.serial_meaning.specs.Runs.{Run, done, after_items, goes_on, ◌then◌}
+use Rattle.serial_meaning.specs.Runs.{Run, done, after_items, continued, ◌then◌}
 use Rattle.serial_meaning.specs.Functions.{function_at}
 use Rattle.serial_meaning.specs.Plan.{PlanView, functions_of}
 use Rattle.serial_meaning.specs.Exec.{State, strand, goes_out, frame, exec, instance, with_loop_values, bound}
@@ -42,7 +42,7 @@ event-first path e r h k = record { events = (h, k.events); ends = k.ends }
 under-then : {A B : Type 0} (path : List ℕ) (r : Run Event Fault A) (f : A → Run Event Fault B) → StaysUnder path r → ((a : A) → StaysUnder path (f a)) → StaysUnder path (r then f)
 under-then {A} {B} path r f h k = from r.items r.ending h.events h.ends
   where
-    from : (items : List Event) (q : Result A Fault) → Each (EventUnder path) items → EndUnder path q → StaysUnder path (goes_on items q f)
+    from : (items : List Event) (q : Result A Fault) → Each (EventUnder path) items → EndUnder path q → StaysUnder path (continued items q f)
     from items (Ok a) e n = record { events = each-append (EventUnder path) items (f a).items e (k a).events; ends = (k a).ends }
     from items (Err g) e n = record { events = e; ends = n }
 

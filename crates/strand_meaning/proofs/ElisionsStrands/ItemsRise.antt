@@ -3,7 +3,7 @@ use Rattle.std.proofs.Common.{◌≡◌, ℕ, zero, suc, ◌+◌, ◌-◌, ◌�
 use Rattle.std.proofs.Common.{ℤ}
 use Rattle.std.proofs.lemmas.List.{append_cancel_left}
 use Rattle.script_grammar.specs.declared.tree.Function.{Function}
-use Rattle.serial_meaning.specs.Runs.{Run, done, after_items, goes_on, ◌then◌}
+use Rattle.serial_meaning.specs.Runs.{Run, done, after_items, continued, ◌then◌}
 use Rattle.serial_meaning.specs.Values.{Env}
 use Rattle.serial_meaning.specs.Functions.{function_at}
 use Rattle.serial_meaning.specs.Plan.{PlanView, functions_of}
@@ -150,7 +150,7 @@ spread-then : {A B : Type 0} (path : List ℕ) (f-rank : A → ℕ) (g-rank : B 
     Spread path f-rank lo r → ((a : A) → Spread path g-rank (f-rank a) (f a)) → Spread path g-rank lo (r then f)
 spread-then {A = A} {B = B} path f-rank g-rank lo r f h k = from r.items r.ending h.hi h.up h.ends h.placed h.rise
   where
-    from : (items : List Item) (e : Result A NodeFault) (hi : ℕ) → lo ≤ hi → EndsAtRank f-rank hi e → Placed path lo hi items → ItemsRise items → Spread path g-rank lo (goes_on items e f)
+    from : (items : List Item) (e : Result A NodeFault) (hi : ℕ) → lo ≤ hi → EndsAtRank f-rank hi e → Placed path lo hi items → ItemsRise items → Spread path g-rank lo (continued items e f)
     from items (Err e) hi u n p s = record { hi = hi; up = u; ends = tt; placed = p; rise = s }
     from items (Ok a) hi u n p s = record {
       hi = (k a).hi;
@@ -232,7 +232,7 @@ module _ (plan : PlanView) (child : Origin → Evaluation) where
       here : List ℕ
       here = path ++ s.rank ∷ []
 
-      from : (items : List Item) (e : Result S NodeFault) (hi : ℕ) → Placed here 0 hi items → ItemsRise items → P path s.rank (goes_on (Opened here ∷ items) e (goes_out (put_off_all plan child) plan path s.rank))
+      from : (items : List Item) (e : Result S NodeFault) (hi : ℕ) → Placed here 0 hi items → ItemsRise items → P path s.rank (continued (Opened here ∷ items) e (goes_out (put_off_all plan child) plan path s.rank))
       from items (Ok a) hi p t = record {
         hi = s.rank + 1;
         up = omega arith;
@@ -272,7 +272,7 @@ module _ (plan : PlanView) (child : Origin → Evaluation) where
   items-kept : {A : Type 0} (r : Run Item NodeFault A) (g : A → List Value) → ItemsRise r.items → ItemsRise (r then λ a. done (g a)).items
   items-kept {A} r g h = from r.items r.ending h
     where
-      from : (items : List Item) (e : Result A NodeFault) → ItemsRise items → ItemsRise (goes_on items e (λ a. done (g a))).items
+      from : (items : List Item) (e : Result A NodeFault) → ItemsRise items → ItemsRise (continued items e (λ a. done (g a))).items
       from items (Err e) h = h
       from items (Ok a) h = rw append-nil h
 

@@ -13,7 +13,7 @@ use Rattle.script_grammar.specs.declared.tree.Act.TheOpen as act
 use Rattle.script_grammar.specs.declared.tree.Act.TheOpen.{Act-F}
 use Rattle.serial_meaning.specs.Runs.{Run, done, ◌then◌}
 use Rattle.serial_meaning.specs.Values.{value_of, values_of, slot_of, items_of, as_integer, is_true, at_index}
-use Rattle.serial_meaning.specs.Functions.{number_of, function_at}
+use Rattle.serial_meaning.specs.Functions.{function_number, function_at}
 use Rattle.serial_meaning.specs.Plan.{PlanView, functions_of}
 use Rattle.serial_meaning.specs.Exec.{State, Manner, unless_fault, paid_from, tested, has_room, fits_depth, spawn, sync_at, goes_out, implied, frame, called, right_side, found, looped, does, count_of}
 use Rattle.serial_meaning.specs.Open.{is_empty_loop}
@@ -27,7 +27,7 @@ use Rattle.serial_meaning.specs.declared.origin.Origin.{Origin}
 use Rattle.serial_meaning.specs.declared.origin.Origin.TheVariants as origin
 use Rattle.strand_meaning.specs.Found.{FindsDestination, FindsTargets, IsFoundPlan, functions_in, functions_at}
 use Rattle.script_check.specs.Spawns.{spawns_in}
-use Rattle.strand_meaning.specs.Machine.{Destination, Spawned, Effect, Opens, Closes, Emitted, Handed, Syncs, Loops, Exit, Faulted, Inside, loop_effects, sync_effects, handing, inside, destination_of, Level, Frame, Machine, Reached, Stands, Gives, state_of, here_of, inside_of, present, with_left, with_leaving, out_of_level, with_returning, back, machine_inside, reached, gives, act_run, return_run, value_run, statement_move, return_move, level_move, end_move, move_at, move}
+use Rattle.strand_meaning.specs.Machine.{Destination, Spawned, Effect, Opens, Closes, Emitted, Handed, Syncs, Loops, Exit, Faulted, Inside, loop_effects, sync_effects, handing, inside, child_destination, Level, Frame, Machine, Reached, Stands, Gives, state_of, here_of, inside_of, present, with_left, with_leaving, out_of_level, with_returning, back_in_caller, machine_inside, reached, gives, act_run, return_run, value_run, statement_move, return_move, level_move, end_move, move_at, move}
 use Rattle.strand_meaning.specs.Pending.{act_of, ArePending}
 use Rattle.strand_meaning.specs.Sound.{AreDestinations, UnfilledArePending, unfilled}
 use Rattle.strand_meaning.specs.Task.{Running, stage_after}
@@ -82,8 +82,8 @@ module _ (plan : PlanView) (path : List ℕ) (functions : List ℕ) (destination
   hands-called : (calls : ℕ) (c : CallText) (s : State Bool) → Hands (called what plan path inside calls c s)
   hands-called calls c s =
       hands-given (values_of c.args s.env) s _ (λ vs. hands-tested (nat_lt calls 256) Calls s _
-      (hands-then (frame what plan path inside (calls + 1) (function_at (functions_of plan) (number_of (functions_of plan) c.name.bytes)) vs s) _
-      (by_function vs (function_at (functions_of plan) (number_of (functions_of plan) c.name.bytes)))))
+      (hands-then (frame what plan path inside (calls + 1) (function_at (functions_of plan) (function_number (functions_of plan) c.name.bytes)) vs s) _
+      (by_function vs (function_at (functions_of plan) (function_number (functions_of plan) c.name.bytes)))))
     where
       by_function : (vs : List Value) (o : Option Function) → Hands (frame what plan path inside (calls + 1) o vs s)
       by_function vs None = tt
@@ -101,7 +101,7 @@ module _ (plan : PlanView) (path : List ℕ) (functions : List ℕ) (destination
       hands-tested (nat_lt hi (s.steps + 1)) Budget s _ (hands-tested (has_room target hi s.env) Index _ _ (hands-tested (fits_depth what plan path hi) Depth _ _ (by_size (is_empty_loop o))))
     where
       o : Origin
-      o = origin.Loop (number_of (functions_of plan) c.name.bytes) vs lo (path ++ s.rank ∷ []) (record { lo = 0; hi = hi })
+      o = origin.Loop (function_number (functions_of plan) c.name.bytes) vs lo (path ++ s.rank ∷ []) (record { lo = 0; hi = hi })
 
       by_size : (b : Bool) → FindsTargets plan functions (effect_parts (Emitted (event.Loop (path ++ s.rank ∷ [])) ∷ (loop_effects b o destination ++ [])))
       by_size true = tt
@@ -159,17 +159,17 @@ module _ (plan : PlanView) (path : List ℕ) (parts : List AwaitedChild) (m : Ma
   entered-found st (act.Let x (right.Value e)) left inner s = before
   entered-found st (act.Let x (right.Draw at)) left inner s = before
   entered-found st (act.Let x (right.New at)) left inner s = before
-  entered-found st (act.Let x (right.Call at c)) left inner s = call-found (number_of (functions_of plan) c.name.bytes)
+  entered-found st (act.Let x (right.Call at c)) left inner s = call-found (function_number (functions_of plan) c.name.bytes)
   entered-found st (act.Let x (right.Spawn at c)) left inner s = before
   entered-found st (act.Array x n) left inner s = before
   entered-found st (act.Set x (right.Value e)) left inner s = before
   entered-found st (act.Set x (right.Draw at)) left inner s = before
   entered-found st (act.Set x (right.New at)) left inner s = before
-  entered-found st (act.Set x (right.Call at c)) left inner s = call-found (number_of (functions_of plan) c.name.bytes)
+  entered-found st (act.Set x (right.Call at c)) left inner s = call-found (function_number (functions_of plan) c.name.bytes)
   entered-found st (act.Set x (right.Spawn at c)) left inner s = before
   entered-found st (act.Store x i e) left inner s = before
   entered-found st (act.Spawn c) left inner s = before
-  entered-found st (act.Call c) left inner s = call-found (number_of (functions_of plan) c.name.bytes)
+  entered-found st (act.Call c) left inner s = call-found (function_number (functions_of plan) c.name.bytes)
   entered-found st act.Sync left inner s = before
   entered-found st (act.Print e) left inner s = before
   entered-found st (act.If e a b) left inner s = before
@@ -180,10 +180,10 @@ module _ (plan : PlanView) (path : List ℕ) (parts : List AwaitedChild) (m : Ma
   none-found : FindsDestination plan (functions_in m) (Spawned height None)
   none-found = spawned-found plan m None refl
 
-  statement-found : (st : Stmt) (left : List Stmt) → FindsDestination plan (functions_in m) (destination_of height (act_of st)) →
+  statement-found : (st : Stmt) (left : List Stmt) → FindsDestination plan (functions_in m) (child_destination height (act_of st)) →
       FoundEnd plan parts (statement_move plan path m st left).items (statement_move plan path m st left).ending
   statement-found st left finds =
-      let destination = destination_of height (act_of st) in
+      let destination = child_destination height (act_of st) in
       let r = act_run plan path m st (act_of st) in
       moved-found destination finds (with_left m left) (λ s. refl) (machine_inside plan st (act_of st) left m) (entered-found st (act_of st) left) r.items r.ending
       (hands-paid plan (here_of path m) (functions_in m) destination finds m.steps (state_of m) _ (λ s. hands-does plan (here_of path m) (functions_in m) destination finds height st (act_of st) s))
@@ -192,7 +192,7 @@ module _ (plan : PlanView) (path : List ℕ) (parts : List AwaitedChild) (m : Ma
   value-found : FoundEnd plan parts (return_move plan path m true).items (return_move plan path m true).ending
   value-found = by_function (function_at (functions_of plan) m.top.function)
     where
-      to_caller : (v : Value) (below : List Frame) → FindsTargets plan (m.top.function ∷ map (λ a. a.function) below) parts → FoundEnd plan parts [] (Ok (back below m.top.target v m.rank m.steps))
+      to_caller : (v : Value) (below : List Frame) → FindsTargets plan (m.top.function ∷ map (λ a. a.function) below) parts → FoundEnd plan parts [] (Ok (back_in_caller below m.top.target v m.rank m.steps))
       to_caller v [] h = tt
       to_caller v (caller ∷ below) h =
           let functions = map (λ (a : Frame). a.function) (caller ∷ below) in

@@ -18,7 +18,7 @@ use Rattle.serial_meaning.specs.Functions.{function_at}
 use Rattle.serial_meaning.specs.Names.{Names}
 use Rattle.serial_meaning.specs.Plan.{PlanView, functions_of}
 use Rattle.strand_meaning.specs.Found.{FindsAt, FindsDestination, FindsTargetIn, IsFoundPlan, functions_in, variables_in}
-use Rattle.strand_meaning.specs.Machine.{Frame, Level, Machine, Spawned, destination_of}
+use Rattle.strand_meaning.specs.Machine.{Frame, Level, Machine, Spawned, child_destination}
 use Rattle.strand_meaning.specs.Pending.{act_of, HasBlock, Then, Else, LoopBody, ComesTo, Here, Past, Within, FrameStandsAt, Outside, InScope, ArePending}
 
 -- of a list all are true
@@ -134,7 +134,7 @@ module _ (plan : PlanView) (m : Machine) where
       ((λ e. h), none-above plan (length m.below) target (map function_of m.below) (omega (arith, length-map m.below function_of)))
 
   pub destination-found : (st : Stmt) (d : Act-F Act Stmt) → act_of st ≡ d → every_in_statement has_own has_callee st ≡ true →
-      FindsDestination plan (functions_in m) (destination_of (length m.below) d)
+      FindsDestination plan (functions_in m) (child_destination (length m.below) d)
   destination-found st (act.Let x r) e h = spawned-found (Some x) (let-found has_own has_callee st x r e h)
   destination-found st (act.Array x n) e h = spawned-found None refl
   destination-found st (act.Set x r) e h = spawned-found (Some x) (set-found has_own has_callee st x r e h)
@@ -150,5 +150,5 @@ module _ (plan : PlanView) (m : Machine) where
 
   -- the same of the first statement that is left of it
   pub next-found : (names : Names) (st : Stmt) (left : List Stmt) → IsFoundPlan plan → ArePending plan names m.top (st ∷ left) →
-      FindsDestination plan (functions_in m) (destination_of (length m.below) (act_of st))
+      FindsDestination plan (functions_in m) (child_destination (length m.below) (act_of st))
   next-found names st left h p = destination-found st (act_of st) refl (first-found has_own has_callee st left (left-found plan names m.top (st ∷ left) h p))

@@ -11,10 +11,10 @@ use Rattle.serial_meaning.specs.declared.event.Fault.{Fault}
 use Rattle.serial_meaning.specs.declared.origin.Origin.{Origin}
 use Rattle.serial_meaning.specs.declared.origin.Origin.TheVariants.{Instance, Loop}
 use Rattle.serial_meaning.specs.declared.answer.Outcome.{Outcome}
-use Rattle.strand_meaning.specs.Machine.{Effect, Opens, Closes, Emitted, Handed, Syncs, Loops, Machine, Reached, Stands, Gives, begun, move}
+use Rattle.strand_meaning.specs.Machine.{Effect, Opens, Closes, Emitted, Handed, Syncs, Loops, Machine, Reached, Stands, Gives, function_begun, move}
 use Rattle.strand_meaning.specs.Trace.{AwaitedChild}
-use Rattle.strand_meaning.specs.Task.{InstanceState, Running, AtSync, AtLoop, Ended, Work, Splits, Runs, Finished, Task, begun_stage, own_instance, begins_last, MoveOrStop, Passes, Stops, Stop, IsNext, Now, Later, stage_after, child_in, stops_at, passing, moved, ends_unless, faults_after, gave, stage_step, split_step, over_step, work_step, step}
-use Rattle.strand_meaning.specs.Left.{moves_of, stage_moves, work_moves, moves_left}
+use Rattle.strand_meaning.specs.Task.{Stage, Running, AtSync, AtLoop, Ended, Remaining, Splits, Runs, Finished, Task, begun_stage, own_instance, begins_last, MoveOrStop, Passes, Stops, Stop, IsNext, Now, Later, stage_after, child_in, stops_at, passing, step_result, ends_unless, faults_after, returned, stage_step, split_step, over_step, remaining_step, step}
+use Rattle.strand_meaning.specs.Left.{moves_of, stage_moves, remaining_moves, moves_left}
 use Rattle.strand_meaning.proofs.NextStops.Falls.{Falls, move-falls}
 
 -- a step to another task leaves fewer
@@ -40,7 +40,7 @@ module _ (t : Task) where
   at-falls n None next h = h
   at-falls n (Some o) next h = tt
 
-  moved-falls : (m : Machine) (ts : List Effect) (e : Result Reached Fault) → Falls m e → StepFalls (2 + moves_of m) (moved t ts e)
+  moved-falls : (m : Machine) (ts : List Effect) (e : Result Reached Fault) → Falls m e → StepFalls (2 + moves_of m) (step_result t ts e)
   moved-falls m ts (Ok (Stands k)) h = at-falls (2 + moves_of m) (child_in ts) (passing t ts (Runs (stage_after ts k))) (stage-after-falls ts k (2 + moves_of m) (omega arith))
   moved-falls m ts (Ok (Gives v)) h = omega arith
   moved-falls m ts (Err f) h = omega arith
@@ -49,11 +49,11 @@ module _ (t : Task) where
   faults-fall [] f = ends-fall 1 t.trace.fault _
   faults-fall (p ∷ ps) f = tt
 
-  gave-falls : (o : Origin) (v : Value) → StepFalls 1 (gave t o v)
+  gave-falls : (o : Origin) (v : Value) → StepFalls 1 (returned t o v)
   gave-falls (Instance function args path) v = ends-fall 1 t.trace.fault _
   gave-falls (Loop function rest first path range) v = omega arith
 
-  stage-falls : (stage : InstanceState) → StepFalls (stage_moves stage) (stage_step t stage)
+  stage-falls : (stage : Stage) → StepFalls (stage_moves stage) (stage_step t stage)
   stage-falls (Running m) =
       let path = path_of (own_instance t.origin) in moved-falls m (move t.plan path m).items (move t.plan path m).ending (move-falls t.plan path m)
   stage-falls (AtSync m) = tt
@@ -62,14 +62,14 @@ module _ (t : Task) where
   stage-falls (Ended (Err (Own f))) = faults-fall t.trace.handed f
   stage-falls (Ended (Err (ChildFaulted f))) = ends-fall 1 t.trace.fault _
 
-  begun-falls : (o : Origin) → work_moves t.plan (begins_last t.plan o) < 3 + 3 * t.plan.limits.budget
+  begun-falls : (o : Origin) → remaining_moves t.plan (begins_last t.plan o) < 3 + 3 * t.plan.limits.budget
   begun-falls o = by_origin o
     where
-      by_function : (function : ℕ) (args : List Value) (f : Option Function) → function_at (functions_of t.plan) function ≡ f → stage_moves (begun_stage (begun t.plan function args)) < 3 + 3 * t.plan.limits.budget
+      by_function : (function : ℕ) (args : List Value) (f : Option Function) → function_at (functions_of t.plan) function ≡ f → stage_moves (begun_stage (function_begun t.plan function args)) < 3 + 3 * t.plan.limits.budget
       by_function function args None h = rw h (omega arith)
       by_function function args (Some f) h = rw h (omega arith)
 
-      by_origin : (o : Origin) → work_moves t.plan (begins_last t.plan o) < 3 + 3 * t.plan.limits.budget
+      by_origin : (o : Origin) → remaining_moves t.plan (begins_last t.plan o) < 3 + 3 * t.plan.limits.budget
       by_origin (Instance function args path) = by_function function args (function_at (functions_of t.plan) function) refl
       by_origin (Loop function rest first path range) = by_function function _ (function_at (functions_of t.plan) function) refl
 
@@ -87,23 +87,23 @@ module _ (t : Task) where
       by_size (suc zero) g = rw g (ends-fall 0 t.trace.fault _)
       by_size (suc (suc n)) g = rw g tt
 
-  work-falls : (work : Work) → StepFalls (work_moves t.plan work) (work_step t work)
-  work-falls (Splits left) = split-falls left (left.hi - left.lo)
-  work-falls (Runs stage) = stage-falls stage
-  work-falls (Finished v true) = ends-fall 0 t.trace.fault _
-  work-falls (Finished v false) = over-falls v t.origin
+  remaining-falls : (remaining : Remaining) → StepFalls (remaining_moves t.plan remaining) (remaining_step t remaining)
+  remaining-falls (Splits left) = split-falls left (left.hi - left.lo)
+  remaining-falls (Runs stage) = stage-falls stage
+  remaining-falls (Finished v true) = ends-fall 0 t.trace.fault _
+  remaining-falls (Finished v false) = over-falls v t.origin
 
 -- a move leaves fewer
 pub moves_fall : (t next : Task) → step t ≡ Passes next → moves_left next < moves_left t
-moves_fall t next e = subst (StepFalls (moves_left t)) e (work-falls t t.work)
+moves_fall t next e = subst (StepFalls (moves_left t)) e (remaining-falls t t.remaining)
 
 comes-within : (n : ℕ) (t : Task) → moves_left t ≤ n → (stop : Stop) × IsNext t stop
-comes-within zero t h = by_step (step t) refl (work-falls t t.work)
+comes-within zero t h = by_step (step t) refl (remaining-falls t t.remaining)
   where
     by_step : (s : MoveOrStop) → step t ≡ s → StepFalls (moves_left t) s → (stop : Stop) × IsNext t stop
     by_step (Stops stop) e f = (stop, Now e)
     by_step (Passes next) e f = absurd (omega arith)
-comes-within (suc n) t h = by_step (step t) refl (work-falls t t.work) (comes-within n)
+comes-within (suc n) t h = by_step (step t) refl (remaining-falls t t.remaining) (comes-within n)
   where
     by_step : (s : MoveOrStop) → step t ≡ s → StepFalls (moves_left t) s → ((next : Task) → moves_left next ≤ n → (stop : Stop) × IsNext next stop) → (stop : Stop) × IsNext t stop
     by_step (Stops stop) e f go = (stop, Now e)

@@ -10,9 +10,9 @@ use Rattle.script_grammar.specs.declared.tree.Stmt.{Stmt, out-Stmt}
 use Rattle.script_grammar.specs.declared.tree.Act.{Act, out-Act}
 use Rattle.script_grammar.specs.declared.tree.Act.TheOpen as act
 use Rattle.script_grammar.specs.declared.tree.Act.TheOpen.{Act-F}
-use Rattle.serial_meaning.specs.Runs.{Run, done, goes_on, ◌then◌}
+use Rattle.serial_meaning.specs.Runs.{Run, done, continued, ◌then◌}
 use Rattle.serial_meaning.specs.Values.{value_of, values_of, slot_of, items_of, as_integer, is_true, at_index}
-use Rattle.serial_meaning.specs.Functions.{number_of, function_at}
+use Rattle.serial_meaning.specs.Functions.{function_number, function_at}
 use Rattle.serial_meaning.specs.Plan.{PlanView, functions_of}
 use Rattle.serial_meaning.specs.Exec.{State, Manner, unless_fault, paid_from, tested, has_room, fits_depth, spawn, implied, frame, called, right_side, found, looped, does, count_of}
 use Rattle.serial_meaning.specs.declared.value.Value.{Value}
@@ -21,7 +21,7 @@ use Rattle.serial_meaning.specs.declared.event.FaultKind.{FaultKind}
 use Rattle.serial_meaning.specs.declared.event.FaultKind.TheVariants.{Index, Depth, Calls, Budget}
 use Rattle.serial_meaning.specs.declared.event.Fault.{Fault}
 use Rattle.script_check.specs.Spawns.{spawns_in}
-use Rattle.strand_meaning.specs.Machine.{Destination, Spawned, Looped, Effect, Exit, Faulted, Inside, handing, inside, destination_of, Level, Frame, Machine, Reached, Stands, Gives, state_of, here_of, with_left, with_returning, back, machine_inside, reached, gives, value_run, statement_move, return_move, level_move, end_move, move_at, move}
+use Rattle.strand_meaning.specs.Machine.{Destination, Spawned, Looped, Effect, Exit, Faulted, Inside, handing, inside, child_destination, Level, Frame, Machine, Reached, Stands, Gives, state_of, here_of, with_left, with_returning, back_in_caller, machine_inside, reached, gives, value_run, statement_move, return_move, level_move, end_move, move_at, move}
 use Rattle.strand_meaning.specs.Left.{ways_out, all_ways_out, moves_of}
 
 -- no more than these steps are left, where it goes on or inside
@@ -39,7 +39,7 @@ pair_steps p = p.1.steps
 within-then : {A B : Type 0} (f-steps : A → ℕ) (g-steps : B → ℕ) (n : ℕ) (r : Run Effect Exit A) (f : A → Run Effect Exit B) → Within f-steps n r.ending → ((a : A) → f-steps a ≤ n → Within g-steps n (f a).ending) → Within g-steps n (r then f).ending
 within-then {A = A} {B = B} f-steps g-steps n r f h k = from r.items r.ending h
   where
-    from : (items : List Effect) (e : Result A Exit) → Within f-steps n e → Within g-steps n (goes_on items e f).ending
+    from : (items : List Effect) (e : Result A Exit) → Within f-steps n e → Within g-steps n (continued items e f).ending
     from items (Ok a) g = k a g
     from items (Err (Faulted x)) g = tt
     from items (Err (Inside here calls inner s)) g = g
@@ -71,7 +71,7 @@ module _ (plan : PlanView) (path : List ℕ) where
         (within-then pair_steps pair_steps n (frame (what destination) plan path inside (calls + 1) callee vs s) _ (by_function vs callee) (λ p g. g)))
       where
         callee : Option Function
-        callee = function_at (functions_of plan) (number_of (functions_of plan) c.name.bytes)
+        callee = function_at (functions_of plan) (function_number (functions_of plan) c.name.bytes)
 
         by_function : (vs : List Value) (o : Option Function) → Within pair_steps n (frame (what destination) plan path inside (calls + 1) o vs s).ending
         by_function vs None = h
@@ -91,7 +91,7 @@ module _ (plan : PlanView) (path : List ℕ) where
         fewer : s.steps - hi ≤ n
         fewer = omega arith
 
-    does-within : (height : ℕ) (st : Stmt) (a : Act-F Act Stmt) (s : State Bool) → s.steps ≤ n → Within steps_of n (does (what (destination_of height a)) plan path inside height st a s).ending
+    does-within : (height : ℕ) (st : Stmt) (a : Act-F Act Stmt) (s : State Bool) → s.steps ≤ n → Within steps_of n (does (what (child_destination height a)) plan path inside height st a s).ending
     does-within height st (act.Let x r) s h = within-then pair_steps steps_of n (right_side (what (Spawned height (Some x))) plan path inside height r s) _ (right-within (Spawned height (Some x)) height r s h) (λ p g. g)
     does-within height st (act.Array x k) s h = h
     does-within height st (act.Set x r) s h = within-then pair_steps steps_of n (right_side (what (Spawned height (Some x))) plan path inside height r s) _ (right-within (Spawned height (Some x)) height r s h) (λ p g. g)
@@ -169,11 +169,11 @@ module _ (plan : PlanView) (path : List ℕ) where
           fewer : (k : Machine) → k.steps ≡ s.steps → open_in k ≤ open_in m + 2 → moves_of k < moves_of m
           fewer k x y = omega arith
 
-      by_steps : (n : ℕ) → m.steps ≡ n → Falls m (reached plan (with_left m left) (machine_inside plan st a left m) (paid_from (handing plan (destination_of (length m.below) a)) plan (here_of path m) n (state_of m) (λ s. does (handing plan (destination_of (length m.below) a)) plan (here_of path m) inside (length m.below) st a s)).ending)
+      by_steps : (n : ℕ) → m.steps ≡ n → Falls m (reached plan (with_left m left) (machine_inside plan st a left m) (paid_from (handing plan (child_destination (length m.below) a)) plan (here_of path m) n (state_of m) (λ s. does (handing plan (child_destination (length m.below) a)) plan (here_of path m) inside (length m.below) st a s)).ending)
       by_steps zero h = tt
       by_steps (suc n) h =
           let s : State Bool = record (state_of m) { steps = n } in
-          by_end n h (does (handing plan (destination_of (length m.below) a)) plan (here_of path m) inside (length m.below) st a s).ending (does-within plan (here_of path m) n (length m.below) st a s (omega arith))
+          by_end n h (does (handing plan (child_destination (length m.below) a)) plan (here_of path m) inside (length m.below) st a s).ending (does-within plan (here_of path m) n (length m.below) st a s (omega arith))
 
   return-falls : (m : Machine) (returning : Bool) → Falls m (return_move plan path m returning).ending
   return-falls m false = by_steps m.steps refl
@@ -190,7 +190,7 @@ module _ (plan : PlanView) (path : List ℕ) where
       by_steps (suc n) h = by_text n h (spawns_in (function_at (functions_of plan) m.top.function))
   return-falls m true = by_function (function_at (functions_of plan) m.top.function)
     where
-      to_caller : (v : Value) (below : List Frame) → m.below ≡ below → Falls m (Ok (back below m.top.target v m.rank m.steps))
+      to_caller : (v : Value) (below : List Frame) → m.below ≡ below → Falls m (Ok (back_in_caller below m.top.target v m.rank m.steps))
       to_caller v [] h = tt
       to_caller v (caller ∷ below) h = rw h (omega arith)
 

@@ -13,12 +13,12 @@ use Rattle.serial_meaning.specs.declared.origin.Origin.{Origin}
 use Rattle.serial_meaning.specs.declared.origin.Origin.TheVariants.{Instance, Loop}
 use Rattle.serial_meaning.specs.declared.answer.Outcome.{Outcome}
 use Rattle.script_grammar.specs.declared.tree.Name.{Name}
-use Rattle.strand_meaning.specs.Machine.{Destination, Spawned, Looped, Half, Effect, Opens, Closes, Emitted, Handed, Syncs, Loops, loop_effects, sync_effects, Machine, Reached, Stands, Gives, begun, move}
+use Rattle.strand_meaning.specs.Machine.{Destination, Spawned, Looped, Half, Effect, Opens, Closes, Emitted, Handed, Syncs, Loops, loop_effects, sync_effects, Machine, Reached, Stands, Gives, function_begun, move}
 use Rattle.strand_meaning.specs.Trace.{AwaitedChild, with_effects}
-use Rattle.strand_meaning.specs.Task.{InstanceState, Running, AtSync, AtLoop, Ended, Work, Splits, Runs, Finished, Task, begun_stage, begins_last, own_instance, MoveOrStop, Passes, Stops, Stop, Spawn, Wait, End, IsNext, Now, Later, stage_after, child_in, stops_at, passing, moved, waits, ends_unless, faults_after, gave, stage_step, split_step, over_step, work_step, step, takes, takes_all, joins, resumed, resumed_work, on}
+use Rattle.strand_meaning.specs.Task.{Stage, Running, AtSync, AtLoop, Ended, Remaining, Splits, Runs, Finished, Task, begun_stage, begins_last, own_instance, MoveOrStop, Passes, Stops, Stop, Spawn, Wait, End, IsNext, Now, Later, stage_after, child_in, stops_at, passing, step_result, waits, ends_unless, faults_after, returned, stage_step, split_step, over_step, remaining_step, step, takes, takes_all, pass_sync, resumed, resumed_remaining, on}
 use Rattle.strand_meaning.specs.Rest.{children_of, evaluations, rest_of_stage, rest_open}
-use Rattle.strand_meaning.specs.Sound.{AreHalves, IsSoundStage, IsSoundWork, IsTask}
-use Rattle.strand_meaning.specs.Left.{item_stops, at_end, stage_stops, work_stops, stops_of, stops_left}
+use Rattle.strand_meaning.specs.Sound.{AreHalves, IsSoundStage, IsSoundRemaining, IsTask}
+use Rattle.strand_meaning.specs.Left.{item_stops, at_end, stage_stops, remaining_stops, stops_of, stops_left}
 use Rattle.strand_meaning.specs.Laws.{LeavesFewer, IsSoundStep}
 use Rattle.strand_meaning.specs.Observation.{effect_items}
 use Rattle.strand_meaning.proofs.Unfilled.RestAfterEffects.{effect_parts}
@@ -146,21 +146,21 @@ module _ (t : Task) (is : IsTask t) (idle : t.waiting ≡ false) where
   path = path_of own
 
   -- the number of other work
-  abbrev of_work : List AwaitedChild → Work → ℕ
-  of_work parts work = stops_of t.plan t.origin false parts work
+  abbrev of_remaining : List AwaitedChild → Remaining → ℕ
+  of_remaining parts remaining = stops_of t.plan t.origin false parts remaining
 
-  left-is : (work : Work) → t.work ≡ work → stops_left t ≡ of_work ps work
-  left-is work at = ap (λ b. stops_of t.plan t.origin b ps t.work) idle ∙ ap (λ w. of_work ps w) at
+  left-is : (remaining : Remaining) → t.remaining ≡ remaining → stops_left t ≡ of_remaining ps remaining
+  left-is remaining at = ap (λ b. stops_of t.plan t.origin b ps t.remaining) idle ∙ ap (λ w. of_remaining ps w) at
 
-  next-is : (parts : List AwaitedChild) (work : Work) → stops_of t.plan t.origin t.waiting parts work ≡ of_work parts work
-  next-is parts work = ap (λ b. stops_of t.plan t.origin b parts work) idle
+  next-is : (parts : List AwaitedChild) (remaining : Remaining) → stops_of t.plan t.origin t.waiting parts remaining ≡ of_remaining parts remaining
+  next-is parts remaining = ap (λ b. stops_of t.plan t.origin b parts remaining) idle
 
   fewer-ends : (f : Option Fault) (ended : Outcome) → FewerStep t (ends_unless f t ended)
   fewer-ends None ended = tt
   fewer-ends (Some f) ended = tt
 
   -- after a move
-  module _ (m : Machine) (at : t.work ≡ Runs (Running m)) where
+  module _ (m : Machine) (at : t.remaining ≡ Runs (Running m)) where
     abbrev before : ℕ
     before = item_stops (rest_open t.plan kids path ps (Running m)).items
 
@@ -170,21 +170,21 @@ module _ (t : Task) (is : IsTask t) (idle : t.waiting ≡ false) where
     shows-items : (ts : List Effect) (rest : Run Item NodeFault Value) → rest_open t.plan kids path ps (Running m) ≡ after_items (effect_items ts) rest → before ≡ item_stops (effect_items ts) + item_stops rest.items
     shows-items ts rest h = ap (λ (r : Run Item NodeFault Value). item_stops r.items) h ∙ items-append (effect_items ts) rest.items
 
-    fewer-at : (o : Option Origin) (ts : List Effect) (stage : InstanceState) → child_in ts ≡ o →
+    fewer-at : (o : Option Origin) (ts : List Effect) (stage : Stage) → child_in ts ≡ o →
         stops_of t.plan t.origin false (with_effects ts t.trace).handed (Runs stage) ≤ 2 + (waits_in ts + (3 + (before - item_stops (effect_items ts)))) → waits_in ts ≤ item_stops (effect_items ts) → item_stops (effect_items ts) ≤ before →
         FewerStep t (stops_at o (passing t ts (Runs stage)))
     fewer-at None ts stage h some paid-for inside = (no_more (next-is (with_effects ts t.trace).handed (Runs stage)) now-is, idle)
       where
-        no_more : stops_of t.plan t.origin t.waiting (with_effects ts t.trace).handed (Runs stage) ≡ of_work (with_effects ts t.trace).handed (Runs stage) → stops_left t ≡ 2 + (3 + before) →
+        no_more : stops_of t.plan t.origin t.waiting (with_effects ts t.trace).handed (Runs stage) ≡ of_remaining (with_effects ts t.trace).handed (Runs stage) → stops_left t ≡ 2 + (3 + before) →
             stops_left (passing t ts (Runs stage)) ≤ stops_left t
         no_more e f = omega arith
     fewer-at (Some o) ts stage h some paid-for inside = (fewer (next-is (with_effects ts t.trace).handed (Runs stage)) now-is (child-paid ts o h) (few-waits ts), idle)
       where
-        fewer : stops_of t.plan t.origin t.waiting (with_effects ts t.trace).handed (Runs stage) ≡ of_work (with_effects ts t.trace).handed (Runs stage) → stops_left t ≡ 2 + (3 + before) →
+        fewer : stops_of t.plan t.origin t.waiting (with_effects ts t.trace).handed (Runs stage) ≡ of_remaining (with_effects ts t.trace).handed (Runs stage) → stops_left t ≡ 2 + (3 + before) →
             2 ≤ item_stops (effect_items ts) → waits_in ts ≤ 1 → stops_left (passing t ts (Runs stage)) < stops_left t
         fewer e f g k = omega arith
 
-    fewer-moved : (ts : List Effect) (e : Result Reached Fault) → Paid ts → rest_open t.plan kids path ps (Running m) ≡ after_items (effect_items ts) (shown_with t.plan kids path ps ts e) → FewerStep t (moved t ts e)
+    fewer-moved : (ts : List Effect) (e : Result Reached Fault) → Paid ts → rest_open t.plan kids path ps (Running m) ≡ after_items (effect_items ts) (shown_with t.plan kids path ps ts e) → FewerStep t (step_result t ts e)
     fewer-moved ts (Ok (Stands k)) p h =
         let rest : Run Item NodeFault Value = rest_open t.plan kids path (ps ++ effect_parts ts) (stage_after ts k) in
         let after = (with_effects ts t.trace).handed in
@@ -210,20 +210,20 @@ module _ (t : Task) (is : IsTask t) (idle : t.waiting ≡ false) where
             stops_left (passing t ts (Runs (Ended (Err (Own x))))) ≤ stops_left t
         few e f g = omega arith
 
-    fewer-going : IsSoundStage t.plan ps (Running m) → FewerStep t (moved t (move t.plan path m).items (move t.plan path m).ending)
+    fewer-going : IsSoundStage t.plan ps (Running m) → FewerStep t (step_result t (move t.plan path m).items (move t.plan path m).ending)
     fewer-going sound =
         let r = move t.plan path m in
         fewer-moved r.items r.ending (effects-move Paid t.plan path (paid path) m)
         (open-move t.plan kids path (length m.below) ps sound.0 m (sound-free t.plan ps m sound) (none-known kids ps m sound.1.spawned sound.1.faulted) (λ h. (sound.1.leaving h).1))
 
   -- a wait that the task comes to
-  fewer-wait : (work : Work) → t.work ≡ work → stops_of t.plan t.origin true ps work < of_work ps work → FewerStep t (waits t)
-  fewer-wait work at h = (fewer (left-is work at) (ap (λ w. stops_of t.plan t.origin true ps w) at), refl)
+  fewer-wait : (remaining : Remaining) → t.remaining ≡ remaining → stops_of t.plan t.origin true ps remaining < of_remaining ps remaining → FewerStep t (waits t)
+  fewer-wait remaining at h = (fewer (left-is remaining at) (ap (λ w. stops_of t.plan t.origin true ps w) at), refl)
     where
-      fewer : stops_left t ≡ of_work ps work → stops_of t.plan t.origin true ps t.work ≡ stops_of t.plan t.origin true ps work → stops_of t.plan t.origin true ps t.work < stops_left t
+      fewer : stops_left t ≡ of_remaining ps remaining → stops_of t.plan t.origin true ps t.remaining ≡ stops_of t.plan t.origin true ps remaining → stops_of t.plan t.origin true ps t.remaining < stops_left t
       fewer e f = omega arith
 
-  fewer-faults : (f : Fault) (qs : List AwaitedChild) → ps ≡ qs → t.work ≡ Runs (Ended (Err (Own f))) → FewerStep t (faults_after qs t f)
+  fewer-faults : (f : Fault) (qs : List AwaitedChild) → ps ≡ qs → t.remaining ≡ Runs (Ended (Err (Own f))) → FewerStep t (faults_after qs t f)
   fewer-faults f [] h at = fewer-ends t.trace.fault _
   fewer-faults f (q ∷ qs) h at = fewer-wait (Runs (Ended (Err (Own f)))) at (from ps h)
     where
@@ -232,21 +232,21 @@ module _ (t : Task) (is : IsTask t) (idle : t.waiting ≡ false) where
       from (r ∷ rs) e = omega arith
 
   -- work that the task goes on with
-  fewer-work : (work next : Work) → t.work ≡ work → of_work ps next ≤ of_work ps work → FewerStep t (Passes (record t { work = next; advanced = true }))
-  fewer-work work next at h = (no_more (left-is work at) (next-is ps next), idle)
+  fewer-remaining : (remaining next : Remaining) → t.remaining ≡ remaining → of_remaining ps next ≤ of_remaining ps remaining → FewerStep t (Passes (record t { remaining = next; advanced = true }))
+  fewer-remaining remaining next at h = (no_more (left-is remaining at) (next-is ps next), idle)
     where
-      no_more : stops_left t ≡ of_work ps work → stops_of t.plan t.origin t.waiting ps next ≡ of_work ps next → stops_of t.plan t.origin t.waiting ps next ≤ stops_left t
+      no_more : stops_left t ≡ of_remaining ps remaining → stops_of t.plan t.origin t.waiting ps next ≡ of_remaining ps next → stops_of t.plan t.origin t.waiting ps next ≤ stops_left t
       no_more e f = omega arith
 
-  fewer-gave : (o : Origin) (v : Value) → t.work ≡ Runs (Ended (Ok v)) → FewerStep t (gave t o v)
+  fewer-gave : (o : Origin) (v : Value) → t.remaining ≡ Runs (Ended (Ok v)) → FewerStep t (returned t o v)
   fewer-gave (Instance function args path) v at = fewer-ends t.trace.fault _
-  fewer-gave (Loop function rest first path range) v at = fewer-work (Runs (Ended (Ok v))) (Finished v false) at (from ps)
+  fewer-gave (Loop function rest first path range) v at = fewer-remaining (Runs (Ended (Ok v))) (Finished v false) at (from ps)
     where
       from : (qs : List AwaitedChild) → 1 + 1 ≤ 2 + at_end false qs
       from [] = omega arith
       from (q ∷ qs) = omega arith
 
-  fewer-stage : (stage : InstanceState) → t.work ≡ Runs stage → IsSoundStage t.plan ps stage → FewerStep t (stage_step t stage)
+  fewer-stage : (stage : Stage) → t.remaining ≡ Runs stage → IsSoundStage t.plan ps stage → FewerStep t (stage_step t stage)
   fewer-stage (Running m) at sound = fewer-going m at sound
   fewer-stage (AtSync m) at sound = fewer-wait (Runs (AtSync m)) at (omega arith)
   fewer-stage (AtLoop m) at sound = fewer-wait (Runs (AtLoop m)) at (omega arith)
@@ -254,7 +254,7 @@ module _ (t : Task) (is : IsTask t) (idle : t.waiting ≡ false) where
   fewer-stage (Ended (Err (Own f))) at sound = fewer-faults f ps refl at
   fewer-stage (Ended (Err (ChildFaulted f))) at sound = fewer-ends t.trace.fault _
 
-  fewer-over : (v : Value) (o : Origin) → t.work ≡ Finished v false → FewerStep t (over_step t v o)
+  fewer-over : (v : Value) (o : Origin) → t.remaining ≡ Finished v false → FewerStep t (over_step t v o)
   fewer-over v (Instance function args path) at = fewer-ends t.trace.fault _
   fewer-over v (Loop function rest first path range) at = by_size (range.hi - range.lo) refl
     where
@@ -270,38 +270,38 @@ module _ (t : Task) (is : IsTask t) (idle : t.waiting ≡ false) where
       let h : item_stops (rest_open t.plan child path ps (Running m)).items ≡ item_stops (rest_open t.plan child path [] (Running m)).items =
       ap (λ (r : Run Item NodeFault Value). item_stops r.items) (halves-rest t.plan child path ps halves (Stands m) ∙ sym (halves-rest t.plan child path [] tt (Stands m))) in omega arith
 
-  last-few : AreHalves ps → (o : Origin) → stops_of t.plan o false ps (begins_last t.plan o) ≤ 1 + work_stops t.plan o false [] (begins_last t.plan o)
+  last-few : AreHalves ps → (o : Origin) → stops_of t.plan o false ps (begins_last t.plan o) ≤ 1 + remaining_stops t.plan o false [] (begins_last t.plan o)
   last-few halves (Instance function args path) =
-      let o = Instance function args path in more _ _ (begun-few (children_of t.plan (own_instance o)) (path_of (own_instance o)) halves (begun t.plan function args))
+      let o = Instance function args path in more _ _ (begun-few (children_of t.plan (own_instance o)) (path_of (own_instance o)) halves (function_begun t.plan function args))
     where
       more : (a b : ℕ) → a ≤ 1 + b → 2 + a ≤ 1 + (2 + b)
       more a b h = omega arith
   last-few halves (Loop function rest first path range) =
-      let o = Loop function rest first path range in more _ _ (begun-few (children_of t.plan (own_instance o)) (path_of (own_instance o)) halves (begun t.plan function _))
+      let o = Loop function rest first path range in more _ _ (begun-few (children_of t.plan (own_instance o)) (path_of (own_instance o)) halves (function_begun t.plan function _))
     where
       more : (a b : ℕ) → a ≤ 1 + b → 2 + a ≤ 1 + (2 + b)
       more a b h = omega arith
 
-  fewer-split : (left : Range) (n : ℕ) → left.hi - left.lo ≡ n → t.work ≡ Splits left → AreHalves ps → FewerStep t (split_step t left n)
+  fewer-split : (left : Range) (n : ℕ) → left.hi - left.lo ≡ n → t.remaining ≡ Splits left → AreHalves ps → FewerStep t (split_step t left n)
   fewer-split left zero h at halves = fewer-ends t.trace.fault _
-  fewer-split left (suc zero) h at halves = fewer-work (Splits left) (begins_last t.plan t.origin) at (one _ _ (last-few halves t.origin))
+  fewer-split left (suc zero) h at halves = fewer-remaining (Splits left) (begins_last t.plan t.origin) at (one _ _ (last-few halves t.origin))
     where
       one : (a b : ℕ) → a ≤ 1 + b → a ≤ (left.hi - left.lo) + b
       one a b g = omega arith
   fewer-split left (suc (suc n)) h at halves = (smaller (left-is (Splits left) at), idle)
     where
-      smaller : stops_left t ≡ (left.hi - left.lo) + work_stops t.plan t.origin false [] (begins_last t.plan t.origin) →
-          (left.hi - (left.lo + (left.hi - left.lo) / 2)) + work_stops t.plan t.origin false [] (begins_last t.plan t.origin) < stops_left t
+      smaller : stops_left t ≡ (left.hi - left.lo) + remaining_stops t.plan t.origin false [] (begins_last t.plan t.origin) →
+          (left.hi - (left.lo + (left.hi - left.lo) / 2)) + remaining_stops t.plan t.origin false [] (begins_last t.plan t.origin) < stops_left t
       smaller e = omega arith
 
-  fewer-of : (work : Work) → t.work ≡ work → IsSoundWork t.plan t.origin ps work → FewerStep t (work_step t work)
+  fewer-of : (remaining : Remaining) → t.remaining ≡ remaining → IsSoundRemaining t.plan t.origin ps remaining → FewerStep t (remaining_step t remaining)
   fewer-of (Splits left) at sound = fewer-split left (left.hi - left.lo) refl at sound.1
   fewer-of (Runs stage) at sound = fewer-stage stage at sound.2
   fewer-of (Finished v true) at sound = fewer-ends t.trace.fault _
   fewer-of (Finished v false) at sound = fewer-over v t.origin at
 
   fewer-step : FewerStep t (step t)
-  fewer-step = fewer-of t.work refl is.work
+  fewer-step = fewer-of t.remaining refl is.remaining
 
 fewer-further : (t next : Task) (stop : Stop) → stops_left next ≤ stops_left t → LeavesFewer next stop → LeavesFewer t stop
 fewer-further t next (Spawn child rest) h f = (less f.0, f.1)
@@ -324,11 +324,11 @@ stops_fall t stop is idle (Later next h n) =
 -- Answers
 
 module _ (plan : PlanView) (child : Origin → Evaluation) (path : List ℕ) where
-  resumed-few : (stage : InstanceState) → stage_stops plan child path false [] (resumed stage) ≤ 3 + item_stops (rest_open plan child path [] (resumed stage)).items
+  resumed-few : (stage : Stage) → stage_stops plan child path false [] (resumed stage) ≤ 3 + item_stops (rest_open plan child path [] (resumed stage)).items
   resumed-few (Running m) = omega arith
   resumed-few (AtSync m) = by_fault m.top.faulted
     where
-      by_fault : (f : Option Fault) → stage_stops plan child path false [] (joins f m) ≤ 3 + item_stops (rest_open plan child path [] (joins f m)).items
+      by_fault : (f : Option Fault) → stage_stops plan child path false [] (pass_sync f m) ≤ 3 + item_stops (rest_open plan child path [] (pass_sync f m)).items
       by_fault None = omega arith
       by_fault (Some f) = omega arith
   resumed-few (AtLoop m) = omega arith
@@ -348,7 +348,7 @@ module _ (plan : PlanView) (child : Origin → Evaluation) (path : List ℕ) whe
 
 -- The answers leave no more stops than the wait did.
 pub answers_leave_no_more : (t : Task) → IsTask t → t.waiting ≡ true → stops_left (on (evaluations (eval t.plan) t.trace.handed) t) ≤ stops_left t
-answers_leave_no_more t is stands = whole (by_work t.work)
+answers_leave_no_more t is stands = whole (by_remaining t.remaining)
   where
     ps : List AwaitedChild
     ps = t.trace.handed
@@ -359,10 +359,10 @@ answers_leave_no_more t is stands = whole (by_work t.work)
     answers : List Evaluation
     answers = evaluations (eval t.plan) ps
 
-    size : InstanceState → ℕ
+    size : Stage → ℕ
     size stage = item_stops (rest_open t.plan (children_of t.plan own) (path_of own) ps stage).items
 
-    going : (stage : InstanceState) → stage_stops t.plan (children_of t.plan own) (path_of own) false [] (resumed (takes_all ps answers stage)) ≤ 3 + size stage
+    going : (stage : Stage) → stage_stops t.plan (children_of t.plan own) (path_of own) false [] (resumed (takes_all ps answers stage)) ≤ 3 + size stage
     going stage =
         let same : size stage ≡ item_stops (rest_open t.plan (children_of t.plan own) (path_of own) [] (resumed (takes_all ps answers stage))).items = ap (λ (r : Run Item NodeFault Value). item_stops r.items) (rest-same t is stage) in
         let few = resumed-few t.plan (children_of t.plan own) (path_of own) (takes_all ps answers stage) in bound _ _ _ same few
@@ -373,7 +373,7 @@ answers_leave_no_more t is stands = whole (by_work t.work)
     two : (a b : ℕ) → a ≤ b → 2 + a ≤ 2 + b
     two a b h = omega arith
 
-    by_stage : (stage : InstanceState) → stage_stops t.plan (children_of t.plan own) (path_of own) false [] (resumed (takes_all ps answers stage)) ≤ stage_stops t.plan (children_of t.plan own) (path_of own) true ps stage
+    by_stage : (stage : Stage) → stage_stops t.plan (children_of t.plan own) (path_of own) false [] (resumed (takes_all ps answers stage)) ≤ stage_stops t.plan (children_of t.plan own) (path_of own) true ps stage
     by_stage (Running m) = going (Running m)
     by_stage (AtSync m) = plus (going (AtSync m))
       where
@@ -385,14 +385,14 @@ answers_leave_no_more t is stands = whole (by_work t.work)
         plus h = omega arith
     by_stage (Ended e) = ended-few t.plan (children_of t.plan own) (path_of own) ps answers e
 
-    by_work : (work : Work) → stops_of t.plan t.origin false [] (resumed_work ps answers work) ≤ stops_of t.plan t.origin true ps work
-    by_work (Splits left) = omega arith
-    by_work (Runs stage) = two _ _ (by_stage stage)
-    by_work (Finished v true) = omega arith
-    by_work (Finished v false) = omega arith
+    by_remaining : (remaining : Remaining) → stops_of t.plan t.origin false [] (resumed_remaining ps answers remaining) ≤ stops_of t.plan t.origin true ps remaining
+    by_remaining (Splits left) = omega arith
+    by_remaining (Runs stage) = two _ _ (by_stage stage)
+    by_remaining (Finished v true) = omega arith
+    by_remaining (Finished v false) = omega arith
 
-    whole : stops_of t.plan t.origin false [] (resumed_work ps answers t.work) ≤ stops_of t.plan t.origin true ps t.work → stops_left (on answers t) ≤ stops_left t
+    whole : stops_of t.plan t.origin false [] (resumed_remaining ps answers t.remaining) ≤ stops_of t.plan t.origin true ps t.remaining → stops_left (on answers t) ≤ stops_left t
     whole h =
         let none : (on answers t).trace.handed ≡ [] = none-handed t is in
-        let after : stops_left (on answers t) ≡ stops_of t.plan t.origin false [] (resumed_work ps answers t.work) = ap (λ qs. stops_of t.plan t.origin false qs (resumed_work ps answers t.work)) none in
-        let before : stops_left t ≡ stops_of t.plan t.origin true ps t.work = ap (λ b. stops_of t.plan t.origin b ps t.work) stands in omega arith
+        let after : stops_left (on answers t) ≡ stops_of t.plan t.origin false [] (resumed_remaining ps answers t.remaining) = ap (λ qs. stops_of t.plan t.origin false qs (resumed_remaining ps answers t.remaining)) none in
+        let before : stops_left t ≡ stops_of t.plan t.origin true ps t.remaining = ap (λ b. stops_of t.plan t.origin b ps t.remaining) stands in omega arith

@@ -13,13 +13,13 @@ use Rattle.serial_meaning.specs.declared.origin.Origin.TheVariants.{Instance, Lo
 use Rattle.serial_meaning.specs.declared.answer.Outcome.{Outcome}
 use Rattle.strand_meaning.specs.Machine.{Effect, Reached, Stands, Gives, move}
 use Rattle.strand_meaning.specs.Trace.{AwaitedChild}
-use Rattle.strand_meaning.specs.Task.{InstanceState, Running, AtSync, AtLoop, Ended, Work, Splits, Runs, Finished, Task, own_instance, MoveOrStop, Passes, Stops, Stop, Spawn, Wait, End, IsNext, Now, Later, stage_after, child_in, stops_at, passing, moved, ends_unless, faults_after, gave, stage_step, split_step, over_step, work_step, step}
+use Rattle.strand_meaning.specs.Task.{Stage, Running, AtSync, AtLoop, Ended, Remaining, Splits, Runs, Finished, Task, own_instance, MoveOrStop, Passes, Stops, Stop, Spawn, Wait, End, IsNext, Now, Later, stage_after, child_in, stops_at, passing, step_result, ends_unless, faults_after, returned, stage_step, split_step, over_step, remaining_step, step}
 use Rattle.strand_meaning.specs.Sound.{IsTask}
-use Rattle.strand_meaning.specs.Laws.{IsSoundStop, IsSoundStep, IsFaultOf, IsOf, KeepsOrigin}
+use Rattle.strand_meaning.specs.Laws.{IsSoundStop, IsSoundStep, IsFaultOf, IsSameTask, KeepsOrigin}
 use Rattle.strand_meaning.proofs.SoundSteps.Ends.{steps_are_sound}
 
 abbrev pub KeepsStep : Task → MoveOrStop → Type 0
-KeepsStep t (Passes next) = IsOf t next
+KeepsStep t (Passes next) = IsSameTask t next
 KeepsStep t (Stops stop) = KeepsOrigin t stop
 
 module _ (t : Task) where
@@ -27,11 +27,11 @@ module _ (t : Task) where
   keeps-ends None ended = tt
   keeps-ends (Some f) ended = tt
 
-  keeps-at : (o : Option Origin) (next : Task) → IsOf t next → KeepsStep t (stops_at o next)
+  keeps-at : (o : Option Origin) (next : Task) → IsSameTask t next → KeepsStep t (stops_at o next)
   keeps-at None next h = h
   keeps-at (Some o) next h = h
 
-  keeps-moved : (ts : List Effect) (e : Result Reached Fault) → KeepsStep t (moved t ts e)
+  keeps-moved : (ts : List Effect) (e : Result Reached Fault) → KeepsStep t (step_result t ts e)
   keeps-moved ts (Ok (Stands m)) = keeps-at (child_in ts) (passing t ts (Runs (stage_after ts m))) (refl, refl)
   keeps-moved ts (Ok (Gives v)) = (refl, refl)
   keeps-moved ts (Err f) = (refl, refl)
@@ -40,11 +40,11 @@ module _ (t : Task) where
   keeps-faults [] f = keeps-ends t.trace.fault _
   keeps-faults (p ∷ ps) f = (refl, refl)
 
-  keeps-gave : (o : Origin) (v : Value) → KeepsStep t (gave t o v)
+  keeps-gave : (o : Origin) (v : Value) → KeepsStep t (returned t o v)
   keeps-gave (Instance function args path) v = keeps-ends t.trace.fault _
   keeps-gave (Loop function rest first path range) v = (refl, refl)
 
-  keeps-stage : (stage : InstanceState) → KeepsStep t (stage_step t stage)
+  keeps-stage : (stage : Stage) → KeepsStep t (stage_step t stage)
   keeps-stage (Running m) = let r = move t.plan (path_of (own_instance t.origin)) m in keeps-moved r.items r.ending
   keeps-stage (AtSync m) = (refl, refl)
   keeps-stage (AtLoop m) = (refl, refl)
@@ -66,16 +66,16 @@ module _ (t : Task) where
       by_size (suc zero) g = rw g (keeps-ends t.trace.fault _)
       by_size (suc (suc n)) g = rw g (refl, refl)
 
-  keeps-work : (work : Work) → KeepsStep t (work_step t work)
-  keeps-work (Splits left) = keeps-split left (left.hi - left.lo)
-  keeps-work (Runs stage) = keeps-stage stage
-  keeps-work (Finished v true) = keeps-ends t.trace.fault _
-  keeps-work (Finished v false) = keeps-over v t.origin
+  keeps-remaining : (remaining : Remaining) → KeepsStep t (remaining_step t remaining)
+  keeps-remaining (Splits left) = keeps-split left (left.hi - left.lo)
+  keeps-remaining (Runs stage) = keeps-stage stage
+  keeps-remaining (Finished v true) = keeps-ends t.trace.fault _
+  keeps-remaining (Finished v false) = keeps-over v t.origin
 
 pub step-keeps : (t : Task) → KeepsStep t (step t)
-step-keeps t = keeps-work t t.work
+step-keeps t = keeps-remaining t t.remaining
 
-keeps-further : (t next : Task) (stop : Stop) → IsOf t next → KeepsOrigin next stop → KeepsOrigin t stop
+keeps-further : (t next : Task) (stop : Stop) → IsSameTask t next → KeepsOrigin next stop → KeepsOrigin t stop
 keeps-further t next (Spawn child rest) h k = (k.0 ∙ h.0, k.1 ∙ h.1)
 keeps-further t next (Wait rest) h k = (k.0 ∙ h.0, k.1 ∙ h.1)
 keeps-further t next (End out ended) h k = tt
@@ -84,7 +84,7 @@ pub stops_keep_origins : (t : Task) (stop : Stop) → IsNext t stop → KeepsOri
 stops_keep_origins t stop (Now h) = subst (KeepsStep t) h (step-keeps t)
 stops_keep_origins t stop (Later next h n) = keeps-further t next stop (subst (KeepsStep t) h (step-keeps t)) (stops_keep_origins next stop n)
 
-sound-further : (t next : Task) (stop : Stop) → IsOf t next → IsSoundStop next stop → IsSoundStop t stop
+sound-further : (t next : Task) (stop : Stop) → IsSameTask t next → IsSoundStop next stop → IsSoundStop t stop
 sound-further t next (Spawn child rest) h s = (subst (λ (p : PlanView). IsOriginOf p child) h.0 s.0, s.1)
 sound-further t next (Wait rest) h s = s
 sound-further t next (End out ended) h s =

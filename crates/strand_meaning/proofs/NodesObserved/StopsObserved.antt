@@ -5,20 +5,20 @@ use Rattle.serial_meaning.specs.Runs.{Run, done, after_items, ◌then◌}
 use Rattle.serial_meaning.specs.Functions.{function_at}
 use Rattle.serial_meaning.specs.Plan.{PlanView, functions_of}
 use Rattle.serial_meaning.specs.Eval.{Evaluation, path_of}
-use Rattle.serial_meaning.specs.Open.{Item, NodeFault, Own, ChildFaulted, Node, opened}
+use Rattle.serial_meaning.specs.Open.{Item, NodeFault, Own, ChildFaulted, Node, node_of}
 use Rattle.serial_meaning.specs.declared.value.Value.{Value}
 use Rattle.serial_meaning.specs.declared.event.Fault.{Fault}
 use Rattle.serial_meaning.specs.declared.origin.Origin.{Origin}
 use Rattle.serial_meaning.specs.declared.origin.Origin.TheVariants.{Instance, Loop}
 use Rattle.serial_meaning.specs.declared.answer.Outcome.{Outcome}
-use Rattle.strand_meaning.specs.Machine.{Effect, Opens, Closes, Emitted, Handed, Syncs, Loops, Machine, Reached, Stands, Gives, begun, move}
+use Rattle.strand_meaning.specs.Machine.{Effect, Opens, Closes, Emitted, Handed, Syncs, Loops, Machine, Reached, Stands, Gives, function_begun, move}
 use Rattle.strand_meaning.specs.Trace.{AwaitedChild, Trace, with_effects}
-use Rattle.strand_meaning.specs.Task.{InstanceState, Running, AtSync, AtLoop, Ended, Work, Splits, Runs, Finished, Task, MoveOrStop, Passes, Stops, Stop, Spawn, Wait, End, IsNext, Now, Later, stage_after, child_in, stops_at, passing, moved, ends_unless, faults_after, resumed, begun_stage, start, step}
+use Rattle.strand_meaning.specs.Task.{Stage, Running, AtSync, AtLoop, Ended, Remaining, Splits, Runs, Finished, Task, MoveOrStop, Passes, Stops, Stop, Spawn, Wait, End, IsNext, Now, Later, stage_after, child_in, stops_at, passing, step_result, ends_unless, faults_after, resumed, begun_stage, start, step}
 use Rattle.strand_meaning.specs.Rest.{children_of, rest_of_stage, rest_open}
-use Rattle.strand_meaning.specs.Laws.{IsSoundStep, IsOf}
+use Rattle.strand_meaning.specs.Laws.{IsSoundStep, IsSameTask}
 use Rattle.strand_meaning.specs.Sound.{AreDestinations, AreHalves, IsSoundStage, IsTask}
 use Rattle.strand_meaning.specs.Strands.{fault_of_child}
-use Rattle.strand_meaning.specs.Observation.{IsInstance, work_left, Observation, no_observation, newest, also, effect_items, move_fault, stage_observation, step_observation, Shows, Now as ShownNow, Later as ShownLater, own_fault_of, stage_fault, IsOnWay, IsAllObserved, OnWay}
+use Rattle.strand_meaning.specs.Observation.{IsInstance, remaining_node, Observation, no_observation, newest, also, effect_items, move_fault, stage_observation, step_observation, Shows, Now as ShownNow, Later as ShownLater, own_fault_of, stage_fault, IsOnWay, IsAllObserved, OnWay}
 use Rattle.strand_meaning.proofs.UnfilledPending.AlikeButEvents.{alike-effects, alike-takes}
 use Rattle.strand_meaning.proofs.SoundSteps.Closing.{after-then}
 use Rattle.strand_meaning.proofs.SoundSteps.Ends.{steps_are_sound}
@@ -47,7 +47,7 @@ also-nothing observation = ap (λ (l : List Item). record observation { items = 
 -- A move
 
 -- where an instance stands after a move
-abbrev stage_moved : List Effect → Result Reached Fault → InstanceState
+abbrev stage_moved : List Effect → Result Reached Fault → Stage
 stage_moved ts (Ok (Stands k)) = stage_after ts k
 stage_moved ts (Ok (Gives v)) = Ended (Ok v)
 stage_moved ts (Err f) = Ended (Err (Own f))
@@ -70,8 +70,8 @@ moved-fault ts (Ok (Gives v)) = refl
 moved-fault ts (Err f) = refl
 
 -- a task's instance on its way, with these parts handed out
-record Way (plan : PlanView) (o : Origin) (ps : List AwaitedChild) (stage : InstanceState) (observation : Observation) : Type 0 where
-  node : opened plan o ≡ after_items observation.items (work_left plan o ps (Runs stage))
+record Way (plan : PlanView) (o : Origin) (ps : List AwaitedChild) (stage : Stage) (observation : Observation) : Type 0 where
+  node : node_of plan o ≡ after_items observation.items (remaining_node plan o ps (Runs stage))
   fault : observation.fault ≡ stage_fault stage
   child_fault : observation.child_fault ≡ None
 
@@ -89,8 +89,8 @@ module _ (plan : PlanView) (o : Origin) where
     lands : (ts : List Effect) (e : Result Reached Fault) → SoundEnd plan ps ts e → shown_with plan kids path ps ts e ≡ rest_open plan kids path (with_effects ts trace).handed (stage_moved ts e)
     lands ts e fits = by_end e fits
       where
-        to-after : (stage : InstanceState) → rest_open plan kids path (ps ++ effect_parts ts) stage ≡ rest_open plan kids path (with_effects ts trace).handed stage
-        to-after stage = ap (λ (s : InstanceState). rest_of_stage plan kids path (resumed s)) (alike-takes kids (alike-effects ts trace) stage)
+        to-after : (stage : Stage) → rest_open plan kids path (ps ++ effect_parts ts) stage ≡ rest_open plan kids path (with_effects ts trace).handed stage
+        to-after stage = ap (λ (s : Stage). rest_of_stage plan kids path (resumed s)) (alike-takes kids (alike-effects ts trace) stage)
 
         no-more : effect_parts ts ≡ [] → ps ≡ ps ++ effect_parts ts
         no-more h = sym (ap (λ (l : List AwaitedChild). ps ++ l) h ∙ append-nil ps)
@@ -128,7 +128,7 @@ all_ended (Ok v) = Ok (v ∷ [])
 all_ended (Err e) = Err e
 
 module _ (plan : PlanView) (o : Origin) (ps : List AwaitedChild) (height : ℕ) (places : AreDestinations height ps) where
-  ended-node : (e : Result Value NodeFault) → work_left plan o ps (Runs (Ended e)) ≡ record { items = []; ending = all_ended e }
+  ended-node : (e : Result Value NodeFault) → remaining_node plan o ps (Runs (Ended e)) ≡ record { items = []; ending = all_ended e }
   ended-node e = ap (λ (r : Run Item NodeFault Value). r then λ v. done (v ∷ [])) (ended-rest plan (children_of plan o) (path_of o) height ps places e) ∙ by_end e
     where
       bare : Result Value NodeFault → Run Item NodeFault Value
@@ -142,7 +142,7 @@ module _ (plan : PlanView) (o : Origin) (ps : List AwaitedChild) (height : ℕ) 
   whole-ended : (observation : Observation) (e : Result Value NodeFault) → Way plan o ps (Ended e) observation → IsAllObserved plan o (also observation (stage_observation plan (path_of o) (Ended e)))
   whole-ended observation e w = by_end e (w.node ∙ ap (after_items observation.items) (ended-node e)) w.fault
     where
-      by_end : (e : Result Value NodeFault) → opened plan o ≡ record { items = observation.items ++ []; ending = all_ended e } → observation.fault ≡ own_fault_of e → IsAllObserved plan o (also observation (stage_observation plan (path_of o) (Ended e)))
+      by_end : (e : Result Value NodeFault) → node_of plan o ≡ record { items = observation.items ++ []; ending = all_ended e } → observation.fault ≡ own_fault_of e → IsAllObserved plan o (also observation (stage_observation plan (path_of o) (Ended e)))
       by_end (Ok v) same fault = record {
         items = ap (λ (n : Node). n.items) same;
         fault = ap (λ (n : Node). own_fault_of n.ending) same ∙ sym fault;
@@ -175,17 +175,17 @@ module _ (t : Task) (function : ℕ) (args : List Value) (at : List ℕ) where
   own = Instance function args at
 
   -- the task where this remains of its instance
-  abbrev with_stage : InstanceState → Task
-  with_stage stage = record t { origin = own; work = Runs stage }
+  abbrev with_stage : Stage → Task
+  with_stage stage = record t { origin = own; remaining = Runs stage }
 
-  abbrev Going : InstanceState → Observation → Type 0
+  abbrev Going : Stage → Observation → Type 0
   Going = Way t.plan own t.trace.handed
 
-  way-of : (stage : InstanceState) (observation : Observation) → IsOnWay observation (with_stage stage) → Going stage observation
+  way-of : (stage : Stage) (observation : Observation) → IsOnWay observation (with_stage stage) → Going stage observation
   way-of stage observation h = record { node = h.node; fault = h.fault; child_fault = h.child_fault }
 
-  on-way : (trace : Trace) (waiting : Bool) (stage : InstanceState) (observation : Observation) → Way t.plan own trace.handed stage observation →
-      IsOnWay observation (record t { origin = own; trace = trace; work = Runs stage; waiting = waiting; advanced = true })
+  on-way : (trace : Trace) (waiting : Bool) (stage : Stage) (observation : Observation) → Way t.plan own trace.handed stage observation →
+      IsOnWay observation (record t { origin = own; trace = trace; remaining = Runs stage; waiting = waiting; advanced = true })
   on-way trace waiting stage observation w = record { node = w.node; fault = w.fault; child_fault = w.child_fault }
 
   moves-on : (m : Machine) → IsTask (with_stage (Running m)) → (observation : Observation) → IsOnWay observation (with_stage (Running m)) → OnStep (also observation (step_observation (with_stage (Running m)))) (with_stage (Running m)) (step (with_stage (Running m)))
@@ -198,7 +198,7 @@ module _ (t : Task) (function : ℕ) (args : List Value) (at : List ℕ) where
       ps = t.trace.handed
 
       sound : IsSoundStage t.plan ps (Running m)
-      sound = is.work.2
+      sound = is.remaining.2
 
       fits : SoundEnd t.plan ps r.items r.ending
       fits = sound-move t.plan at is.clear ps m sound
@@ -210,7 +210,7 @@ module _ (t : Task) (function : ℕ) (args : List Value) (at : List ℕ) where
 
       by_end : (ts : List Effect) (e : Result Reached Fault) →
           let later : Observation = also observation (record { items = effect_items ts; fault = move_fault e; child_fault = None }) in
-          Way t.plan own (with_effects ts t.trace).handed (stage_moved ts e) later → OnStep later (with_stage (Running m)) (moved (with_stage (Running m)) ts e)
+          Way t.plan own (with_effects ts t.trace).handed (stage_moved ts e) later → OnStep later (with_stage (Running m)) (step_result (with_stage (Running m)) ts e)
       by_end ts (Ok (Stands k)) w = by_child (child_in ts)
         where
           later : Observation
@@ -223,41 +223,41 @@ module _ (t : Task) (function : ℕ) (args : List Value) (at : List ℕ) where
       by_end ts (Err f) w = on-way (with_effects ts t.trace) t.waiting (Ended (Err (Own f))) _ w
 
   -- a wait shows nothing
-  waits-on : (stage : InstanceState) (observation : Observation) → IsOnWay observation (with_stage stage) → IsOnWay (also observation no_observation) (record t { origin = own; work = Runs stage; waiting = true; advanced = true })
+  waits-on : (stage : Stage) (observation : Observation) → IsOnWay observation (with_stage stage) → IsOnWay (also observation no_observation) (record t { origin = own; remaining = Runs stage; waiting = true; advanced = true })
   waits-on stage observation h = on-way t.trace true stage (also observation no_observation) (subst (Going stage) (sym (also-nothing observation)) (way-of stage observation h))
 
   ends-so : (e : Result Value NodeFault) (height : ℕ) → AreDestinations height t.trace.handed → (observation : Observation) → IsOnWay observation (with_stage (Ended e)) → IsAllObserved t.plan own (also observation (stage_observation t.plan at (Ended e)))
   ends-so e height places observation h = whole-ended t.plan own t.trace.handed height places observation e (way-of (Ended e) observation h)
 
-  stage-on : (stage : InstanceState) → IsTask (with_stage stage) → (observation : Observation) → IsOnWay observation (with_stage stage) → OnStep (also observation (step_observation (with_stage stage))) (with_stage stage) (step (with_stage stage))
+  stage-on : (stage : Stage) → IsTask (with_stage stage) → (observation : Observation) → IsOnWay observation (with_stage stage) → OnStep (also observation (step_observation (with_stage stage))) (with_stage stage) (step (with_stage stage))
   stage-on (Running m) is observation h = moves-on m is observation h
   stage-on (AtSync m) is observation h = waits-on (AtSync m) observation h
   stage-on (AtLoop m) is observation h = waits-on (AtLoop m) observation h
-  stage-on (Ended (Ok v)) is observation h = ends-whole _ (with_stage (Ended (Ok v))) (ends-so (Ok v) 0 (halves-places t.trace.handed is.work.2) observation h) t.trace.fault _
+  stage-on (Ended (Ok v)) is observation h = ends-whole _ (with_stage (Ended (Ok v))) (ends-so (Ok v) 0 (halves-places t.trace.handed is.remaining.2) observation h) t.trace.fault _
   stage-on (Ended (Err (Own f))) is observation h = by_parts t.trace.handed
     where
       by_parts : (qs : List AwaitedChild) → OnStep (also observation no_observation) (with_stage (Ended (Err (Own f)))) (faults_after qs (with_stage (Ended (Err (Own f)))) f)
-      by_parts [] = ends-whole _ (with_stage (Ended (Err (Own f)))) (ends-so (Err (Own f)) is.work.2.0 is.work.2.1 observation h) t.trace.fault _
+      by_parts [] = ends-whole _ (with_stage (Ended (Err (Own f)))) (ends-so (Err (Own f)) is.remaining.2.0 is.remaining.2.1 observation h) t.trace.fault _
       by_parts (q ∷ qs) = waits-on (Ended (Err (Own f))) observation h
-  stage-on (Ended (Err (ChildFaulted f))) is observation h = ends-whole _ (with_stage (Ended (Err (ChildFaulted f)))) (ends-so (Err (ChildFaulted f)) 0 (subst (AreDestinations 0) (sym is.work.2) tt) observation h) t.trace.fault _
+  stage-on (Ended (Err (ChildFaulted f))) is observation h = ends-whole _ (with_stage (Ended (Err (ChildFaulted f)))) (ends-so (Err (ChildFaulted f)) 0 (subst (AreDestinations 0) (sym is.remaining.2) tt) observation h) t.trace.fault _
 
 step-on : (t : Task) → IsTask t → IsInstance t.origin → (observation : Observation) → IsOnWay observation t → OnStep (also observation (step_observation t)) t (step t)
 step-on t is inst observation h = by_origin t.origin is inst h
   where
     by_origin : (o : Origin) → IsTask (record t { origin = o }) → IsInstance o → IsOnWay observation (record t { origin = o }) → OnStep (also observation (step_observation (record t { origin = o }))) (record t { origin = o }) (step (record t { origin = o }))
     by_origin (Loop function rest first at range) is inst h = absurd inst
-    by_origin (Instance function args at) is inst h = by_work t.work is h
+    by_origin (Instance function args at) is inst h = by_remaining t.remaining is h
       where
-        by_work : (work : Work) → IsTask (record t { origin = Instance function args at; work = work }) → IsOnWay observation (record t { origin = Instance function args at; work = work }) →
-            let u : Task = record t { origin = Instance function args at; work = work } in OnStep (also observation (step_observation u)) u (step u)
-        by_work (Splits left) is h = absurd is.work.0
-        by_work (Runs stage) is h = stage-on t function args at stage is observation h
-        by_work (Finished v true) is h = absurd is.work.0
-        by_work (Finished v false) is h = absurd is.work.0
+        by_remaining : (remaining : Remaining) → IsTask (record t { origin = Instance function args at; remaining = remaining }) → IsOnWay observation (record t { origin = Instance function args at; remaining = remaining }) →
+            let u : Task = record t { origin = Instance function args at; remaining = remaining } in OnStep (also observation (step_observation u)) u (step u)
+        by_remaining (Splits left) is h = absurd is.remaining.0
+        by_remaining (Runs stage) is h = stage-on t function args at stage is observation h
+        by_remaining (Finished v true) is h = absurd is.remaining.0
+        by_remaining (Finished v false) is h = absurd is.remaining.0
 
 -- Up to the next stop
 
-on-further : (observation : Observation) (t next : Task) (stop : Stop) → IsOf t next → OnWay observation next stop → OnWay observation t stop
+on-further : (observation : Observation) (t next : Task) (stop : Stop) → IsSameTask t next → OnWay observation next stop → OnWay observation t stop
 on-further observation t next (Spawn child rest) of h = h
 on-further observation t next (Wait rest) of h = h
 on-further observation t next (End out ended) of h =
@@ -267,7 +267,7 @@ pub observation_goes_on : (t : Task) (observation later : Observation) (stop : S
 observation_goes_on t observation later stop is inst h (ShownNow e same) =
     subst (λ (l : Observation). OnWay (also observation l) t stop) (sym same) (subst (OnStep (also observation (step_observation t)) t) e (step-on t is inst observation h))
 observation_goes_on t observation later stop is inst h (ShownLater next more e shows same) =
-    let of : IsOf t next = subst (KeepsStep t) e (step-keeps t) in
+    let of : IsSameTask t next = subst (KeepsStep t) e (step-keeps t) in
     let sound : IsTask next = subst (IsSoundStep t) e (steps_are_sound t is) in
     let on : IsOnWay (also observation (step_observation t)) next = subst (OnStep (also observation (step_observation t)) t) e (step-on t is inst observation h) in
     subst (λ (l : Observation). OnWay l t stop) (also-assoc observation (step_observation t) more ∙ ap (also observation) (sym same))
@@ -280,11 +280,11 @@ observation_begins plan (Loop function rest first path range) inst = absurd inst
 observation_begins plan (Instance function args path) inst = record {
   node =
       begun-whole plan function args path
-      ∙ ap (λ (r : Run Item NodeFault Value). r then λ v. done (v ∷ [])) (sym (halves-rest plan (children_of plan (Instance function args path)) path [] tt (begun plan function args)));
+      ∙ ap (λ (r : Run Item NodeFault Value). r then λ v. done (v ∷ [])) (sym (halves-rest plan (children_of plan (Instance function args path)) path [] tt (function_begun plan function args)));
   fault = fault (function_at (functions_of plan) function) refl;
   child_fault = refl;
 }
   where
-    fault : (f : Option Function) → function_at (functions_of plan) function ≡ f → None ≡ stage_fault (begun_stage (begun plan function args))
+    fault : (f : Option Function) → function_at (functions_of plan) function ≡ f → None ≡ stage_fault (begun_stage (function_begun plan function args))
     fault None h = rw h refl
     fault (Some f) h = rw h refl

@@ -10,9 +10,9 @@ use Rattle.script_grammar.specs.declared.tree.Stmt.{Stmt, out-Stmt}
 use Rattle.script_grammar.specs.declared.tree.Act.{Act, out-Act}
 use Rattle.script_grammar.specs.declared.tree.Act.TheOpen as act
 use Rattle.script_grammar.specs.declared.tree.Act.TheOpen.{Act-F}
-use Rattle.serial_meaning.specs.Runs.{Run, done, goes_on, ◌then◌}
+use Rattle.serial_meaning.specs.Runs.{Run, done, continued, ◌then◌}
 use Rattle.serial_meaning.specs.Values.{value_of, values_of, slot_of, items_of, as_integer, is_true, at_index}
-use Rattle.serial_meaning.specs.Functions.{number_of, function_at}
+use Rattle.serial_meaning.specs.Functions.{function_number, function_at}
 use Rattle.serial_meaning.specs.Plan.{PlanView, functions_of}
 use Rattle.serial_meaning.specs.Exec.{State, Manner, strand, unless_fault, paid_from, tested, has_room, fits_depth, spawn, sync_here, implied, frame, called, right_side, found, looped, does, count_of}
 use Rattle.serial_meaning.specs.Laws.{raising_pedigrees}
@@ -27,7 +27,7 @@ use Rattle.serial_meaning.specs.declared.event.Event.TheVariants as event
 use Rattle.serial_meaning.specs.declared.origin.Origin.{Origin}
 use Rattle.serial_meaning.specs.declared.origin.Origin.TheVariants as origin
 use Rattle.script_check.specs.Spawns.{spawns_in}
-use Rattle.strand_meaning.specs.Machine.{Destination, Spawned, Looped, Effect, Opens, Closes, Emitted, Handed, Exit, loop_effects, sync_effects, handing, inside, destination_of, Level, Frame, Machine, inside_of, present, here_of, state_of, value_run, return_move, level_move, end_move, move_at, move}
+use Rattle.strand_meaning.specs.Machine.{Destination, Spawned, Looped, Effect, Opens, Closes, Emitted, Handed, Exit, loop_effects, sync_effects, handing, inside, child_destination, Level, Frame, Machine, inside_of, present, here_of, state_of, value_run, return_move, level_move, end_move, move_at, move}
 use Rattle.strand_meaning.specs.Sound.{IsUndivided}
 use Rattle.strand_meaning.proofs.SoundSteps.Finishing.{NotHalf}
 
@@ -85,7 +85,7 @@ module _ (P : List Effect → Type 0) (plan : PlanView) (whole : List ℕ) (rule
   owns-then : {A B : Type 0} (r : Run Effect Exit A) (f : A → Run Effect Exit B) → Owns r → ((a : A) → Owns (f a)) → Owns (r then f)
   owns-then {A = A} {B = B} r f h k = from r.ending
     where
-      from : (e : Result A Exit) → P (goes_on r.items e f).items
+      from : (e : Result A Exit) → P (continued r.items e f).items
       from (Ok a) = rules.more r.items (f a).items h (k a)
       from (Err e) = h
 
@@ -110,8 +110,8 @@ module _ (P : List Effect → Type 0) (plan : PlanView) (whole : List ℕ) (rule
 
   owns-called : (destination : Destination) (calls : ℕ) (c : CallText) (s : State Bool) → Owns (called (what destination) plan path inside calls c s)
   owns-called destination calls c s =
-      owns-given destination (values_of c.args s.env) s _ (λ vs. owns-tested destination (nat_lt calls 256) Calls s _ (owns-then (frame (what destination) plan path inside (calls + 1) (function_at (functions_of plan) (number_of (functions_of plan) c.name.bytes)) vs s) _
-      (by_function vs (function_at (functions_of plan) (number_of (functions_of plan) c.name.bytes))) (λ r. rules.none)))
+      owns-given destination (values_of c.args s.env) s _ (λ vs. owns-tested destination (nat_lt calls 256) Calls s _ (owns-then (frame (what destination) plan path inside (calls + 1) (function_at (functions_of plan) (function_number (functions_of plan) c.name.bytes)) vs s) _
+      (by_function vs (function_at (functions_of plan) (function_number (functions_of plan) c.name.bytes))) (λ r. rules.none)))
     where
       by_function : (vs : List Value) (o : Option Function) → Owns (frame (what destination) plan path inside (calls + 1) o vs s)
       by_function vs None = rules.none
@@ -133,12 +133,12 @@ module _ (P : List Effect → Type 0) (plan : PlanView) (whole : List ℕ) (rule
       destination = Looped target
 
       o : Origin
-      o = origin.Loop (number_of (functions_of plan) c.name.bytes) vs lo (path ++ s.rank ∷ []) (record { lo = 0; hi = hi })
+      o = origin.Loop (function_number (functions_of plan) c.name.bytes) vs lo (path ++ s.rank ∷ []) (record { lo = 0; hi = hi })
 
       e : Event
       e = event.Loop (path ++ s.rank ∷ [])
 
-  owns-does : (height : ℕ) (st : Stmt) (a : Act-F Act Stmt) (s : State Bool) → Owns (does (what (destination_of height a)) plan path inside height st a s)
+  owns-does : (height : ℕ) (st : Stmt) (a : Act-F Act Stmt) (s : State Bool) → Owns (does (what (child_destination height a)) plan path inside height st a s)
   owns-does height st (act.Let x r) s = owns-then (right_side (what (Spawned height (Some x))) plan path inside height r s) _ (owns-right height (Some x) height r s) (λ p. rules.none)
   owns-does height st (act.Array x n) s = rules.none
   owns-does height st (act.Set x r) s = owns-then (right_side (what (Spawned height (Some x))) plan path inside height r s) _ (owns-right height (Some x) height r s) (λ p. rules.none)
@@ -194,7 +194,7 @@ module _ (P : List Effect → Type 0) (plan : PlanView) (path : List ℕ) (rules
       by_left : (left : List Stmt) → P (move_at plan path m left).items
       by_left [] = by_levels m.top.levels
       by_left (st ∷ left) =
-          owns-paid P plan path rules below.0 (here_of path m) below.1 (destination_of (length m.below) (out-Act (out-Stmt st).act)) m.steps (state_of m) _
+          owns-paid P plan path rules below.0 (here_of path m) below.1 (child_destination (length m.below) (out-Act (out-Stmt st).act)) m.steps (state_of m) _
           (λ s. owns-does P plan path rules below.0 (here_of path m) below.1 (length m.below) st (out-Act (out-Stmt st).act) s)
 
 -- The children that a move hands out are an instance's.

@@ -1,9 +1,9 @@
 -- An open run with its children's evaluations in their places.
 use Rattle.std.proofs.Common.{◌≡◌, List, [], ◌∷◌, ◌++◌, Option, Some, None, Result, Ok, Err, refl, sym, ap, ◌∙◌}
-use Rattle.serial_meaning.specs.Runs.{Run, done, after_items, goes_on, ◌then◌}
+use Rattle.serial_meaning.specs.Runs.{Run, done, after_items, continued, ◌then◌}
 use Rattle.serial_meaning.specs.Plan.{PlanView}
 use Rattle.serial_meaning.specs.Eval.{Evaluation, eval}
-use Rattle.serial_meaning.specs.Open.{Item, Happened, Child, Opened, Closed, NodeFault, Own, ChildFaulted, opened}
+use Rattle.serial_meaning.specs.Open.{Item, Happened, Child, Opened, Closed, NodeFault, Own, ChildFaulted, node_of}
 use Rattle.serial_meaning.proofs.Equations.RunLaws.{goes_on-after, then-then}
 use Rattle.serial_meaning.proofs.LeastFault.Cut.{Matches, cut, child_first}
 use Rattle.serial_meaning.proofs.LeastFault.Sim.{eval-cuts}
@@ -35,7 +35,7 @@ module _ (child : Origin → Evaluation) where
       from es (Some f) = refl
       from es None = refl
 
-      by_end : closed_at child items e ≡ ends_by (cut child items).events (cut child items).cut_by e → (q : Result (List Value) Fault) → goes_on (child o).items q (λ vs. closed_at child items e) ≡ ends_by (child_first (child o).items q (cut child items)).events (child_first (child o).items q (cut child items)).cut_by e
+      by_end : closed_at child items e ≡ ends_by (cut child items).events (cut child items).cut_by e → (q : Result (List Value) Fault) → continued (child o).items q (λ vs. closed_at child items e) ≡ ends_by (child_first (child o).items q (cut child items)).events (child_first (child o).items q (cut child items)).cut_by e
       by_end ih (Ok vs) = ap (after_items (child o).items) ih ∙ from (cut child items).events (cut child items).cut_by
       by_end ih (Err f) = refl
   closed-cut {A} (Opened j ∷ items) e = closed-cut items e
@@ -67,13 +67,13 @@ module _ (child : Origin → Evaluation) where
       by_fault (Opened j ∷ items) e = by_fault items e
       by_fault (Closed j ∷ items) e = by_fault items e
 
-      by_end : (items : List Item) (e : Result A NodeFault) → closed_run child (goes_on items e (λ a. done (f a))) ≡ (closed_at child items e then λ a. done (f a))
+      by_end : (items : List Item) (e : Result A NodeFault) → closed_run child (continued items e (λ a. done (f a))) ≡ (closed_at child items e then λ a. done (f a))
       by_end items (Ok a) = by_items items a
       by_end items (Err e) = by_fault items e
 
 -- The evaluation of an origin is its node with its children's evaluations in their places.
-pub eval-closed : (plan : PlanView) (o : Origin) → eval plan o ≡ closed_run (children_of plan o) (opened plan o)
+pub eval-closed : (plan : PlanView) (o : Origin) → eval plan o ≡ closed_run (children_of plan o) (node_of plan o)
 eval-closed plan o =
     let child : Origin → Evaluation = children_of plan o in
-    let n = opened plan o in
+    let n = node_of plan o in
     matches-ends child (cut child n.items).events (cut child n.items).cut_by (eval plan o) n.ending (eval-cuts plan o) ∙ sym (closed-cut child n.items n.ending)

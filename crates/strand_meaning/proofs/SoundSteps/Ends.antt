@@ -5,7 +5,7 @@ use Rattle.loop_range.specs.Range.{Range, middle, lower_half, upper_half}
 use Rattle.serial_meaning.specs.Runs.{Run, done, ◌then◌}
 use Rattle.serial_meaning.specs.Plan.{PlanView}
 use Rattle.serial_meaning.specs.Eval.{Evaluation, iteration, path_of, loop_evaluation, eval}
-use Rattle.serial_meaning.specs.Open.{Item, NodeFault, Own, ChildFaulted, opened, faults}
+use Rattle.serial_meaning.specs.Open.{Item, NodeFault, Own, ChildFaulted, node_of, faults}
 use Rattle.serial_meaning.specs.Laws.{IsOriginOf, EndsWithin}
 use Rattle.serial_meaning.specs.Answer.{outcome_of}
 use Rattle.serial_meaning.proofs.Equations.RunLaws.{then-then, then-same}
@@ -18,11 +18,11 @@ use Rattle.serial_meaning.specs.declared.origin.Origin.TheVariants.{Instance, Lo
 use Rattle.serial_meaning.specs.declared.answer.Outcome.{Outcome}
 use Rattle.serial_meaning.specs.declared.answer.Outcome.TheVariants as outcome
 use Rattle.strand_meaning.specs.Clear.{IsClearPlan}
-use Rattle.strand_meaning.specs.Machine.{Destination, Spawned, Looped, Half, begun}
+use Rattle.strand_meaning.specs.Machine.{Destination, Spawned, Looped, Half, function_begun}
 use Rattle.strand_meaning.specs.Trace.{AwaitedChild, Trace, add_child}
-use Rattle.strand_meaning.specs.Task.{InstanceState, Running, AtSync, AtLoop, Ended, Work, Splits, Runs, Finished, Task, begun_stage, start, own_instance, Stops, Spawn, waits, ends, ends_unless, faults_after, gave, stage_step, first_half, begins_last, split_step, over_step, work_step, step}
-use Rattle.strand_meaning.specs.Rest.{children_of, rest_of_stage, rest_open, closed_run, prefix_run, parts_run, iterations_left, all_with, work_run, finish}
-use Rattle.strand_meaning.specs.Sound.{IsHalf, AreHalves, IsPartAfter, IsSoundStage, IsSoFar, IsEndOf, IsLoop, IsLongLoop, FitsOrigin, AreParts, IsInstanceOrLoop, IsSoundWork, UnfilledArePendingIn, IsTask}
+use Rattle.strand_meaning.specs.Task.{Stage, Running, AtSync, AtLoop, Ended, Remaining, Splits, Runs, Finished, Task, begun_stage, start, own_instance, Stops, Spawn, waits, ends, ends_unless, faults_after, returned, stage_step, first_half, begins_last, split_step, over_step, remaining_step, step}
+use Rattle.strand_meaning.specs.Rest.{children_of, rest_of_stage, rest_open, closed_run, prefix_run, awaited_run, iterations_left, all_with, remaining_run, finish}
+use Rattle.strand_meaning.specs.Sound.{IsHalf, AreHalves, IsPartAfter, IsSoundStage, IsSoFar, IsEndOf, IsLoop, IsLongLoop, FitsOrigin, AreSoundChildren, IsInstanceOrLoop, IsSoundRemaining, UnfilledArePendingIn, IsTask}
 use Rattle.strand_meaning.specs.Found.{FindsTargets, functions_left}
 use Rattle.strand_meaning.specs.Laws.{IsFaultOf, IsSoundStep}
 use Rattle.strand_meaning.proofs.FoundTargets.FoundParts.{found-nowhere, found-halves}
@@ -73,15 +73,15 @@ end-is t is r h ended e = by_fault t.trace.fault refl
         (record { events = ap (λ (p : Evaluation). p.items) same; ends = e ∙ ap (λ (p : Evaluation). outcome_of o p.ending) same }, subst (IsFaultOf t.plan) (sym e) (fault-of t.plan o r (within q same)))
 
 -- a task without children
-alone : (t : Task) → t.trace.handed ≡ [] → finish t ≡ (prefix_run t.trace then λ u. work_run t.plan t.origin [] t.work t.values)
-alone t h = ap (λ (ps : List AwaitedChild). prefix_run t.trace then λ u. parts_run (eval t.plan) ps t.values then work_run t.plan t.origin ps t.work) h
+alone : (t : Task) → t.trace.handed ≡ [] → finish t ≡ (prefix_run t.trace then λ u. remaining_run t.plan t.origin [] t.remaining t.values)
+alone t h = ap (λ (ps : List AwaitedChild). prefix_run t.trace then λ u. awaited_run (eval t.plan) ps t.values then remaining_run t.plan t.origin ps t.remaining) h
 
-end-alone : (t : Task) → IsTask t → t.trace.handed ≡ [] → (r : Result (List Value) Fault) → work_run t.plan t.origin [] t.work t.values ≡ record { items = []; ending = r } →
+end-alone : (t : Task) → IsTask t → t.trace.handed ≡ [] → (r : Result (List Value) Fault) → remaining_run t.plan t.origin [] t.remaining t.values ≡ record { items = []; ending = r } →
     (ended : Outcome) → ended ≡ outcome_of t.origin r → IsSoundStep t (ends t ended)
 end-alone t is none r h ended e = end-is t is r (ap (λ (q : Evaluation). prefix_run t.trace then λ u. q) (sym h) ∙ sym (alone t none) ∙ is.finishes) ended e
 
 -- Parts of a loop are there only where it is long.
-halves-long : (plan : PlanView) (o : Origin) (ps : List AwaitedChild) → AreHalves ps → AreParts plan o ps → (ps ≡ []) ⊎ IsLongLoop o
+halves-long : (plan : PlanView) (o : Origin) (ps : List AwaitedChild) → AreHalves ps → AreSoundChildren plan o ps → (ps ≡ []) ⊎ IsLongLoop o
 halves-long plan o [] h k = inl refl
 halves-long plan o (p ∷ ps) h k = inr (from p.destination h.0 k.0.fits)
   where
@@ -92,18 +92,18 @@ halves-long plan o (p ∷ ps) h k = inr (from p.destination h.0 k.0.fits)
 
 -- A task that stands in a wait, or that was advanced, gives the same.
 waits-sound : (t : Task) → IsTask t → IsSoundStep t (waits t)
-waits-sound t is = record { finishes = is.finishes; known = is.known; clear = is.clear; parts = is.parts; shown = is.shown; work = is.work; pending = is.pending; found = is.found }
+waits-sound t is = record { finishes = is.finishes; known = is.known; clear = is.clear; awaiting = is.awaiting; shown = is.shown; remaining = is.remaining; pending = is.pending; found = is.found }
 
 -- other work that gives the same
-with-work : (t : Task) → IsTask t → (work : Work) → ((vs : List Value) → work_run t.plan t.origin t.trace.handed t.work vs ≡ work_run t.plan t.origin t.trace.handed work vs) →
-    IsSoundWork t.plan t.origin t.trace.handed work → UnfilledArePendingIn t.plan t.trace.handed work → FindsTargets t.plan (functions_left work) t.trace.handed → IsTask (record t { work = work; advanced = true })
-with-work t is work same sound pends finds = record {
-  finishes = sym (so_far-same (eval t.plan) t.trace t.values (work_run t.plan t.origin t.trace.handed t.work) (work_run t.plan t.origin t.trace.handed work) same) ∙ is.finishes;
+with-remaining : (t : Task) → IsTask t → (remaining : Remaining) → ((vs : List Value) → remaining_run t.plan t.origin t.trace.handed t.remaining vs ≡ remaining_run t.plan t.origin t.trace.handed remaining vs) →
+    IsSoundRemaining t.plan t.origin t.trace.handed remaining → UnfilledArePendingIn t.plan t.trace.handed remaining → FindsTargets t.plan (functions_left remaining) t.trace.handed → IsTask (record t { remaining = remaining; advanced = true })
+with-remaining t is remaining same sound pends finds = record {
+  finishes = sym (so_far-same (eval t.plan) t.trace t.values (remaining_run t.plan t.origin t.trace.handed t.remaining) (remaining_run t.plan t.origin t.trace.handed remaining) same) ∙ is.finishes;
   known = is.known;
   clear = is.clear;
-  parts = is.parts;
+  awaiting = is.awaiting;
   shown = is.shown;
-  work = sound;
+  remaining = sound;
   pending = pends;
   found = λ plan-found. finds;
 }
@@ -112,55 +112,55 @@ module _ (t : Task) (is : IsTask t) where
   abbrev ps : List AwaitedChild
   ps = t.trace.handed
 
-  abbrev run_at : List AwaitedChild → Work → List Value → Evaluation
-  run_at parts work values = work_run t.plan t.origin parts work values
+  abbrev run_at : List AwaitedChild → Remaining → List Value → Evaluation
+  run_at parts remaining values = remaining_run t.plan t.origin parts remaining values
 
   -- an instance that has ended
-  gave-sound : (v : Value) → t.work ≡ Runs (Ended (Ok v)) → AreHalves ps → IsInstanceOrLoop t.origin → IsSoundStep t (gave t t.origin v)
+  gave-sound : (v : Value) → t.remaining ≡ Runs (Ended (Ok v)) → AreHalves ps → IsInstanceOrLoop t.origin → IsSoundStep t (returned t t.origin v)
   gave-sound v at halves is-loop = by_origin t.origin refl
     where
-      by_origin : (o : Origin) → t.origin ≡ o → IsSoundStep t (gave t o v)
+      by_origin : (o : Origin) → t.origin ≡ o → IsSoundStep t (returned t o v)
       by_origin (Instance function args path) h =
-          end-alone t is (none (halves-long t.plan t.origin ps halves is.parts)) (Ok (v ∷ [])) (ap (λ (w : Work). run_at [] w t.values) at ∙ ap (λ (o : Origin). done (all_with o t.values v)) h)
+          end-alone t is (none (halves-long t.plan t.origin ps halves is.awaiting)) (Ok (v ∷ [])) (ap (λ (w : Remaining). run_at [] w t.values) at ∙ ap (λ (o : Origin). done (all_with o t.values v)) h)
           (outcome.Value v) (ap (λ (o : Origin). outcome_of o (Ok (v ∷ []))) (sym h))
         where
           none : (ps ≡ []) ⊎ IsLongLoop t.origin → ps ≡ []
           none (inl e) = e
           none (inr l) = let no : IsLongLoop (Instance function args path) = subst IsLongLoop h l in absurd no
       by_origin (Loop function rest first path range) h =
-          with-work t is (Finished v false) same (subst IsLoop (sym h) (subst IsInstanceOrLoop h is-loop), halves) tt (found-nowhere t.plan ps)
+          with-remaining t is (Finished v false) same (subst IsLoop (sym h) (subst IsInstanceOrLoop h is-loop), halves) tt (found-nowhere t.plan ps)
         where
           own : Origin
           own = own_instance t.origin
 
-          same : (vs : List Value) → run_at ps t.work vs ≡ run_at ps (Finished v false) vs
+          same : (vs : List Value) → run_at ps t.remaining vs ≡ run_at ps (Finished v false) vs
           same vs =
-              ap (λ (w : Work). run_at ps w vs) at
+              ap (λ (w : Remaining). run_at ps w vs) at
               ∙ ap (λ (r : Run Item NodeFault Value). closed_run (children_of t.plan own) r then λ v. done (all_with t.origin vs v)) (ended-rest t.plan (children_of t.plan own) (path_of own) 0 ps (halves-places ps halves) (Ok v))
               ∙ ap (λ (o : Origin). done (all_with o vs v)) h
 
-  fault-sound : (f : Fault) → t.work ≡ Runs (Ended (Err (Own f))) → (qs : List AwaitedChild) → ps ≡ qs → IsSoundStep t (faults_after qs t f)
-  fault-sound f at [] h = end-alone t is h (Err f) (ap (λ (w : Work). run_at [] w t.values) at) (outcome.Fault f) (sym (err-outcome t.origin f))
+  fault-sound : (f : Fault) → t.remaining ≡ Runs (Ended (Err (Own f))) → (qs : List AwaitedChild) → ps ≡ qs → IsSoundStep t (faults_after qs t f)
+  fault-sound f at [] h = end-alone t is h (Err f) (ap (λ (w : Remaining). run_at [] w t.values) at) (outcome.Fault f) (sym (err-outcome t.origin f))
   fault-sound f at (q ∷ qs) h = waits-sound t is
 
-  stage-sound : (stage : InstanceState) → t.work ≡ Runs stage → IsInstanceOrLoop t.origin → IsSoFar t.plan (own_instance t.origin) ps stage → IsSoundStage t.plan ps stage → IsSoundStep t (stage_step t stage)
+  stage-sound : (stage : Stage) → t.remaining ≡ Runs stage → IsInstanceOrLoop t.origin → IsSoFar t.plan (own_instance t.origin) ps stage → IsSoundStage t.plan ps stage → IsSoundStep t (stage_step t stage)
   stage-sound (Running m) at is-loop far sound = sound-going t is m (own-of-plan t.plan t.origin is.known is-loop) is-loop far sound (subst (UnfilledArePendingIn t.plan ps) at is.pending) at
   stage-sound (AtSync m) at is-loop far sound = waits-sound t is
   stage-sound (AtLoop m) at is-loop far sound = waits-sound t is
   stage-sound (Ended (Ok v)) at is-loop far sound = gave-sound v at sound is-loop
   stage-sound (Ended (Err (Own f))) at is-loop far sound = fault-sound f at ps refl
   stage-sound (Ended (Err (ChildFaulted f))) at is-loop far sound =
-      end-alone t is sound (Err f) (ap (λ (w : Work). run_at [] w t.values) at) (outcome.Fault f) (sym (err-outcome t.origin f))
+      end-alone t is sound (Err f) (ap (λ (w : Remaining). run_at [] w t.values) at) (outcome.Fault f) (sym (err-outcome t.origin f))
 
   -- a loop whose last iteration gave a value
-  over-alone : (v : Value) (b : Bool) → t.work ≡ Finished v b → ps ≡ [] → IsLoop t.origin → IsSoundStep t (ends t (outcome.Values (t.values ++ v ∷ [])))
-  over-alone v b at none is-loop = end-alone t is none (Ok (t.values ++ v ∷ [])) (ap (λ (w : Work). run_at [] w t.values) at) (outcome.Values (t.values ++ v ∷ [])) (by_origin t.origin is-loop)
+  over-alone : (v : Value) (b : Bool) → t.remaining ≡ Finished v b → ps ≡ [] → IsLoop t.origin → IsSoundStep t (ends t (outcome.Values (t.values ++ v ∷ [])))
+  over-alone v b at none is-loop = end-alone t is none (Ok (t.values ++ v ∷ [])) (ap (λ (w : Remaining). run_at [] w t.values) at) (outcome.Values (t.values ++ v ∷ [])) (by_origin t.origin is-loop)
     where
       by_origin : (o : Origin) → IsLoop o → outcome.Values (t.values ++ v ∷ []) ≡ outcome_of o (Ok (t.values ++ v ∷ []))
       by_origin (Instance function args path) l = absurd l
       by_origin (Loop function rest first path range) l = refl
 
-  over-sound : (v : Value) → t.work ≡ Finished v false → IsLoop t.origin → AreHalves ps → IsSoundStep t (over_step t v t.origin)
+  over-sound : (v : Value) → t.remaining ≡ Finished v false → IsLoop t.origin → AreHalves ps → IsSoundStep t (over_step t v t.origin)
   over-sound v at is-loop halves = by_origin t.origin refl
     where
       by_origin : (o : Origin) → t.origin ≡ o → IsSoundStep t (over_step t v o)
@@ -172,12 +172,12 @@ module _ (t : Task) (is : IsTask t) where
           none g (inr l) = let long : range.lo + 1 < range.hi = subst IsLongLoop h l in absurd (omega arith)
 
           by_size : (n : ℕ) → range.hi - range.lo ≡ n → IsSoundStep t (over_step t v (Loop function rest first path range))
-          by_size zero g = rw g (over-alone v false at (none (omega arith) (halves-long t.plan t.origin ps halves is.parts)) is-loop)
-          by_size (suc zero) g = rw g (over-alone v false at (none (omega arith) (halves-long t.plan t.origin ps halves is.parts)) is-loop)
+          by_size zero g = rw g (over-alone v false at (none (omega arith) (halves-long t.plan t.origin ps halves is.awaiting)) is-loop)
+          by_size (suc zero) g = rw g (over-alone v false at (none (omega arith) (halves-long t.plan t.origin ps halves is.awaiting)) is-loop)
           by_size (suc (suc n)) g = rw g (waits-sound t is)
 
   -- a loop's iterations that nobody has begun
-  module _ (function : ℕ) (rest : List Value) (first : ℤ) (path : List ℕ) (range left : Range) (loop : t.origin ≡ Loop function rest first path range) (at : t.work ≡ Splits left)
+  module _ (function : ℕ) (rest : List Value) (first : ℤ) (path : List ℕ) (range left : Range) (loop : t.origin ≡ Loop function rest first path range) (at : t.remaining ≡ Splits left)
       (end-of : IsEndOf (Loop function rest first path range) left) (halves : AreHalves ps) where
     abbrev whole : Origin
     whole = Loop function rest first path range
@@ -189,7 +189,7 @@ module _ (t : Task) (is : IsTask t) where
     deep = loop-of-plan t.plan whole known-loop
 
     long-parts : (ps ≡ []) ⊎ (range.lo + 1 < range.hi)
-    long-parts = from (halves-long t.plan t.origin ps halves is.parts)
+    long-parts = from (halves-long t.plan t.origin ps halves is.awaiting)
       where
         from : (ps ≡ []) ⊎ IsLongLoop t.origin → (ps ≡ []) ⊎ (range.lo + 1 < range.hi)
         from (inl e) = inl e
@@ -203,16 +203,16 @@ module _ (t : Task) (is : IsTask t) where
         none (inl e) = e
         none (inr l) = let some : left.lo < left.hi = end-of.2 (omega arith) in absurd (omega arith)
 
-        runs : run_at [] t.work t.values ≡ record { items = []; ending = Ok t.values }
+        runs : run_at [] t.remaining t.values ≡ record { items = []; ending = Ok t.values }
         runs =
-            ap (λ (w : Work). run_at [] w t.values) at
+            ap (λ (w : Remaining). run_at [] w t.values) at
             ∙ ap (λ (o : Origin). iterations_left (eval t.plan) o left then λ us. done (t.values ++ us)) loop
             ∙ ap (λ (n : ℕ). loop_evaluation (eval t.plan) function rest first path left.lo n then λ us. done (t.values ++ us)) h
             ∙ ap (λ (l : List Value). done l) (append-nil t.values)
 
     -- the last one is begun
-    last-left : left.hi - left.lo ≡ 1 → IsTask (record t { work = begins_last t.plan t.origin; advanced = true })
-    last-left h = with-work t is (begins_last t.plan t.origin) same sound (subst (UnfilledArePendingIn t.plan ps) (sym begins) (begun-pending t.plan function _ ps halves)) (found-halves t.plan (functions_left (begins_last t.plan t.origin)) ps halves)
+    last-left : left.hi - left.lo ≡ 1 → IsTask (record t { remaining = begins_last t.plan t.origin; advanced = true })
+    last-left h = with-remaining t is (begins_last t.plan t.origin) same sound (subst (UnfilledArePendingIn t.plan ps) (sym begins) (begun-pending t.plan function _ ps halves)) (found-halves t.plan (functions_left (begins_last t.plan t.origin)) ps halves)
       where
         own : Origin
         own = own_instance whole
@@ -220,8 +220,8 @@ module _ (t : Task) (is : IsTask t) where
         kids : Origin → Evaluation
         kids = children_of t.plan own
 
-        stage : InstanceState
-        stage = begun_stage (begun t.plan function (iteration-args (range.hi - 1)))
+        stage : Stage
+        stage = begun_stage (function_begun t.plan function (iteration-args (range.hi - 1)))
           where
             iteration-args : ℕ → List Value
             iteration-args k = args_of (iteration function rest first path k)
@@ -233,10 +233,10 @@ module _ (t : Task) (is : IsTask t) where
         begins : begins_last t.plan t.origin ≡ Runs stage
         begins = ap (begins_last t.plan) loop
 
-        opens : opened t.plan own ≡ (rest_open t.plan kids (path_of own) ps stage then λ v. done (v ∷ []))
+        opens : node_of t.plan own ≡ (rest_open t.plan kids (path_of own) ps stage then λ v. done (v ∷ []))
         opens =
             begun-whole t.plan function _ (path ++ (range.hi - 1) ∷ [])
-            ∙ ap (λ (r : Run Item NodeFault Value). r then λ v. done (v ∷ [])) (sym (halves-rest t.plan kids (path_of own) ps halves (begun t.plan function _)))
+            ∙ ap (λ (r : Run Item NodeFault Value). r then λ v. done (v ∷ [])) (sym (halves-rest t.plan kids (path_of own) ps halves (function_begun t.plan function _)))
 
         last : left.lo ≡ range.hi - 1
         last = let top : left.hi ≡ range.hi = end-of.1 in omega arith
@@ -245,39 +245,39 @@ module _ (t : Task) (is : IsTask t) where
         evaluates =
             ap (λ k. eval t.plan (iteration function rest first path k)) last ∙ eval-closed t.plan own ∙ ap (closed_run kids) opens ∙ closed-then kids (rest_open t.plan kids (path_of own) ps stage) (λ v. v ∷ [])
 
-        same : (vs : List Value) → run_at ps t.work vs ≡ run_at ps (begins_last t.plan t.origin) vs
+        same : (vs : List Value) → run_at ps t.remaining vs ≡ run_at ps (begins_last t.plan t.origin) vs
         same vs =
             let inner : Run Event Fault Value = closed_run kids (rest_open t.plan kids (path_of own) ps stage) in
-            ap (λ (w : Work). run_at ps w vs) at
+            ap (λ (w : Remaining). run_at ps w vs) at
             ∙ ap (λ (o : Origin). iterations_left (eval t.plan) o left then λ us. done (vs ++ us)) loop
             ∙ ap (λ (n : ℕ). loop_evaluation (eval t.plan) function rest first path left.lo n then λ us. done (vs ++ us)) h
             ∙ ap (λ (r : Evaluation). (r then λ xs. done (xs ++ [])) then λ us. done (vs ++ us)) evaluates
             ∙ ap (λ (r : Evaluation). r then λ us. done (vs ++ us)) (then-then inner (λ v. done (v ∷ [])) (λ xs. done (xs ++ [])))
             ∙ then-then inner (λ v. done (v ∷ [])) (λ us. done (vs ++ us))
-            ∙ ap (λ (o : Origin). run_with o) (sym loop) ∙ ap (λ (w : Work). run_at ps w vs) (sym begins)
+            ∙ ap (λ (o : Origin). run_with o) (sym loop) ∙ ap (λ (w : Remaining). run_at ps w vs) (sym begins)
           where
             run_with : Origin → Evaluation
-            run_with o = work_run t.plan o ps (Runs stage) vs
+            run_with o = remaining_run t.plan o ps (Runs stage) vs
 
-        sound : IsSoundWork t.plan t.origin ps (begins_last t.plan t.origin)
+        sound : IsSoundRemaining t.plan t.origin ps (begins_last t.plan t.origin)
         sound =
-            subst (IsSoundWork t.plan t.origin ps) (sym begins) (subst (λ (o : Origin). IsSoundWork t.plan o ps (Runs stage)) (sym loop)
+            subst (IsSoundRemaining t.plan t.origin ps) (sym begins) (subst (λ (o : Origin). IsSoundRemaining t.plan o ps (Runs stage)) (sym loop)
             (some, record { front = []; whole = opens }, begun-sound t.plan function _ ps is.clear halves))
           where
             some : range.lo < range.hi
             some = let top : left.hi ≡ range.hi = end-of.1 in let low : range.lo ≤ left.lo = end-of.0 in omega arith
 
     -- the lower half of it is handed out
-    half-left : left.lo + 2 ≤ left.hi → IsSoundStep t (Stops (Spawn (first_half t.origin left) (record t { trace = add_child (first_half t.origin left) Half t.trace; work = Splits (upper_half left); advanced = true })))
+    half-left : left.lo + 2 ≤ left.hi → IsSoundStep t (Stops (Spawn (first_half t.origin left) (record t { trace = add_child (first_half t.origin left) Half t.trace; remaining = Splits (upper_half left); advanced = true })))
     half-left h = (
       subst (IsOriginOf t.plan) (sym half-is) known-half,
       record {
         finishes = finishes;
         known = is.known;
         clear = is.clear;
-        parts = parts-append t.plan t.origin ps _ is.parts (record { known = subst (IsOriginOf t.plan) (sym half-is) known-half; fits = subst IsLongLoop (sym loop) long; same = inl tt }, tt);
+        awaiting = parts-append t.plan t.origin ps _ is.awaiting (record { known = subst (IsOriginOf t.plan) (sym half-is) known-half; fits = subst IsLongLoop (sym loop) long; same = inl tt }, tt);
         shown = λ none. shown-more t.plan t.origin [] t.trace.prefix ps (record { child = first_half t.origin left; destination = Half; after = [] }) (is.shown none) (part none);
-        work = (subst (λ (o : Origin). IsEndOf o (upper_half left)) (sym loop) upper, more ps halves);
+        remaining = (subst (λ (o : Origin). IsEndOf o (upper_half left)) (sym loop) upper, more ps halves);
         pending = tt;
         found = λ plan-found. found-nowhere t.plan (add_child (first_half t.origin left) Half t.trace).handed;
       },
@@ -307,7 +307,7 @@ module _ (t : Task) (is : IsTask t) where
         part : t.trace.fault ≡ None → IsPartAfter t.plan t.origin ps (first_half t.origin left)
         part none =
             subst (λ (o : Origin). IsPartAfter t.plan o ps (first_half o left)) (sym loop)
-            (left.lo, middle left, omega arith, refl, λ gave f e. ends-later t is none gave function rest first path range left loop at f e)
+            (left.lo, middle left, omega arith, refl, λ returned f e. ends-later t is none returned function rest first path range left loop at f e)
 
         more : (qs : List AwaitedChild) → AreHalves qs → AreHalves (qs ++ record { child = first_half t.origin left; destination = Half; after = [] } ∷ [])
         more [] g = (tt, tt)
@@ -316,23 +316,23 @@ module _ (t : Task) (is : IsTask t) where
         abbrev-tail : Origin → Origin → List Value → Evaluation
         abbrev-tail o child vs = eval t.plan child then λ ws. iterations_left (eval t.plan) o (upper_half left) then λ us. done ((vs ++ ws) ++ us)
 
-        two : (vs : List Value) → run_at ps t.work vs ≡ abbrev-tail t.origin (first_half t.origin left) vs
+        two : (vs : List Value) → run_at ps t.remaining vs ≡ abbrev-tail t.origin (first_half t.origin left) vs
         two vs =
             let upper_turns : Evaluation = loop_evaluation (eval t.plan) function rest first path (upper_half left).lo ((upper_half left).hi - (upper_half left).lo) in
-            ap (λ (w : Work). run_at ps w vs) at
+            ap (λ (w : Remaining). run_at ps w vs) at
             ∙ ap (λ (o : Origin). iterations_left (eval t.plan) o left then λ us. done (vs ++ us)) loop
             ∙ ap (λ (r : Evaluation). r then λ us. done (vs ++ us)) (halves-turns function rest first path t.plan left h deep)
             ∙ then-then (eval t.plan half) (λ ws. upper_turns then λ us. done (ws ++ us)) (λ us. done (vs ++ us))
             ∙ then-same (eval t.plan half) _ _ (λ ws g. then-then upper_turns (λ us. done (ws ++ us)) (λ us. done (vs ++ us)) ∙ then-same upper_turns _ _ (λ us k. ap (λ (l : List Value). done l) (sym (append_assoc vs ws us))))
             ∙ ap (λ (o : Origin). abbrev-tail o (first_half o left) vs) (sym loop)
 
-        finishes : finish (record t { trace = add_child (first_half t.origin left) Half t.trace; work = Splits (upper_half left); advanced = true }) ≡ eval t.plan t.origin
+        finishes : finish (record t { trace = add_child (first_half t.origin left) Half t.trace; remaining = Splits (upper_half left); advanced = true }) ≡ eval t.plan t.origin
         finishes =
             add_child-so_far (eval t.plan) (first_half t.origin left) Half t.trace t.values (λ vs. iterations_left (eval t.plan) t.origin (upper_half left) then λ us. done (vs ++ us))
-            ∙ sym (so_far-same (eval t.plan) t.trace t.values (run_at ps t.work) (abbrev-tail t.origin (first_half t.origin left)) two)
+            ∙ sym (so_far-same (eval t.plan) t.trace t.values (run_at ps t.remaining) (abbrev-tail t.origin (first_half t.origin left)) two)
             ∙ is.finishes
 
-  split-sound : (left : Range) → t.work ≡ Splits left → IsEndOf t.origin left → AreHalves ps → IsSoundStep t (split_step t left (left.hi - left.lo))
+  split-sound : (left : Range) → t.remaining ≡ Splits left → IsEndOf t.origin left → AreHalves ps → IsSoundStep t (split_step t left (left.hi - left.lo))
   split-sound left at end-of halves = by_origin t.origin refl
     where
       by_origin : (o : Origin) → t.origin ≡ o → IsSoundStep t (split_step t left (left.hi - left.lo))
@@ -347,31 +347,31 @@ module _ (t : Task) (is : IsTask t) where
           by_size (suc zero) g = last-left function rest first path range left h at e halves g
           by_size (suc (suc n)) g = half-left function rest first path range left h at e halves (omega arith)
 
-  work-sound : (work : Work) → t.work ≡ work → IsSoundWork t.plan t.origin ps work → IsSoundStep t (work_step t work)
-  work-sound (Splits left) at sound = split-sound left at sound.0 sound.1
-  work-sound (Runs stage) at sound = stage-sound stage at sound.0 sound.1 sound.2
-  work-sound (Finished v true) at sound = over-alone v true at sound.1 sound.0
-  work-sound (Finished v false) at sound = over-sound v at sound.0 sound.1
+  remaining-sound : (remaining : Remaining) → t.remaining ≡ remaining → IsSoundRemaining t.plan t.origin ps remaining → IsSoundStep t (remaining_step t remaining)
+  remaining-sound (Splits left) at sound = split-sound left at sound.0 sound.1
+  remaining-sound (Runs stage) at sound = stage-sound stage at sound.0 sound.1 sound.2
+  remaining-sound (Finished v true) at sound = over-alone v true at sound.1 sound.0
+  remaining-sound (Finished v false) at sound = over-sound v at sound.0 sound.1
 
 -- Each step is sound.
 pub steps_are_sound : (t : Task) → IsTask t → IsSoundStep t (step t)
-steps_are_sound t is = work-sound t is t.work refl is.work
+steps_are_sound t is = remaining-sound t is t.remaining refl is.remaining
 
 -- A task begins sound.
 pub tasks_begin : (plan : PlanView) (o : Origin) → IsOriginOf plan o → IsClearPlan plan → IsTask (start plan o)
 tasks_begin plan (Instance function args path) known clear =
     let o = Instance function args path in
     let kids = children_of plan o in
-    let rest : Run Item NodeFault Value = rest_of_stage plan kids path (begun_stage (begun plan function args)) in
-    let whole : opened plan o ≡ (rest_open plan kids path [] (begun_stage (begun plan function args)) then λ v. done (v ∷ [])) =
-    begun-whole plan function args path ∙ ap (λ (r : Run Item NodeFault Value). r then λ v. done (v ∷ [])) (sym (halves-rest plan kids path [] tt (begun plan function args))) in
+    let rest : Run Item NodeFault Value = rest_of_stage plan kids path (begun_stage (function_begun plan function args)) in
+    let whole : node_of plan o ≡ (rest_open plan kids path [] (begun_stage (function_begun plan function args)) then λ v. done (v ∷ [])) =
+    begun-whole plan function args path ∙ ap (λ (r : Run Item NodeFault Value). r then λ v. done (v ∷ [])) (sym (halves-rest plan kids path [] tt (function_begun plan function args))) in
     record {
-      finishes = sym (eval-closed plan o ∙ ap (closed_run kids) whole ∙ closed-then kids (rest_open plan kids path [] (begun_stage (begun plan function args))) (λ v. v ∷ []));
+      finishes = sym (eval-closed plan o ∙ ap (closed_run kids) whole ∙ closed-then kids (rest_open plan kids path [] (begun_stage (function_begun plan function args))) (λ v. v ∷ []));
       known = known;
       clear = clear;
-      parts = tt;
+      awaiting = tt;
       shown = λ none. tt;
-      work = (tt, record { front = []; whole = whole }, begun-sound plan function args [] clear tt);
+      remaining = (tt, record { front = []; whole = whole }, begun-sound plan function args [] clear tt);
       pending = begun-pending plan function args [] tt;
       found = λ plan-found. tt;
     }
@@ -379,9 +379,9 @@ tasks_begin plan (Loop function rest first path range) known clear = record {
   finishes = then-done (loop_evaluation (eval plan) function rest first path range.lo (range.hi - range.lo)) ∙ sym (eval-loop function rest first path plan range (loop-of-plan plan (Loop function rest first path range) known));
   known = known;
   clear = clear;
-  parts = tt;
+  awaiting = tt;
   shown = λ none. tt;
-  work = ((omega arith, refl, λ h. h), tt);
+  remaining = ((omega arith, refl, λ h. h), tt);
   pending = tt;
   found = λ plan-found. tt;
 }

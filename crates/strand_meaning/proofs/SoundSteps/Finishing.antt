@@ -12,7 +12,7 @@ use Rattle.serial_meaning.specs.declared.origin.Origin.{Origin}
 use Rattle.strand_meaning.specs.Machine.{Destination, Spawned, Looped, Half, Effect, Opens, Closes, Emitted, Handed, Syncs, Loops}
 use Rattle.strand_meaning.specs.Trace.{AwaitedChild, Trace, after_last, emit, emit_at, add_child, with_effects}
 use Rattle.strand_meaning.specs.Task.{more_values}
-use Rattle.strand_meaning.specs.Rest.{closed_run, prefix_run, parts_run}
+use Rattle.strand_meaning.specs.Rest.{closed_run, prefix_run, awaited_run}
 use Rattle.strand_meaning.specs.Observation.{effect_items}
 use Rattle.strand_meaning.proofs.SoundSteps.Closing.{after-then}
 
@@ -30,7 +30,7 @@ NotHalf Loops = Unit {0}
 module _ (child : Origin → Evaluation) where
   -- a trace, and then the rest
   abbrev pub so_far : Trace → List Value → (List Value → Evaluation) → Evaluation
-  so_far trace values tail = prefix_run trace then λ u. parts_run child trace.handed values then tail
+  so_far trace values tail = prefix_run trace then λ u. awaited_run child trace.handed values then tail
 
   -- what effects show, and then the rest
   abbrev pub played : List Effect → Evaluation → Evaluation
@@ -43,7 +43,7 @@ module _ (child : Origin → Evaluation) where
   played (Loops ∷ ts) r = played ts r
 
   parts-emit : (p : AwaitedChild) (ps : List AwaitedChild) (e : Event) (values : List Value) (tail : List Value → Evaluation) →
-      (parts_run child (after_last p ps e) values then tail) ≡ (parts_run child (p ∷ ps) values then λ vs. after_items (e ∷ []) (tail vs))
+      (awaited_run child (after_last p ps e) values then tail) ≡ (awaited_run child (p ∷ ps) values then λ vs. after_items (e ∷ []) (tail vs))
   parts-emit p [] e values tail =
       then-then (child p.child) (λ vs. after_items (p.after ++ e ∷ []) (done (more_values p.destination (Ok vs) values))) tail
       ∙ then-same (child p.child) _ _ (λ vs h. one (more_values p.destination (Ok vs) values))
@@ -54,11 +54,11 @@ module _ (child : Origin → Evaluation) where
           ap (λ (l : List Event). after_items l (tail vs)) (append-nil (p.after ++ e ∷ []) ∙ ap (λ (l : List Event). l ++ e ∷ []) (sym (append-nil p.after)))
           ∙ ap (λ (l : List Event). record { items = l; ending = (tail vs).ending }) (append_assoc (p.after ++ []) (e ∷ []) (tail vs).items)
   parts-emit p (q ∷ qs) e values tail =
-      then-then (child p.child) (λ vs. after_items p.after (parts_run child (after_last q qs e) (more_values p.destination (Ok vs) values))) tail
-      ∙ then-same (child p.child) _ _ (λ vs h. after-then p.after (parts_run child (after_last q qs e) (more_values p.destination (Ok vs) values)) tail
+      then-then (child p.child) (λ vs. after_items p.after (awaited_run child (after_last q qs e) (more_values p.destination (Ok vs) values))) tail
+      ∙ then-same (child p.child) _ _ (λ vs h. after-then p.after (awaited_run child (after_last q qs e) (more_values p.destination (Ok vs) values)) tail
       ∙ ap (after_items p.after) (parts-emit q qs e (more_values p.destination (Ok vs) values) tail)
-      ∙ sym (after-then p.after (parts_run child (q ∷ qs) (more_values p.destination (Ok vs) values)) (λ vs. after_items (e ∷ []) (tail vs))))
-      ∙ sym (then-then (child p.child) (λ vs. after_items p.after (parts_run child (q ∷ qs) (more_values p.destination (Ok vs) values))) (λ vs. after_items (e ∷ []) (tail vs)))
+      ∙ sym (after-then p.after (awaited_run child (q ∷ qs) (more_values p.destination (Ok vs) values)) (λ vs. after_items (e ∷ []) (tail vs))))
+      ∙ sym (then-then (child p.child) (λ vs. after_items p.after (awaited_run child (q ∷ qs) (more_values p.destination (Ok vs) values))) (λ vs. after_items (e ∷ []) (tail vs)))
 
   emit-so_far : (e : Event) (trace : Trace) (values : List Value) (tail : List Value → Evaluation) → so_far (emit e trace) values tail ≡ so_far trace values (λ vs. after_items (e ∷ []) (tail vs))
   emit-so_far e trace values tail = by_parts trace.handed trace.fault
@@ -71,17 +71,17 @@ module _ (child : Origin → Evaluation) where
       by_parts (p ∷ ps) (Some f) = refl
 
   parts-add_child : (ps : List AwaitedChild) (p : AwaitedChild) (values : List Value) (tail : List Value → Evaluation) →
-      (parts_run child (ps ++ p ∷ []) values then tail) ≡ (parts_run child ps values then λ vs. child p.child then λ ws. after_items p.after (tail (more_values p.destination (Ok ws) vs)))
+      (awaited_run child (ps ++ p ∷ []) values then tail) ≡ (awaited_run child ps values then λ vs. child p.child then λ ws. after_items p.after (tail (more_values p.destination (Ok ws) vs)))
   parts-add_child [] p values tail =
       then-then (child p.child) (λ vs. after_items p.after (done (more_values p.destination (Ok vs) values))) tail
       ∙ then-same (child p.child) _ _ (λ vs h. ap (λ (l : List Event). after_items l (tail (more_values p.destination (Ok vs) values))) (append-nil p.after))
   parts-add_child (q ∷ qs) p values tail =
       let hence : List Value → Evaluation = λ vs. child p.child then λ ws. after_items p.after (tail (more_values p.destination (Ok ws) vs)) in
-      then-then (child q.child) (λ vs. after_items q.after (parts_run child (qs ++ p ∷ []) (more_values q.destination (Ok vs) values))) tail
-      ∙ then-same (child q.child) _ _ (λ vs h. after-then q.after (parts_run child (qs ++ p ∷ []) (more_values q.destination (Ok vs) values)) tail
+      then-then (child q.child) (λ vs. after_items q.after (awaited_run child (qs ++ p ∷ []) (more_values q.destination (Ok vs) values))) tail
+      ∙ then-same (child q.child) _ _ (λ vs h. after-then q.after (awaited_run child (qs ++ p ∷ []) (more_values q.destination (Ok vs) values)) tail
       ∙ ap (after_items q.after) (parts-add_child qs p (more_values q.destination (Ok vs) values) tail)
-      ∙ sym (after-then q.after (parts_run child qs (more_values q.destination (Ok vs) values)) hence))
-      ∙ sym (then-then (child q.child) (λ vs. after_items q.after (parts_run child qs (more_values q.destination (Ok vs) values))) hence)
+      ∙ sym (after-then q.after (awaited_run child qs (more_values q.destination (Ok vs) values)) hence))
+      ∙ sym (then-then (child q.child) (λ vs. after_items q.after (awaited_run child qs (more_values q.destination (Ok vs) values))) hence)
 
   prefix-same : (trace : Trace) (r q : Evaluation) → r ≡ q → (prefix_run trace then λ u. r) ≡ (prefix_run trace then λ u. q)
   prefix-same trace r q h = ap (λ (s : Evaluation). prefix_run trace then λ u. s) h

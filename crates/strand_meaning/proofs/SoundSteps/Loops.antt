@@ -3,10 +3,10 @@ use Rattle.std.proofs.Common.{◌≡◌, ℕ, zero, suc, ◌+◌, ◌-◌, ◌<�
 use Rattle.std.proofs.Common.{ℤ}
 use Rattle.std.specs.Prelude.{Contains}
 use Rattle.loop_range.specs.Range.{Range, middle, lower_half, upper_half}
-use Rattle.serial_meaning.specs.Runs.{Run, done, goes_on, ◌then◌}
+use Rattle.serial_meaning.specs.Runs.{Run, done, continued, ◌then◌}
 use Rattle.serial_meaning.specs.Plan.{PlanView}
 use Rattle.serial_meaning.specs.Eval.{Evaluation, iteration, path_of, loop_evaluation, eval_with, eval_below, eval}
-use Rattle.serial_meaning.specs.Open.{Child, iterations, opened}
+use Rattle.serial_meaning.specs.Open.{Child, iterations, node_of}
 use Rattle.serial_meaning.specs.Laws.{IsOriginOf, Main, ChildOf, PartOf}
 use Rattle.serial_meaning.proofs.OriginFaults.Levels.{enough}
 use Rattle.serial_meaning.proofs.Equations.RunLaws.{then-then, then-same}
@@ -21,7 +21,7 @@ use Rattle.strand_meaning.proofs.Unfilled.UntouchedStays.{first-contained, later
 pub then-done : {I E A : Type 0} (r : Run I E A) → (r then λ a. done a) ≡ r
 then-done {I} {E} {A} r = from r.items r.ending
   where
-    from : (items : List I) (e : Result A E) → goes_on items e (λ a. done a) ≡ record { items = items; ending = e }
+    from : (items : List I) (e : Result A E) → continued items e (λ a. done a) ≡ record { items = items; ending = e }
     from items (Ok a) = ap (λ (l : List I). record { items = l; ending = Ok a }) (append-nil items)
     from items (Err e) = refl
 
@@ -124,18 +124,18 @@ pub part-of-loop : (plan : PlanView) (function : ℕ) (rest : List Value) (first
     range.lo ≤ part.lo → part.lo ≤ part.hi → part.hi ≤ range.hi → IsOriginOf plan (Loop function rest first path part)
 part-of-loop plan function rest first path range part o Main e a b c = absurd (cc)
 part-of-loop plan function rest first path range part o (ChildOf parent child h k) e a b c =
-    PartOf parent function rest first path range part h (subst (λ (d : Origin). Contains (opened plan parent).items (Child d)) e k) a b c
+    PartOf parent function rest first path range part h (subst (λ (d : Origin). Contains (node_of plan parent).items (Child d)) e k) a b c
 part-of-loop plan function rest first path range part o (PartOf parent f r g p whole range' h k w x y) e a b c =
     let function-is : f ≡ function = ap (function_in f) e in
     let rest-is : r ≡ rest = ap (rest_in r) e in
     let first-is : g ≡ first = ap (first_in g) e in
     let path-is : p ≡ path = ap path_of e in
     let range-is : range' ≡ range = ap (range_in range') e in
-    let there : Contains (opened plan parent).items (Child (Loop function rest first path whole)) =
-    subst (λ n. Contains (opened plan parent).items (Child (Loop n rest first path whole))) function-is
-    (subst (λ l. Contains (opened plan parent).items (Child (Loop f l first path whole))) rest-is
-    (subst (λ n. Contains (opened plan parent).items (Child (Loop f r n path whole))) first-is
-    (subst (λ l. Contains (opened plan parent).items (Child (Loop f r g l whole))) path-is k))) in
+    let there : Contains (node_of plan parent).items (Child (Loop function rest first path whole)) =
+    subst (λ n. Contains (node_of plan parent).items (Child (Loop n rest first path whole))) function-is
+    (subst (λ l. Contains (node_of plan parent).items (Child (Loop f l first path whole))) rest-is
+    (subst (λ n. Contains (node_of plan parent).items (Child (Loop f r n path whole))) first-is
+    (subst (λ l. Contains (node_of plan parent).items (Child (Loop f r g l whole))) path-is k))) in
     PartOf parent function rest first path whole part h there (within_lo range-is) b (within_hi range-is)
   where
     within_lo : range' ≡ range → whole.lo ≤ part.lo

@@ -11,7 +11,7 @@ use Rattle.serial_meaning.specs.Functions.{function_at}
 use Rattle.serial_meaning.specs.Plan.{PlanView, functions_of}
 use Rattle.serial_meaning.specs.Exec.{State, instance, exec, bound}
 use Rattle.serial_meaning.specs.Eval.{Evaluation}
-use Rattle.serial_meaning.specs.Open.{Item, NodeFault, put_off_all, opened}
+use Rattle.serial_meaning.specs.Open.{Item, NodeFault, put_off_all, node_of}
 use Rattle.serial_meaning.specs.declared.value.Value.{Value}
 use Rattle.serial_meaning.specs.declared.value.Value.TheVariants.{Int}
 use Rattle.serial_meaning.specs.declared.event.Fault.{Fault}
@@ -19,9 +19,9 @@ use Rattle.serial_meaning.specs.declared.origin.Origin.{Origin}
 use Rattle.serial_meaning.specs.declared.origin.Origin.TheVariants.{Instance}
 use Rattle.strand_meaning.specs.Clear.{IsClear, IsClearPlan}
 use Rattle.script_check.specs.Spawns.{spawns_in}
-use Rattle.strand_meaning.specs.Machine.{Destination, Spawned, Looped, Half, Machine, Reached, Stands, Gives, begun}
+use Rattle.strand_meaning.specs.Machine.{Destination, Spawned, Looped, Half, Machine, Reached, Stands, Gives, function_begun}
 use Rattle.strand_meaning.specs.Trace.{AwaitedChild}
-use Rattle.strand_meaning.specs.Task.{InstanceState, Running, Ended, begun_stage}
+use Rattle.strand_meaning.specs.Task.{Stage, Running, Ended, begun_stage}
 use Rattle.strand_meaning.specs.Rest.{children_of, closes, rest_of_stage, rest_open}
 use Rattle.strand_meaning.specs.Pending.{Here, Outside}
 use Rattle.strand_meaning.specs.Sound.{unfilled, is_by, any_by, IsHalf, AreHalves, IsSoundStage, UnfilledArePending}
@@ -33,14 +33,14 @@ clash h = absurd (cc)
 
 -- The node of an instance is what remains before its first move.
 pub begun-whole : (plan : PlanView) (function : ℕ) (args : List Value) (path : List ℕ) →
-    opened plan (Instance function args path) ≡ (rest_of_stage plan (children_of plan (Instance function args path)) path (begun_stage (begun plan function args)) then λ v. done (v ∷ []))
+    node_of plan (Instance function args path) ≡ (rest_of_stage plan (children_of plan (Instance function args path)) path (begun_stage (function_begun plan function args)) then λ v. done (v ∷ []))
 begun-whole plan function args path =
     ap (λ (r : Run Item NodeFault Value). r then λ v. done (v ∷ [])) (by_function (function_at (functions_of plan) function) refl)
   where
     child : Origin → Evaluation
     child = children_of plan (Instance function args path)
 
-    stage_of : Option Function → InstanceState
+    stage_of : Option Function → Stage
     stage_of (Some f) = Running (record {
       rank = 0;
       steps = plan.limits.budget;
@@ -49,7 +49,7 @@ begun-whole plan function args path =
     })
     stage_of None = Ended (Ok (Int (pos 0)))
 
-    stage-is : (o : Option Function) → function_at (functions_of plan) function ≡ o → begun_stage (begun plan function args) ≡ stage_of o
+    stage-is : (o : Option Function) → function_at (functions_of plan) function ≡ o → begun_stage (function_begun plan function args) ≡ stage_of o
     stage-is None h = rw h refl
     stage-is (Some f) h = rw h refl
 
@@ -59,7 +59,7 @@ begun-whole plan function args path =
     callee_run : Function → Option Function → Run Item NodeFault (Value × State (Option Fault))
     callee_run f o = exec (put_off_all plan child) plan path 0 f.body (record start { env = bound f.params args }) then closes plan child path path false o
 
-    by_function : (o : Option Function) → function_at (functions_of plan) function ≡ o → instance (put_off_all plan child) plan path (function_at (functions_of plan) function) args ≡ rest_of_stage plan child path (begun_stage (begun plan function args))
+    by_function : (o : Option Function) → function_at (functions_of plan) function ≡ o → instance (put_off_all plan child) plan path (function_at (functions_of plan) function) args ≡ rest_of_stage plan child path (begun_stage (function_begun plan function args))
     by_function None h =
         ap (λ (o : Option Function). instance (put_off_all plan child) plan path o args) h ∙ ap (rest_of_stage plan child path) (sym (stage-is None h))
     by_function (Some f) h =
@@ -77,7 +77,7 @@ halves-none height (p ∷ ps) h = ap (λ b. b || any_by height ps) (from p.desti
     from Half g = refl
 
 -- and it is sound, whatever parts of a loop were handed out
-pub begun-sound : (plan : PlanView) (function : ℕ) (args : List Value) (ps : List AwaitedChild) → IsClearPlan plan → AreHalves ps → IsSoundStage plan ps (begun_stage (begun plan function args))
+pub begun-sound : (plan : PlanView) (function : ℕ) (args : List Value) (ps : List AwaitedChild) → IsClearPlan plan → AreHalves ps → IsSoundStage plan ps (begun_stage (function_begun plan function args))
 begun-sound plan function args ps clear halves = by_function (function_at (functions_of plan) function) refl
   where
     none : any_by 0 ps ≡ false
@@ -109,20 +109,20 @@ begun-sound plan function args ps clear halves = by_function (function_at (funct
           tt,
         )
 
-    stage_of : Option Function → InstanceState
+    stage_of : Option Function → Stage
     stage_of (Some f) = Running (machine f)
     stage_of None = Ended (Ok (Int (pos 0)))
 
-    stage-is : (o : Option Function) → function_at (functions_of plan) function ≡ o → begun_stage (begun plan function args) ≡ stage_of o
+    stage-is : (o : Option Function) → function_at (functions_of plan) function ≡ o → begun_stage (function_begun plan function args) ≡ stage_of o
     stage-is None h = rw h refl
     stage-is (Some f) h = rw h refl
 
-    by_function : (o : Option Function) → function_at (functions_of plan) function ≡ o → IsSoundStage plan ps (begun_stage (begun plan function args))
+    by_function : (o : Option Function) → function_at (functions_of plan) function ≡ o → IsSoundStage plan ps (begun_stage (function_begun plan function args))
     by_function None h = subst (IsSoundStage plan ps) (sym (stage-is None h)) halves
     by_function (Some f) h = subst (IsSoundStage plan ps) (sym (stage-is (Some f) h)) (sound f h)
 
 -- and nothing of it is unfilled
-pub begun-pending : (plan : PlanView) (function : ℕ) (args : List Value) (ps : List AwaitedChild) → AreHalves ps → UnfilledArePending plan ps (begun_stage (begun plan function args))
+pub begun-pending : (plan : PlanView) (function : ℕ) (args : List Value) (ps : List AwaitedChild) → AreHalves ps → UnfilledArePending plan ps (begun_stage (function_begun plan function args))
 begun-pending plan function args ps halves = by_function (function_at (functions_of plan) function) refl
   where
     machine : Function → Machine
@@ -133,11 +133,11 @@ begun-pending plan function args ps halves = by_function (function_at (functions
       below = [];
     }
 
-    stage_of : Option Function → InstanceState
+    stage_of : Option Function → Stage
     stage_of (Some f) = Running (machine f)
     stage_of None = Ended (Ok (Int (pos 0)))
 
-    stage-is : (o : Option Function) → function_at (functions_of plan) function ≡ o → begun_stage (begun plan function args) ≡ stage_of o
+    stage-is : (o : Option Function) → function_at (functions_of plan) function ≡ o → begun_stage (function_begun plan function args) ≡ stage_of o
     stage-is None h = rw h refl
     stage-is (Some f) h = rw h refl
 
@@ -147,7 +147,7 @@ begun-pending plan function args ps halves = by_function (function_at (functions
     going : (f : Function) → function_at (functions_of plan) function ≡ Some f → UnfilledArePending plan ps (Running (machine f))
     going f h = (record { function = f; of_plan = h; now = no_names; stands = Outside Here; pending = λ name c. absurd (none name c) }, tt)
 
-    by_function : (o : Option Function) → function_at (functions_of plan) function ≡ o → UnfilledArePending plan ps (begun_stage (begun plan function args))
+    by_function : (o : Option Function) → function_at (functions_of plan) function ≡ o → UnfilledArePending plan ps (begun_stage (function_begun plan function args))
     by_function None h = subst (UnfilledArePending plan ps) (sym (stage-is None h)) tt
     by_function (Some f) h = subst (UnfilledArePending plan ps) (sym (stage-is (Some f) h)) (going f h)
 

@@ -5,7 +5,7 @@ use Rattle.std.proofs.lemmas.List.Elements.{Contains-append_left, Contains-appen
 use Rattle.serial_meaning.specs.Runs.{Run, done, run_ends_by, after_items, ◌then◌}
 use Rattle.serial_meaning.specs.Plan.{PlanView}
 use Rattle.serial_meaning.specs.Eval.{Evaluation, path_of, eval}
-use Rattle.serial_meaning.specs.Open.{Item, Happened, Child, Opened, Closed, NodeFault, Own, opened}
+use Rattle.serial_meaning.specs.Open.{Item, Happened, Child, Opened, Closed, NodeFault, Own, node_of}
 use Rattle.serial_meaning.specs.Laws.{IsOriginOf, ChildOf}
 use Rattle.serial_meaning.proofs.Equations.RunLaws.{then-same}
 use Rattle.serial_meaning.proofs.Equations.Each.{Each}
@@ -14,9 +14,9 @@ use Rattle.serial_meaning.specs.declared.event.Fault.{Fault}
 use Rattle.serial_meaning.specs.declared.origin.Origin.{Origin}
 use Rattle.strand_meaning.specs.Machine.{Destination, Spawned, Looped, Half, Effect, Opens, Closes, Emitted, Handed, Syncs, Loops, Machine, Reached, Stands, Gives, move}
 use Rattle.strand_meaning.specs.Trace.{AwaitedChild, Trace, with_effects}
-use Rattle.strand_meaning.specs.Task.{InstanceState, Running, Ended, Work, Runs, Task, own_instance, stage_after, child_in, stops_at, passing, moved, resumed}
-use Rattle.strand_meaning.specs.Rest.{children_of, rest_of_stage, rest_open, closed_run, parts_run, prefix_run, work_run, all_with, finish}
-use Rattle.strand_meaning.specs.Sound.{IsDestination, AreDestinations, IsHalf, AreHalves, IsSoundStage, IsSoFar, AreParts, IsInstanceOrLoop, UnfilledArePending, IsTask}
+use Rattle.strand_meaning.specs.Task.{Stage, Running, Ended, Remaining, Runs, Task, own_instance, stage_after, child_in, stops_at, passing, step_result, resumed}
+use Rattle.strand_meaning.specs.Rest.{children_of, rest_of_stage, rest_open, closed_run, awaited_run, prefix_run, remaining_run, all_with, finish}
+use Rattle.strand_meaning.specs.Sound.{IsDestination, AreDestinations, IsHalf, AreHalves, IsSoundStage, IsSoFar, AreSoundChildren, IsInstanceOrLoop, UnfilledArePending, IsTask}
 use Rattle.strand_meaning.specs.Found.{FindsTargets, IsFoundPlan, functions_at, functions_left}
 use Rattle.strand_meaning.specs.Laws.{IsSoundStep}
 use Rattle.strand_meaning.specs.Observation.{effect_items}
@@ -37,9 +37,9 @@ use Rattle.strand_meaning.proofs.Unfilled.UntouchedStays.{first-contained, later
 
 pub so_far-same : (child : Origin → Evaluation) (trace : Trace) (values : List Value) (f g : List Value → Evaluation) → ((vs : List Value) → f vs ≡ g vs) → so_far child trace values f ≡ so_far child trace values g
 so_far-same child trace values f g same =
-    ap (λ (r : Evaluation). prefix_run trace then λ u. r) (then-same (parts_run child trace.handed values) f g (λ vs h. same vs))
+    ap (λ (r : Evaluation). prefix_run trace then λ u. r) (then-same (awaited_run child trace.handed values) f g (λ vs h. same vs))
 
-pub parts-append : (plan : PlanView) (o : Origin) (ps qs : List AwaitedChild) → AreParts plan o ps → AreParts plan o qs → AreParts plan o (ps ++ qs)
+pub parts-append : (plan : PlanView) (o : Origin) (ps qs : List AwaitedChild) → AreSoundChildren plan o ps → AreSoundChildren plan o qs → AreSoundChildren plan o (ps ++ qs)
 parts-append plan o [] qs h k = k
 parts-append plan o (p ∷ ps) qs h k = (h.0, parts-append plan o ps qs h.1 k)
 
@@ -50,9 +50,9 @@ module _ (plan : PlanView) (o : Origin) where
   child = children_of plan (own_instance o)
 
   abbrev Known : Origin → Type 0
-  Known c = IsOriginOf plan c × (child c ≡ eval plan c) × Contains (opened plan (own_instance o)).items (Child c)
+  Known c = IsOriginOf plan c × (child c ≡ eval plan c) × Contains (node_of plan (own_instance o)).items (Child c)
 
-  new-parts : (ts : List Effect) → Each NotHalf ts → ((c : Origin) → Contains (effect_items ts) (Child c) → Known c) → AreParts plan o (effect_parts ts)
+  new-parts : (ts : List Effect) → Each NotHalf ts → ((c : Origin) → Contains (effect_items ts) (Child c) → Known c) → AreSoundChildren plan o (effect_parts ts)
   new-parts [] own h = tt
   new-parts (Opens j ∷ ts) own h = new-parts ts own.1 (λ c k. h c (later-contained (Opened j) (Child c) (effect_items ts) k))
   new-parts (Closes j ∷ ts) own h = new-parts ts own.1 (λ c k. h c (later-contained (Closed j) (Child c) (effect_items ts) k))
@@ -107,7 +107,7 @@ halves-places (p ∷ ps) h = (from p.destination h.0, halves-places ps h.1)
 
 -- A task whose instance moves
 module _ (t : Task) (is : IsTask t) (m : Machine) (own-known : IsOriginOf t.plan (own_instance t.origin)) (is-loop : IsInstanceOrLoop t.origin)
-    (far : IsSoFar t.plan (own_instance t.origin) t.trace.handed (Running m)) (sound : IsSoundStage t.plan t.trace.handed (Running m)) (pends : UnfilledArePending t.plan t.trace.handed (Running m)) (at : t.work ≡ Runs (Running m)) where
+    (far : IsSoFar t.plan (own_instance t.origin) t.trace.handed (Running m)) (sound : IsSoundStage t.plan t.trace.handed (Running m)) (pends : UnfilledArePending t.plan t.trace.handed (Running m)) (at : t.remaining ≡ Runs (Running m)) where
   abbrev own : Origin
   own = own_instance t.origin
 
@@ -127,7 +127,7 @@ module _ (t : Task) (is : IsTask t) (m : Machine) (own-known : IsOriginOf t.plan
   abbrev all_of : Value → Run Item NodeFault (List Value)
   all_of v = done (v ∷ [])
 
-  further : (ts : List Effect) (rest : Run Item NodeFault Value) → Leaves ts rest → opened t.plan own ≡ after_items (far.front ++ effect_items ts) (rest then all_of)
+  further : (ts : List Effect) (rest : Run Item NodeFault Value) → Leaves ts rest → node_of t.plan own ≡ after_items (far.front ++ effect_items ts) (rest then all_of)
   further ts rest h =
       far.whole
       ∙ ap (λ (r : Run Item NodeFault Value). after_items far.front (r then all_of)) h
@@ -137,22 +137,22 @@ module _ (t : Task) (is : IsTask t) (m : Machine) (own-known : IsOriginOf t.plan
   known : (ts : List Effect) (rest : Run Item NodeFault Value) → Leaves ts rest → (c : Origin) → Contains (effect_items ts) (Child c) → Known t.plan t.origin c
   known ts rest h c k = (ChildOf own c own-known there, same-answer t.plan own c (loop-of-plan t.plan own own-known) there, there)
     where
-      there : Contains (opened t.plan own).items (Child c)
+      there : Contains (node_of t.plan own).items (Child c)
       there =
           subst (λ (r : Run Item NodeFault (List Value)). Contains r.items (Child c)) (sym (further ts rest h))
           (Contains-append_left (far.front ++ effect_items ts) (rest then all_of).items (Child c) (Contains-append_right far.front (effect_items ts) (Child c) k))
 
   -- the task after the move
-  next-task : (ts : List Effect) → Each NotHalf ts → Shows t.plan t.origin ts → (rest : Run Item NodeFault Value) → Leaves ts rest → (stage : InstanceState) →
+  next-task : (ts : List Effect) → Each NotHalf ts → Shows t.plan t.origin ts → (rest : Run Item NodeFault Value) → Leaves ts rest → (stage : Stage) →
       rest ≡ rest_open t.plan kids path (ps ++ effect_parts ts) stage → IsSoundStage t.plan (ps ++ effect_parts ts) stage → UnfilledArePending t.plan (ps ++ effect_parts ts) stage →
       (IsFoundPlan t.plan → FindsTargets t.plan (functions_at stage) (ps ++ effect_parts ts)) → IsTask (passing t ts (Runs stage))
   next-task ts own-effects shows rest leaves stage lands fits stands finds = record {
     finishes = finishes;
     known = is.known;
     clear = is.clear;
-    parts = alike-parts t.plan t.origin alike (parts-append t.plan t.origin ps (effect_parts ts) is.parts (new-parts t.plan t.origin ts own-effects (known ts rest leaves)));
+    awaiting = alike-parts t.plan t.origin alike (parts-append t.plan t.origin ps (effect_parts ts) is.awaiting (new-parts t.plan t.origin ts own-effects (known ts rest leaves)));
     shown = λ none. let before : t.trace.fault ≡ None = sym (effects-fault ts t.trace) ∙ none in shows t.trace before (is.shown before);
-    work = (is-loop, record { front = far.front ++ effect_items ts; whole = further ts rest leaves ∙ ap (λ (r : Run Item NodeFault Value). after_items (far.front ++ effect_items ts) (r then all_of)) lands-here }, alike-stage t.plan alike stage fits);
+    remaining = (is-loop, record { front = far.front ++ effect_items ts; whole = further ts rest leaves ∙ ap (λ (r : Run Item NodeFault Value). after_items (far.front ++ effect_items ts) (r then all_of)) lands-here }, alike-stage t.plan alike stage fits);
     pending = alike-pending t.plan alike stage stands;
     found = λ plan-found. found-alike t.plan (functions_at stage) alike (finds plan-found);
   }
@@ -166,7 +166,7 @@ module _ (t : Task) (is : IsTask t) (m : Machine) (own-known : IsOriginOf t.plan
       lands-here : rest ≡ rest_open t.plan kids path after stage
       lands-here = lands ∙ ap (λ s. rest_of_stage t.plan kids path (resumed s)) (alike-takes kids alike stage)
 
-      the-rest : (vs : List Value) → work_run t.plan t.origin ps (Runs (Running m)) vs ≡ played (eval t.plan) ts (work_run t.plan t.origin after (Runs stage) vs)
+      the-rest : (vs : List Value) → remaining_run t.plan t.origin ps (Runs (Running m)) vs ≡ played (eval t.plan) ts (remaining_run t.plan t.origin after (Runs stage) vs)
       the-rest vs =
           ap (λ (r : Run Item NodeFault Value). closed_run kids r then λ v. done (all_with t.origin vs v)) leaves
           ∙ played-closed kids (eval t.plan) ts (same-children t.plan t.origin ts (known ts rest leaves)) rest (λ v. done (all_with t.origin vs v))
@@ -174,12 +174,12 @@ module _ (t : Task) (is : IsTask t) (m : Machine) (own-known : IsOriginOf t.plan
 
       finishes : finish (passing t ts (Runs stage)) ≡ eval t.plan t.origin
       finishes =
-          effects-so_far (eval t.plan) ts own-effects t.trace t.values (work_run t.plan t.origin after (Runs stage))
-          ∙ sym (so_far-same (eval t.plan) t.trace t.values (work_run t.plan t.origin ps (Runs (Running m))) (λ vs. played (eval t.plan) ts (work_run t.plan t.origin after (Runs stage) vs)) the-rest)
-          ∙ ap (λ (w : Work). so_far (eval t.plan) t.trace t.values (work_run t.plan t.origin ps w)) (sym at)
+          effects-so_far (eval t.plan) ts own-effects t.trace t.values (remaining_run t.plan t.origin after (Runs stage))
+          ∙ sym (so_far-same (eval t.plan) t.trace t.values (remaining_run t.plan t.origin ps (Runs (Running m))) (λ vs. played (eval t.plan) ts (remaining_run t.plan t.origin after (Runs stage) vs)) the-rest)
+          ∙ ap (λ (w : Remaining). so_far (eval t.plan) t.trace t.values (remaining_run t.plan t.origin ps w)) (sym at)
           ∙ is.finishes
 
-  sound-moved : (ts : List Effect) (e : Result Reached Fault) → Each NotHalf ts → Shows t.plan t.origin ts → Leaves ts (shown_with t.plan kids path ps ts e) → SoundEnd t.plan ps ts e → PendingEnd t.plan ps ts e → (IsFoundPlan t.plan → FoundEnd t.plan ps ts e) → IsSoundStep t (moved t ts e)
+  sound-moved : (ts : List Effect) (e : Result Reached Fault) → Each NotHalf ts → Shows t.plan t.origin ts → Leaves ts (shown_with t.plan kids path ps ts e) → SoundEnd t.plan ps ts e → PendingEnd t.plan ps ts e → (IsFoundPlan t.plan → FoundEnd t.plan ps ts e) → IsSoundStep t (step_result t ts e)
   sound-moved ts (Ok (Stands k)) own-effects shows leaves fits stands finds = by_child (child_in ts) refl
     where
       next : Task
@@ -205,10 +205,10 @@ module _ (t : Task) (is : IsTask t) (m : Machine) (own-known : IsOriginOf t.plan
       places : AreDestinations fits.1 (ps ++ effect_parts ts)
       places = subst (AreDestinations fits.1) (sym (ap (λ (l : List AwaitedChild). ps ++ l) fits.0 ∙ append-nil ps)) fits.2
 
-  pub sound-going : IsSoundStep t (moved t (move t.plan path m).items (move t.plan path m).ending)
+  pub sound-going : IsSoundStep t (step_result t (move t.plan path m).items (move t.plan path m).ending)
   sound-going =
       let r = move t.plan path m in
       sound-moved r.items r.ending (own-move t.plan path m) (move-shows t.plan t.origin m)
       (open-move t.plan kids path (length m.below) ps sound.0 m (sound-free t.plan ps m sound) (none-known kids ps m sound.1.spawned sound.1.faulted) (λ h. (sound.1.leaving h).1))
       (sound-move t.plan path is.clear ps m sound) (pending-move t.plan path ps m sound pends)
-      (λ plan-found. found-move t.plan path ps m sound.0 (subst (λ (w : Work). FindsTargets t.plan (functions_left w) ps) at (is.found plan-found)) plan-found pends)
+      (λ plan-found. found-move t.plan path ps m sound.0 (subst (λ (w : Remaining). FindsTargets t.plan (functions_left w) ps) at (is.found plan-found)) plan-found pends)

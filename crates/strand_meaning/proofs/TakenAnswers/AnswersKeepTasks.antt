@@ -2,7 +2,7 @@
 use Rattle.std.proofs.Common.{◌≡◌, ℕ, Bool, true, false, ◌||◌, nat_eq, List, [], ◌∷◌, ◌++◌, Option, Some, None, Result, Ok, Err, inl, inr, ◌⊎◌, length, refl, sym, ap, ◌∙◌, append_assoc, subst, if◌then◌else◌}
 use Rattle.std.proofs.lemmas.List.Elements.{Contains-append_right}
 use Rattle.script_grammar.specs.declared.tree.Name.{Name}
-use Rattle.serial_meaning.specs.Runs.{Run, done, after_items, goes_on, ◌then◌}
+use Rattle.serial_meaning.specs.Runs.{Run, done, after_items, continued, ◌then◌}
 use Rattle.serial_meaning.specs.Plan.{PlanView}
 use Rattle.serial_meaning.specs.Eval.{Evaluation, path_of, eval}
 use Rattle.serial_meaning.specs.Open.{Item, NodeFault, Own, ChildFaulted}
@@ -12,11 +12,11 @@ use Rattle.serial_meaning.specs.declared.event.Event.{Event}
 use Rattle.serial_meaning.specs.declared.origin.Origin.{Origin}
 use Rattle.strand_meaning.specs.Clear.{IsWithin, IsApart, target_names}
 use Rattle.strand_meaning.specs.Machine.{Destination, Spawned, Looped, Half, Frame, Machine}
-use Rattle.strand_meaning.specs.Trace.{AwaitedChild, Trace, heard_unless, heard, heard_all}
-use Rattle.strand_meaning.specs.Task.{InstanceState, Running, AtSync, AtLoop, Ended, Work, Splits, Runs, Finished, Task, own_instance, changed, changed_at, frame_with_answer, takes, takes_all, joins, resumed, resumed_work, more_values, all_values, on}
+use Rattle.strand_meaning.specs.Trace.{AwaitedChild, Trace, merged_answer_unless, merged_answer, merged_answers}
+use Rattle.strand_meaning.specs.Task.{Stage, Running, AtSync, AtLoop, Ended, Remaining, Splits, Runs, Finished, Task, own_instance, changed, changed_at, frame_with_answer, takes, takes_all, pass_sync, resumed, resumed_remaining, more_values, all_values, on}
 use Rattle.strand_meaning.specs.Found.{FindsTargets, functions_left}
-use Rattle.strand_meaning.specs.Rest.{children_of, evaluations, rest_of_stage, rest_open, closed_run, prefix_end, prefix_run, parts_run, all_with, work_run, finish}
-use Rattle.strand_meaning.specs.Sound.{unfilled_by, unfilled, is_by, any_by, IsSound, AreSound, IsDestination, AreDestinations, IsHalf, after_sync, IsSoundStage, AreParts, IsSoundWork, AreShownBy, UnfilledArePendingIn, IsTask}
+use Rattle.strand_meaning.specs.Rest.{children_of, evaluations, rest_of_stage, rest_open, closed_run, prefix_end, prefix_run, awaited_run, all_with, remaining_run, finish}
+use Rattle.strand_meaning.specs.Sound.{unfilled_by, unfilled, is_by, any_by, IsSound, AreSound, IsDestination, AreDestinations, IsHalf, after_sync, IsSoundStage, AreSoundChildren, IsSoundRemaining, AreShownBy, UnfilledArePendingIn, IsTask}
 use Rattle.strand_meaning.proofs.SoundSteps.Closing.{after-then}
 use Rattle.strand_meaning.proofs.Unfilled.ChangesCommute.{length-changed}
 use Rattle.strand_meaning.proofs.Unfilled.Clears.{clear-within}
@@ -30,41 +30,41 @@ clash h = absurd (cc)
 
 module _ (child : Origin → Evaluation) where
   abbrev from_parts : List AwaitedChild → Trace → List Value → (List Value → Evaluation) → Evaluation
-  from_parts ps trace values tail = prefix_run trace then λ u. parts_run child ps values then tail
+  from_parts ps trace values tail = prefix_run trace then λ u. awaited_run child ps values then tail
 
   heard-one : (p : AwaitedChild) (ps : List AwaitedChild) (trace : Trace) (values : List Value) (tail : List Value → Evaluation) →
-      from_parts (p ∷ ps) trace values tail ≡ from_parts ps (heard p (child p.child) trace) (more_values p.destination (child p.child).ending values) tail
+      from_parts (p ∷ ps) trace values tail ≡ from_parts ps (merged_answer p (child p.child) trace) (more_values p.destination (child p.child).ending values) tail
   heard-one p ps trace values tail = by_cases trace.fault (child p.child).items (child p.child).ending
     where
       by_cases : (f : Option Fault) (events : List Event) (q : Result (List Value) Fault) →
-          (record { items = trace.prefix; ending = prefix_end f } then λ (u : Unit {0}). (goes_on events q (λ vs. after_items p.after (parts_run child ps (more_values p.destination (Ok vs) values)))) then tail)
-          ≡ from_parts ps (heard_unless f trace.prefix p events q) (more_values p.destination q values) tail
+          (record { items = trace.prefix; ending = prefix_end f } then λ (u : Unit {0}). (continued events q (λ vs. after_items p.after (awaited_run child ps (more_values p.destination (Ok vs) values)))) then tail)
+          ≡ from_parts ps (merged_answer_unless f trace.prefix p events q) (more_values p.destination q values) tail
       by_cases (Some f) events q = refl
       by_cases None events (Err f) = refl
       by_cases None events (Ok vs) =
-          let r : Evaluation = parts_run child ps (more_values p.destination (Ok vs) values) in
+          let r : Evaluation = awaited_run child ps (more_values p.destination (Ok vs) values) in
           ap (after_items trace.prefix) (after-then events (after_items p.after r) tail ∙ ap (after_items events) (after-then p.after r tail))
           ∙ ap (λ (l : List Event). record { items = trace.prefix ++ l; ending = (r then tail).ending }) (sym (append_assoc events p.after (r then tail).items))
           ∙ ap (λ (l : List Event). record { items = l; ending = (r then tail).ending }) (sym (append_assoc trace.prefix (events ++ p.after) (r then tail).items))
 
   heard-so_far : (ps : List AwaitedChild) (trace : Trace) (values : List Value) (tail : List Value → Evaluation) →
-      from_parts ps trace values tail ≡ from_parts [] (heard_all ps (evaluations child ps) trace) (all_values ps (evaluations child ps) values) tail
+      from_parts ps trace values tail ≡ from_parts [] (merged_answers ps (evaluations child ps) trace) (all_values ps (evaluations child ps) values) tail
   heard-so_far [] trace values tail = refl
   heard-so_far (p ∷ ps) trace values tail =
-      heard-one p ps trace values tail ∙ heard-so_far ps (heard p (child p.child) trace) (more_values p.destination (child p.child).ending values) tail
+      heard-one p ps trace values tail ∙ heard-so_far ps (merged_answer p (child p.child) trace) (more_values p.destination (child p.child).ending values) tail
 
-  heard-none : (ps : List AwaitedChild) (trace : Trace) → trace.handed ≡ [] → (heard_all ps (evaluations child ps) trace).handed ≡ []
+  heard-none : (ps : List AwaitedChild) (trace : Trace) → trace.handed ≡ [] → (merged_answers ps (evaluations child ps) trace).handed ≡ []
   heard-none [] trace h = h
-  heard-none (p ∷ ps) trace h = heard-none ps (heard p (child p.child) trace) (by_cases trace.fault (child p.child).ending)
+  heard-none (p ∷ ps) trace h = heard-none ps (merged_answer p (child p.child) trace) (by_cases trace.fault (child p.child).ending)
     where
-      by_cases : (f : Option Fault) (q : Result (List Value) Fault) → (heard_unless f trace.prefix p (child p.child).items q).handed ≡ []
+      by_cases : (f : Option Fault) (q : Result (List Value) Fault) → (merged_answer_unless f trace.prefix p (child p.child).items q).handed ≡ []
       by_cases (Some f) q = refl
       by_cases None (Ok vs) = refl
       by_cases None (Err f) = refl
 
 -- What remains
 
-pub takes-same : (plan : PlanView) (o : Origin) (ps : List AwaitedChild) → AreParts plan o ps → (stage : InstanceState) →
+pub takes-same : (plan : PlanView) (o : Origin) (ps : List AwaitedChild) → AreSoundChildren plan o ps → (stage : Stage) →
     takes_all ps (evaluations (children_of plan (own_instance o)) ps) stage ≡ takes_all ps (evaluations (eval plan) ps) stage
 takes-same plan o [] h stage = refl
 takes-same plan o (p ∷ ps) h stage =
@@ -79,11 +79,11 @@ takes-same plan o (p ∷ ps) h stage =
     one (inl g) = half p.destination _ _ g
     one (inr e) = ap (λ (r : Evaluation). takes p.destination r.ending stage) e
 
-resumed-twice : (stage : InstanceState) → resumed (resumed stage) ≡ resumed stage
+resumed-twice : (stage : Stage) → resumed (resumed stage) ≡ resumed stage
 resumed-twice (Running m) = refl
 resumed-twice (AtSync m) = from m.top.faulted
   where
-    from : (f : Option Fault) → resumed (joins f m) ≡ joins f m
+    from : (f : Option Fault) → resumed (pass_sync f m) ≡ pass_sync f m
     from None = refl
     from (Some f) = refl
 resumed-twice (AtLoop m) = refl
@@ -174,10 +174,10 @@ module _ (plan : PlanView) (p : AwaitedChild) (ps : List AwaitedChild) where
 
 -- Stages that take answers: what holds of them, or they have ended by a fault.
 
-abbrev HasFaulted : InstanceState → Type 0
+abbrev HasFaulted : Stage → Type 0
 HasFaulted stage = (e : NodeFault) × (stage ≡ Ended (Err e))
 
-abbrev Taking : PlanView → List AwaitedChild → InstanceState → Type 0
+abbrev Taking : PlanView → List AwaitedChild → Stage → Type 0
 Taking plan ps stage = IsSoundStage plan ps stage ⊎ HasFaulted stage
 
 faulted-takes : (destination : Destination) (q : Result (List Value) Fault) (e : NodeFault) → HasFaulted (takes destination q (Ended (Err e)))
@@ -215,7 +215,7 @@ module _ (plan : PlanView) (p : AwaitedChild) (ps : List AwaitedChild) (q : Resu
       by_place false h =
           (subst (λ n. IsSound plan ps n m.top) (sym (length-changed owner (frame_with_answer to q) m.below)) (less-sound plan p ps (length m.below) m.top s), changed-below plan p ps owner to q e m.top.target m.below b)
 
-  takes-spawned : (owner : ℕ) (to : Option Name) → p.destination ≡ Spawned owner to → (stage : InstanceState) → IsSoundStage plan (p ∷ ps) stage → Taking plan ps (takes (Spawned owner to) q stage)
+  takes-spawned : (owner : ℕ) (to : Option Name) → p.destination ≡ Spawned owner to → (stage : Stage) → IsSoundStage plan (p ∷ ps) stage → Taking plan ps (takes (Spawned owner to) q stage)
   takes-spawned owner to e (Running m) s =
       let k = top-changed owner to e m s.1 s.2 in inl (places-owner (length m.below) ps (length (changed owner (frame_with_answer to q) m).below) (same-height owner to m) s.0.1, k.0, k.1)
   takes-spawned owner to e (AtSync m) s =
@@ -226,14 +226,14 @@ module _ (plan : PlanView) (p : AwaitedChild) (ps : List AwaitedChild) (q : Resu
   takes-spawned owner to e (Ended (Ok v)) s = inl s.1
   takes-spawned owner to e (Ended (Err x)) s = inr (x, refl)
 
-  takes-half : (stage : InstanceState) → IsSoundStage plan (p ∷ ps) stage → Taking plan ps stage
+  takes-half : (stage : Stage) → IsSoundStage plan (p ∷ ps) stage → Taking plan ps stage
   takes-half (Running m) s = inl (s.0.1, less-sound plan p ps (length m.below) m.top s.1, less-below plan p ps m.top.target m.below s.2)
   takes-half (AtSync m) s = inl (s.0.1, s.1, less-below plan p ps m.top.target m.below s.2)
   takes-half (AtLoop m) s = inl (less-sound plan p ps (length m.below) m.top s.0, less-below plan p ps m.top.target m.below s.1)
   takes-half (Ended (Ok v)) s = inl s.1
   takes-half (Ended (Err x)) s = inr (x, refl)
 
-  takes-looped : (to : Option Name) → p.destination ≡ Looped to → (q : Result (List Value) Fault) (stage : InstanceState) → IsSoundStage plan (p ∷ ps) stage → Taking plan ps (takes (Looped to) q stage)
+  takes-looped : (to : Option Name) → p.destination ≡ Looped to → (q : Result (List Value) Fault) (stage : Stage) → IsSoundStage plan (p ∷ ps) stage → Taking plan ps (takes (Looped to) q stage)
   takes-looped to e (Err f) stage s = inr (ChildFaulted f, refl)
   takes-looped to e (Ok vs) (Running m) s = let no : IsDestination (length m.below) (Looped to) = subst (IsDestination (length m.below)) e s.0.0 in absurd no
   takes-looped to e (Ok vs) (AtSync m) s = let no : IsDestination (length m.below) (Looped to) = subst (IsDestination (length m.below)) e s.0.0 in absurd no
@@ -246,24 +246,24 @@ module _ (plan : PlanView) (p : AwaitedChild) (ps : List AwaitedChild) (q : Resu
   takes-looped to e (Ok vs) (Ended (Ok v)) s = let no : IsHalf (Looped to) = subst IsHalf e s.0 in absurd no
   takes-looped to e (Ok vs) (Ended (Err x)) s = inr (x, refl)
 
-  takes-sound : (destination : Destination) → p.destination ≡ destination → (stage : InstanceState) → IsSoundStage plan (p ∷ ps) stage → Taking plan ps (takes destination q stage)
+  takes-sound : (destination : Destination) → p.destination ≡ destination → (stage : Stage) → IsSoundStage plan (p ∷ ps) stage → Taking plan ps (takes destination q stage)
   takes-sound (Spawned owner to) e stage s = takes-spawned owner to e stage s
   takes-sound (Looped to) e stage s = takes-looped to e q stage s
   takes-sound Half e stage s = takes-half stage s
 
-  takes-either : (stage : InstanceState) → Taking plan (p ∷ ps) stage → Taking plan ps (takes p.destination q stage)
+  takes-either : (stage : Stage) → Taking plan (p ∷ ps) stage → Taking plan ps (takes p.destination q stage)
   takes-either stage (inl s) = takes-sound p.destination refl stage s
-  takes-either stage (inr h) = inr (subst (λ (x : InstanceState). HasFaulted (takes p.destination q x)) (sym h.1) (faulted-takes p.destination q h.0))
+  takes-either stage (inr h) = inr (subst (λ (x : Stage). HasFaulted (takes p.destination q x)) (sym h.1) (faulted-takes p.destination q h.0))
 
-all-taken : (plan : PlanView) (child : Origin → Evaluation) (ps : List AwaitedChild) (stage : InstanceState) → Taking plan ps stage → Taking plan [] (takes_all ps (evaluations child ps) stage)
+all-taken : (plan : PlanView) (child : Origin → Evaluation) (ps : List AwaitedChild) (stage : Stage) → Taking plan ps stage → Taking plan [] (takes_all ps (evaluations child ps) stage)
 all-taken plan child [] stage t = t
 all-taken plan child (p ∷ ps) stage t = all-taken plan child ps (takes p.destination (child p.child).ending stage) (takes-either plan p ps (child p.child).ending stage t)
 
-resumed-sound : (plan : PlanView) (stage : InstanceState) → Taking plan [] stage → IsSoundStage plan [] (resumed stage)
+resumed-sound : (plan : PlanView) (stage : Stage) → Taking plan [] stage → IsSoundStage plan [] (resumed stage)
 resumed-sound plan (Running m) (inl s) = s
 resumed-sound plan (AtSync m) (inl s) = by_fault m.top.faulted refl
   where
-    by_fault : (f : Option Fault) → m.top.faulted ≡ f → IsSoundStage plan [] (joins f m)
+    by_fault : (f : Option Fault) → m.top.faulted ≡ f → IsSoundStage plan [] (pass_sync f m)
     by_fault None h =
         (tt, record { clear = s.1.clear; spawned = s.1.spawned; faulted = λ e. h; in_text = s.1.in_text; left_in_text = s.1.left_in_text; levels = s.1.levels; leaving = s.1.leaving; returning = s.1.returning }, s.2)
     by_fault (Some f) h = refl
@@ -271,7 +271,7 @@ resumed-sound plan (AtLoop m) (inl s) = (tt, s.0, s.1)
 resumed-sound plan (Ended (Ok v)) (inl s) = tt
 resumed-sound plan (Ended (Err (Own f))) (inl s) = (0, tt)
 resumed-sound plan (Ended (Err (ChildFaulted f))) (inl s) = refl
-resumed-sound plan stage (inr h) = subst (λ (x : InstanceState). IsSoundStage plan [] (resumed x)) (sym h.1) (from h.0)
+resumed-sound plan stage (inr h) = subst (λ (x : Stage). IsSoundStage plan [] (resumed x)) (sym h.1) (from h.0)
   where
     from : (e : NodeFault) → IsSoundStage plan [] (Ended (Err e))
     from (Own f) = (0, tt)
@@ -293,42 +293,42 @@ module _ (t : Task) (is : IsTask t) where
   kids = children_of t.plan own
 
   abbrev trace-on : Trace
-  trace-on = heard_all ps answers (record t.trace { handed = [] })
+  trace-on = merged_answers ps answers (record t.trace { handed = [] })
 
-  abbrev taken_stage : InstanceState → InstanceState
+  abbrev taken_stage : Stage → Stage
   taken_stage stage = resumed (takes_all ps answers stage)
 
   -- nothing more is taken
-  pub rest-same : (stage : InstanceState) → rest_open t.plan kids (path_of own) ps stage ≡ rest_open t.plan kids (path_of own) [] (taken_stage stage)
+  pub rest-same : (stage : Stage) → rest_open t.plan kids (path_of own) ps stage ≡ rest_open t.plan kids (path_of own) [] (taken_stage stage)
   rest-same stage =
-      ap (λ (s : InstanceState). rest_of_stage t.plan kids (path_of own) s) (ap resumed (takes-same t.plan t.origin ps is.parts stage) ∙ sym (resumed-twice (takes_all ps answers stage)))
+      ap (λ (s : Stage). rest_of_stage t.plan kids (path_of own) s) (ap resumed (takes-same t.plan t.origin ps is.awaiting stage) ∙ sym (resumed-twice (takes_all ps answers stage)))
 
-  work-same : (work : Work) (vs : List Value) → work_run t.plan t.origin ps work vs ≡ work_run t.plan t.origin [] (resumed_work ps answers work) vs
-  work-same (Splits left) vs = refl
-  work-same (Runs stage) vs = ap (λ (r : Run Item NodeFault Value). closed_run kids r then λ v. done (all_with t.origin vs v)) (rest-same stage)
-  work-same (Finished v gone_on) vs = refl
+  remaining-same : (remaining : Remaining) (vs : List Value) → remaining_run t.plan t.origin ps remaining vs ≡ remaining_run t.plan t.origin [] (resumed_remaining ps answers remaining) vs
+  remaining-same (Splits left) vs = refl
+  remaining-same (Runs stage) vs = ap (λ (r : Run Item NodeFault Value). closed_run kids r then λ v. done (all_with t.origin vs v)) (rest-same stage)
+  remaining-same (Finished v gone_on) vs = refl
 
-  work-sound : (work : Work) → IsSoundWork t.plan t.origin ps work → IsSoundWork t.plan t.origin [] (resumed_work ps answers work)
-  work-sound (Splits left) s = (s.0, tt)
-  work-sound (Runs stage) s =
+  remaining-sound : (remaining : Remaining) → IsSoundRemaining t.plan t.origin ps remaining → IsSoundRemaining t.plan t.origin [] (resumed_remaining ps answers remaining)
+  remaining-sound (Splits left) s = (s.0, tt)
+  remaining-sound (Runs stage) s =
       (s.0, record { front = s.1.front; whole = s.1.whole ∙ ap (λ (r : Run Item NodeFault Value). after_items s.1.front (r then λ v. done (v ∷ []))) (rest-same stage) }, resumed-sound t.plan (takes_all ps answers stage) (all-taken t.plan (eval t.plan) ps stage (inl s.2)))
-  work-sound (Finished v true) s = (s.0, refl)
-  work-sound (Finished v false) s = (s.0, refl)
+  remaining-sound (Finished v true) s = (s.0, refl)
+  remaining-sound (Finished v false) s = (s.0, refl)
 
-  work-pending : (work : Work) → UnfilledArePendingIn t.plan ps work → UnfilledArePendingIn t.plan [] (resumed_work ps answers work)
-  work-pending (Splits left) p = tt
-  work-pending (Runs stage) p = answers-pending t.plan (eval t.plan) ps stage p
-  work-pending (Finished v gone_on) p = tt
+  remaining-pending : (remaining : Remaining) → UnfilledArePendingIn t.plan ps remaining → UnfilledArePendingIn t.plan [] (resumed_remaining ps answers remaining)
+  remaining-pending (Splits left) p = tt
+  remaining-pending (Runs stage) p = answers-pending t.plan (eval t.plan) ps stage p
+  remaining-pending (Finished v gone_on) p = tt
 
   pub none-handed : trace-on.handed ≡ []
   none-handed = heard-none (eval t.plan) ps (record t.trace { handed = [] }) refl
 
   finishes : finish (on answers t) ≡ eval t.plan t.origin
   finishes =
-      let tail : List Value → Evaluation = work_run t.plan t.origin [] (resumed_work ps answers t.work) in
-      ap (λ (qs : List AwaitedChild). prefix_run trace-on then λ u. parts_run (eval t.plan) qs (all_values ps answers t.values) then work_run t.plan t.origin qs (resumed_work ps answers t.work)) none-handed
+      let tail : List Value → Evaluation = remaining_run t.plan t.origin [] (resumed_remaining ps answers t.remaining) in
+      ap (λ (qs : List AwaitedChild). prefix_run trace-on then λ u. awaited_run (eval t.plan) qs (all_values ps answers t.values) then remaining_run t.plan t.origin qs (resumed_remaining ps answers t.remaining)) none-handed
       ∙ sym (heard-so_far (eval t.plan) ps (record t.trace { handed = [] }) t.values tail)
-      ∙ sym (so_far-same (eval t.plan) t.trace t.values (work_run t.plan t.origin ps t.work) tail (work-same t.work))
+      ∙ sym (so_far-same (eval t.plan) t.trace t.values (remaining_run t.plan t.origin ps t.remaining) tail (remaining-same t.remaining))
       ∙ is.finishes
 
   pub keeps_task : IsTask (on answers t)
@@ -336,11 +336,11 @@ module _ (t : Task) (is : IsTask t) where
     finishes = finishes;
     known = is.known;
     clear = is.clear;
-    parts = subst (AreParts t.plan t.origin) (sym none-handed) tt;
+    awaiting = subst (AreSoundChildren t.plan t.origin) (sym none-handed) tt;
     shown = λ none. subst (AreShownBy t.plan t.origin [] trace-on.prefix) (sym none-handed) tt;
-    work = subst (λ (qs : List AwaitedChild). IsSoundWork t.plan t.origin qs (resumed_work ps answers t.work)) (sym none-handed) (work-sound t.work is.work);
-    pending = subst (λ (qs : List AwaitedChild). UnfilledArePendingIn t.plan qs (resumed_work ps answers t.work)) (sym none-handed) (work-pending t.work is.pending);
-    found = λ plan-found. subst (FindsTargets t.plan (functions_left (resumed_work ps answers t.work))) (sym none-handed) tt;
+    remaining = subst (λ (qs : List AwaitedChild). IsSoundRemaining t.plan t.origin qs (resumed_remaining ps answers t.remaining)) (sym none-handed) (remaining-sound t.remaining is.remaining);
+    pending = subst (λ (qs : List AwaitedChild). UnfilledArePendingIn t.plan qs (resumed_remaining ps answers t.remaining)) (sym none-handed) (remaining-pending t.remaining is.pending);
+    found = λ plan-found. subst (FindsTargets t.plan (functions_left (resumed_remaining ps answers t.remaining))) (sym none-handed) tt;
   }
 
 -- A task that takes its children's evaluations stays sound.

@@ -21,10 +21,10 @@ use Rattle.serial_meaning.specs.declared.answer.Outcome.{Outcome}
 use Rattle.serial_meaning.specs.declared.answer.Outcome.TheVariants as outcome
 use Rattle.strand_meaning.specs.Answers.{evaluation_of, answer_evaluations}
 use Rattle.strand_meaning.specs.Machine.{Destination, Spawned, Looped, Half}
-use Rattle.strand_meaning.specs.Cuts.{heard_of, AreAnswersOf, or_ends, ended_after, by_fault, IsByFaultOf}
-use Rattle.strand_meaning.specs.Trace.{AwaitedChild, Trace, heard, heard_all}
-use Rattle.strand_meaning.specs.Rest.{GaveValue, GaveValues, evaluations, prefix_run, parts_run, work_run}
-use Rattle.strand_meaning.specs.Sound.{AreParts, IsBegunBy, IsPartAfter, IsShownAs, IsUndivided, AreShownBy, IsTask}
+use Rattle.strand_meaning.specs.Cuts.{merged_of, AreAnswersOf, or_ends, ended_after, by_fault, IsByFaultOf}
+use Rattle.strand_meaning.specs.Trace.{AwaitedChild, Trace, merged_answer, merged_answers}
+use Rattle.strand_meaning.specs.Rest.{GaveValue, GaveValues, evaluations, prefix_run, awaited_run, remaining_run}
+use Rattle.strand_meaning.specs.Sound.{AreSoundChildren, IsBegunBy, IsPartAfter, IsShownAs, IsUndivided, AreShownBy, IsTask}
 use Rattle.strand_meaning.specs.Task.{Task, more_values}
 use Rattle.strand_meaning.proofs.TakenAnswers.AnswerRuns.{answers_are_evaluations}
 use Rattle.strand_meaning.proofs.SoundSteps.Begun.{front_of}
@@ -34,14 +34,14 @@ use Rattle.strand_meaning.proofs.SoundSteps.Ends.{err-outcome}
 module _ (child : Origin → Evaluation) where
   -- What stands before a child is among what the trace gives, where the children before it gave values.
   shown-comes : (events : List Event) (front : List AwaitedChild) (p : AwaitedChild) (later : List AwaitedChild) (values : List Value) (tail : List Value → Evaluation) (j : List ℕ) → GaveValues child front →
-      Contains (raising_pedigrees (front_of events front)) j → Contains (raising_pedigrees (events ++ (parts_run child (front ++ p ∷ later) values then tail).items)) j
+      Contains (raising_pedigrees (front_of events front)) j → Contains (raising_pedigrees (events ++ (awaited_run child (front ++ p ∷ later) values then tail).items)) j
   shown-comes events [] p later values tail j gave c =
-      let more : List Event = (parts_run child (p ∷ later) values then tail).items in
+      let more : List Event = (awaited_run child (p ∷ later) values then tail).items in
       subst (λ (l : List (List ℕ)). Contains l j) (sym (places-append events more)) (Contains-append_left (raising_pedigrees events) (raising_pedigrees more) j c)
   shown-comes events (q ∷ front) p later values tail j gave c = by_end (child q.child).ending (λ vs. shown-comes q.after front p later (more_values q.destination (Ok vs) values) tail j gave.1 c) gave.0
     where
       rest : List Value → Evaluation
-      rest vs = parts_run child (front ++ p ∷ later) (more_values q.destination (Ok vs) values)
+      rest vs = awaited_run child (front ++ p ∷ later) (more_values q.destination (Ok vs) values)
 
       with_end : Result (List Value) Fault → Evaluation
       with_end e = record { items = (child q.child).items; ending = e } then λ vs. after_items q.after (rest vs)
@@ -66,14 +66,14 @@ module _ (child : Origin → Evaluation) where
 
   -- The trace up to the first fault of a child, and that fault.
   heard-ends : (prefix : List Event) (front : List AwaitedChild) (p : AwaitedChild) (later : List AwaitedChild) (values : List Value) (tail : List Value → Evaluation) (f : Fault) → GaveValues child front → (child p.child).ending ≡ Err f →
-      after_items prefix (parts_run child (front ++ p ∷ later) values then tail) ≡ record { items = (heard_all (front ++ p ∷ []) (evaluations child (front ++ p ∷ [])) (record { prefix = prefix; fault = None; handed = [] })).prefix; ending = Err f }
+      after_items prefix (awaited_run child (front ++ p ∷ later) values then tail) ≡ record { items = (merged_answers (front ++ p ∷ []) (evaluations child (front ++ p ∷ [])) (record { prefix = prefix; fault = None; handed = [] })).prefix; ending = Err f }
   heard-ends prefix [] p later values tail f gave e = by_end (child p.child).ending e
     where
       run : Result (List Value) Fault → Evaluation
-      run q = record { items = (child p.child).items; ending = q } then λ vs. after_items p.after (parts_run child later (more_values p.destination (Ok vs) values))
+      run q = record { items = (child p.child).items; ending = q } then λ vs. after_items p.after (awaited_run child later (more_values p.destination (Ok vs) values))
 
       heard_with : Result (List Value) Fault → Trace
-      heard_with q = heard_all (p ∷ []) (record { items = (child p.child).items; ending = q } ∷ []) (record { prefix = prefix; fault = None; handed = [] })
+      heard_with q = merged_answers (p ∷ []) (record { items = (child p.child).items; ending = q } ∷ []) (record { prefix = prefix; fault = None; handed = [] })
 
       by_end : (q : Result (List Value) Fault) → q ≡ Err f → after_items prefix (run q then tail) ≡ record { items = (heard_with q).prefix; ending = Err f }
       by_end (Ok vs) g = absurd (cc)
@@ -82,7 +82,7 @@ module _ (child : Origin → Evaluation) where
       by_end (child q.child).ending (λ vs. heard-ends (prefix ++ ((child q.child).items ++ q.after)) front p later (more_values q.destination (Ok vs) values) tail f gave.1 e) gave.0
     where
       rest : List Value → Evaluation
-      rest vs = parts_run child (front ++ p ∷ later) (more_values q.destination (Ok vs) values)
+      rest vs = awaited_run child (front ++ p ∷ later) (more_values q.destination (Ok vs) values)
 
       ps : List AwaitedChild
       ps = front ++ p ∷ []
@@ -94,10 +94,10 @@ module _ (child : Origin → Evaluation) where
       with_end r = record { items = (child q.child).items; ending = r } then λ vs. after_items q.after (rest vs)
 
       heard_with : Result (List Value) Fault → Trace
-      heard_with r = heard_all (q ∷ ps) (record { items = (child q.child).items; ending = r } ∷ evaluations child ps) (record { prefix = prefix; fault = None; handed = [] })
+      heard_with r = merged_answers (q ∷ ps) (record { items = (child q.child).items; ending = r } ∷ evaluations child ps) (record { prefix = prefix; fault = None; handed = [] })
 
       by_end : (r : Result (List Value) Fault) →
-          ((vs : List Value) → after_items next (rest vs then tail) ≡ record { items = (heard_all ps (evaluations child ps) (record { prefix = next; fault = None; handed = [] })).prefix; ending = Err f }) →
+          ((vs : List Value) → after_items next (rest vs then tail) ≡ record { items = (merged_answers ps (evaluations child ps) (record { prefix = next; fault = None; handed = [] })).prefix; ending = Err f }) →
           GaveValue r → after_items prefix (with_end r then tail) ≡ record { items = (heard_with r).prefix; ending = Err f }
       by_end (Err x) h g = absurd g
       by_end (Ok vs) h g =
@@ -115,14 +115,14 @@ shown-at plan o before events (q ∷ front) p later h =
 
 -- a task's trace without a fault, before the rest
 trace-whole : (t : Task) (ps : List AwaitedChild) → IsTask t → t.trace.fault ≡ None → t.trace.handed ≡ ps →
-    after_items t.trace.prefix (parts_run (eval t.plan) ps t.values then work_run t.plan t.origin ps t.work) ≡ eval t.plan t.origin
+    after_items t.trace.prefix (awaited_run (eval t.plan) ps t.values then remaining_run t.plan t.origin ps t.remaining) ≡ eval t.plan t.origin
 trace-whole t ps is none e = sym (ap run none) ∙ ap whole (sym e) ∙ is.finishes
   where
     run : Option Fault → Evaluation
-    run f = prefix_run (record t.trace { fault = f }) then λ u. parts_run (eval t.plan) ps t.values then work_run t.plan t.origin ps t.work
+    run f = prefix_run (record t.trace { fault = f }) then λ u. awaited_run (eval t.plan) ps t.values then remaining_run t.plan t.origin ps t.remaining
 
     whole : List AwaitedChild → Evaluation
-    whole qs = prefix_run t.trace then λ u. parts_run (eval t.plan) qs t.values then work_run t.plan t.origin qs t.work
+    whole qs = prefix_run t.trace then λ u. awaited_run (eval t.plan) qs t.values then remaining_run t.plan t.origin qs t.remaining
 
 -- A child of the task's own instance
 
@@ -145,7 +145,7 @@ part-before plan (Instance function args path) front child by known part gave cu
 part-before plan (Loop function rest first path range) front child by known part gave cut =
     before-part plan function rest first path range known by cut.known part.0 part.2 (part.4 gave) (subst (λ (c : Origin). IsBefore by.at (start_of c)) part.3 cut.before)
 
-known-at : (plan : PlanView) (o : Origin) (front : List AwaitedChild) (p : AwaitedChild) (later : List AwaitedChild) → AreParts plan o (front ++ p ∷ later) → IsOriginOf plan p.child
+known-at : (plan : PlanView) (o : Origin) (front : List AwaitedChild) (p : AwaitedChild) (later : List AwaitedChild) → AreSoundChildren plan o (front ++ p ∷ later) → IsOriginOf plan p.child
 known-at plan o [] p later h = h.0.known
 known-at plan o (q ∷ front) p later h = known-at plan o front p later h.1
 
@@ -159,7 +159,7 @@ cuts_pass t front p later by is none e gave cut =
     events = front_of t.trace.prefix front
 
     tail : List Value → Evaluation
-    tail = work_run t.plan t.origin (front ++ p ∷ later) t.work
+    tail = remaining_run t.plan t.origin (front ++ p ∷ later) t.remaining
 
     reached : Contains (raising_pedigrees events) (path_of p.child) → Contains (raising_pedigrees (eval t.plan t.origin).items) (path_of p.child)
     reached c =
@@ -168,7 +168,7 @@ cuts_pass t front p later by is none e gave cut =
 
     own : IsBegunBy t.origin events p.child → IsBefore by.at (start_of t.origin)
     own b =
-        let known : IsOriginOf t.plan p.child = known-at t.plan t.origin front p later (subst (AreParts t.plan t.origin) e is.parts) in
+        let known : IsOriginOf t.plan p.child = known-at t.plan t.origin front p later (subst (AreSoundChildren t.plan t.origin) e is.awaiting) in
         let there : Contains (raising_pedigrees (eval t.plan t.origin).items) (path_of p.child) = reached b.event in
         before-event t.plan t.origin is.known by cut.known (path_of p.child) (own-before t.plan p.child by known b.whole cut) there (own-below t.plan t.origin events p.child b there)
 
@@ -186,29 +186,29 @@ fault-known plan o out f known same = subst (λ (q : Evaluation). EndsWithin (fa
 
 -- what was heard, where the trace had this fault
 abbrev heard_with : Task → List AwaitedChild → List Evaluation → Option Fault → List Event
-heard_with t ps answers f = (heard_all ps answers (record t.trace { fault = f; handed = [] })).prefix
+heard_with t ps answers f = (merged_answers ps answers (record t.trace { fault = f; handed = [] })).prefix
 
 -- A child's fault is its parent's.
 pub faults_pass : (t : Task) (front : List AwaitedChild) (p : AwaitedChild) (later : List AwaitedChild) (f : Fault) → IsTask t → t.trace.fault ≡ None → t.trace.handed ≡ front ++ p ∷ later →
-    GaveValues (eval t.plan) front → (eval t.plan p.child).ending ≡ Err f → IsEval t.plan t.origin (heard_of t (front ++ p ∷ [])).prefix (outcome.Fault f) × Contains (faults t.plan) f
+    GaveValues (eval t.plan) front → (eval t.plan p.child).ending ≡ Err f → IsEval t.plan t.origin (merged_of t (front ++ p ∷ [])).prefix (outcome.Fault f) × Contains (faults t.plan) f
 faults_pass t front p later f is none e gave ended = (eval-fault t.plan t.origin out f same, fault-known t.plan t.origin out f is.known same)
   where
     ps : List AwaitedChild
     ps = front ++ p ∷ []
 
     out : List Event
-    out = (heard_of t ps).prefix
+    out = (merged_of t ps).prefix
 
     same : ◌≡◌ {A = Evaluation} (record { items = out; ending = Err f }) (eval t.plan t.origin)
     same =
         ap (λ (g : Option Fault). record { items = heard_with t ps (evaluations (eval t.plan) ps) g; ending = Err f }) none
-        ∙ sym (heard-ends (eval t.plan) t.trace.prefix front p later t.values (work_run t.plan t.origin (front ++ p ∷ later) t.work) f gave ended)
+        ∙ sym (heard-ends (eval t.plan) t.trace.prefix front p later t.values (remaining_run t.plan t.origin (front ++ p ∷ later) t.remaining) f gave ended)
         ∙ trace-whole t (front ++ p ∷ later) is none e
 
 -- All answers
 
 -- after a fault nothing is heard
-heard-faulted : (ps : List AwaitedChild) (answers : List Evaluation) (prefix : List Event) (f : Fault) → (heard_all ps answers (record { prefix = prefix; fault = Some f; handed = [] })).prefix ≡ prefix
+heard-faulted : (ps : List AwaitedChild) (answers : List Evaluation) (prefix : List Event) (f : Fault) → (merged_answers ps answers (record { prefix = prefix; fault = Some f; handed = [] })).prefix ≡ prefix
 heard-faulted [] answers prefix f = refl
 heard-faulted (p ∷ ps) [] prefix f = refl
 heard-faulted (p ∷ ps) (a ∷ answers) prefix f = heard-faulted ps answers prefix f
@@ -226,10 +226,10 @@ some-same x y e = ap or_x e
 
 -- what the first child says whose outcome isn't values, and what was heard up to it
 abbrev Says : PlanView → AwaitedChild → List Event → List Event → Outcome → Type 0
-Says plan p heard up_to (outcome.Value v) = ⊥
-Says plan p heard up_to (outcome.Values vs) = ⊥
-Says plan p heard up_to (outcome.Fault f) = ((eval plan p.child).ending ≡ Err f) × (heard ≡ up_to)
-Says plan p heard up_to (outcome.Cut f) = IsCut plan p.child f
+Says plan p before up_to (outcome.Value v) = ⊥
+Says plan p before up_to (outcome.Values vs) = ⊥
+Says plan p before up_to (outcome.Fault f) = ((eval plan p.child).ending ≡ Err f) × (before ≡ up_to)
+Says plan p before up_to (outcome.Cut f) = IsCut plan p.child f
 
 abbrev clear_of : List Event → Trace
 clear_of prefix = record { prefix = prefix; fault = None; handed = [] }
@@ -240,7 +240,7 @@ record First (plan : PlanView) (ps : List AwaitedChild) (answers : List Evaluati
   later : List AwaitedChild
   split : ps ≡ front ++ p ∷ later
   gave : GaveValues (eval plan) front
-  says : Says plan p (heard_all ps answers (clear_of prefix)).prefix (heard_all (front ++ p ∷ []) (evaluations (eval plan) (front ++ p ∷ [])) (clear_of prefix)).prefix ended
+  says : Says plan p (merged_answers ps answers (clear_of prefix)).prefix (merged_answers (front ++ p ∷ []) (evaluations (eval plan) (front ++ p ∷ [])) (clear_of prefix)).prefix ended
 
 first_end : (plan : PlanView) (ps : List AwaitedChild) (answers : List AnswerView) (prefix : List Event) (ended : Outcome) → AreAnswersOf plan ps answers → ended_after None answers ≡ Some ended →
     First plan ps (answer_evaluations answers) prefix ended
@@ -263,7 +263,7 @@ first_end plan (p ∷ ps) (a ∷ answers) prefix ended h e =
       later = next.later;
       split = ap (λ (l : List AwaitedChild). p ∷ l) next.split;
       gave = (subst (λ (q : Evaluation). GaveValue q.ending) same tt, next.gave);
-      says = subst (λ (q : Evaluation). Says plan next.p (heard_all ps rest (clear_of (prefix ++ (a.out ++ p.after)))).prefix (heard_all (next.front ++ next.p ∷ []) (evaluations (eval plan) (next.front ++ next.p ∷ [])) (heard p q (clear_of prefix))).prefix ended) same next.says;
+      says = subst (λ (q : Evaluation). Says plan next.p (merged_answers ps rest (clear_of (prefix ++ (a.out ++ p.after)))).prefix (merged_answers (next.front ++ next.p ∷ []) (evaluations (eval plan) (next.front ++ next.p ∷ [])) (merged_answer p q (clear_of prefix))).prefix ended) same next.says;
     }
 
     fault : (f : Fault) → record { items = a.out; ending = Err f } ≡ eval plan p.child → First plan (p ∷ ps) (record { items = a.out; ending = Err f } ∷ rest) prefix (outcome.Fault f)
@@ -275,7 +275,7 @@ first_end plan (p ∷ ps) (a ∷ answers) prefix ended h e =
       gave = tt;
       says = (
         sym (ap (λ (q : Evaluation). q.ending) same),
-        heard-faulted ps rest (prefix ++ a.out) f ∙ ap (λ (q : Evaluation). (heard p q (clear_of prefix)).prefix) same,
+        heard-faulted ps rest (prefix ++ a.out) f ∙ ap (λ (q : Evaluation). (merged_answer p q (clear_of prefix)).prefix) same,
       );
     }
 
@@ -293,7 +293,7 @@ first_end plan (p ∷ ps) (a ∷ answers) prefix ended h e =
 
 -- A task that heard a fault or a cut answers by the first of them.
 pub answers_end : (t : Task) (answers : List AnswerView) (ended : Outcome) → IsTask t → AreAnswersOf t.plan t.trace.handed answers → ended_after (by_fault t.trace.fault) answers ≡ Some ended →
-    IsAnswer t.plan t.origin (heard_all t.trace.handed (answer_evaluations answers) (record t.trace { handed = [] })).prefix ended × IsByFaultOf t.plan ended
+    IsAnswer t.plan t.origin (merged_answers t.trace.handed (answer_evaluations answers) (record t.trace { handed = [] })).prefix ended × IsByFaultOf t.plan ended
 answers_end t answers ended is are e = by_trace t.trace.fault refl e
   where
     ps : List AwaitedChild
@@ -303,7 +303,7 @@ answers_end t answers ended is are e = by_trace t.trace.fault refl e
     heard_by = heard_with t ps (answer_evaluations answers)
 
     run : Option Fault → Evaluation
-    run f = prefix_run (record t.trace { fault = f }) then λ u. parts_run (eval t.plan) ps t.values then work_run t.plan t.origin ps t.work
+    run f = prefix_run (record t.trace { fault = f }) then λ u. awaited_run (eval t.plan) ps t.values then remaining_run t.plan t.origin ps t.remaining
 
     by_first : (x : Outcome) → t.trace.fault ≡ None → First t.plan ps (answer_evaluations answers) t.trace.prefix x → IsAnswer t.plan t.origin (heard_by None) x × IsByFaultOf t.plan x
     by_first (outcome.Value v) none first = absurd first.says

@@ -15,7 +15,7 @@ use Rattle.script_grammar.specs.declared.tree.Act.TheOpen.{Act-F}
 use Rattle.serial_meaning.specs.Runs.{Run, done, happens, ◌then◌}
 use Rattle.serial_meaning.specs.Names.{names_in}
 use Rattle.serial_meaning.specs.Values.{Env, value_of, values_of, slot_of, items_of, as_integer, is_true, at_index}
-use Rattle.serial_meaning.specs.Functions.{number_of, function_at}
+use Rattle.serial_meaning.specs.Functions.{function_number, function_at}
 use Rattle.serial_meaning.specs.Plan.{PlanView, functions_of, drawn}
 use Rattle.serial_meaning.specs.Exec.{State, Manner, strand, unless_fault, paid_from, tested, has_room, fits_depth, with_loop_values, spawn, sync_here, implied, frame, called, right_side, found, store, looped, does, count_of, with_slot, set_item, set_array, bound}
 use Rattle.serial_meaning.specs.Open.{is_empty_loop, filler}
@@ -30,7 +30,7 @@ use Rattle.serial_meaning.specs.declared.origin.Origin.{Origin}
 use Rattle.serial_meaning.specs.declared.origin.Origin.TheVariants as origin
 use Rattle.strand_meaning.specs.Clear.{names_in_all, names_in_right, target_names, touched}
 use Rattle.script_check.specs.Spawns.{spawns_in}
-use Rattle.strand_meaning.specs.Machine.{Destination, Spawned, Looped, Effect, Opens, Closes, Emitted, Handed, Exit, Faulted, Inside, loop_effects, sync_effects, handing, inside, destination_of, Level, Frame, Machine, Reached, Stands, state_of, inside_of, present, here_of, with_left, into_level, with_leaving, out_of_level, with_returning, with_scalar, back, calling, machine_inside, reached, gives, value_run, statement_move, return_move, level_move, end_move, move_at, move}
+use Rattle.strand_meaning.specs.Machine.{Destination, Spawned, Looped, Effect, Opens, Closes, Emitted, Handed, Exit, Faulted, Inside, loop_effects, sync_effects, handing, inside, child_destination, Level, Frame, Machine, Reached, Stands, state_of, inside_of, present, here_of, with_left, into_level, with_leaving, out_of_level, with_returning, with_scalar, back_in_caller, calling, machine_inside, reached, gives, value_run, statement_move, return_move, level_move, end_move, move_at, move}
 use Rattle.strand_meaning.specs.Task.{changed, changed_at}
 use Rattle.strand_meaning.specs.Laws.{on_reached, changed_run}
 use Rattle.strand_meaning.proofs.Unfilled.RestAfterEffects.{changed-top, same-number}
@@ -137,7 +137,7 @@ module _ (plan : PlanView) (path : List ℕ) (fix : Env → Env) (mark : Option 
       abbrev child_run : Destination → CallText → List Value → State Bool → Run Effect Exit (Value × State Bool)
       child_run destination c vs s =
           happens (Emitted (event.Spawn (strand now s))) s then λ s.
-          (what destination).spawn (origin.Instance (number_of (functions_of plan) c.name.bytes) vs (strand now s)) s.spawned then λ r.
+          (what destination).spawn (origin.Instance (function_number (functions_of plan) c.name.bytes) vs (strand now s)) s.spawned then λ r.
           done (r.0, record s { rank = s.rank + 1; spawned = r.1 })
 
       so-set : (items : List Effect) (target : Option Name) (v : Value) (s : State Bool) → Keeps fix (target_names target) →
@@ -152,7 +152,7 @@ module _ (plan : PlanView) (path : List ℕ) (fix : Env → Env) (mark : Option 
         where
           by_test : (vs : List Value) (b : Bool) → Same (tested (what destination) plan now b Depth (there n) (child_run destination c vs (there n)) then λ p. done (sets target p)) (tested (what destination) plan now b Depth (here n) (child_run destination c vs (here n)) then λ p. done (sets target p))
           by_test vs true =
-              let o = origin.Instance (number_of (functions_of plan) c.name.bytes) vs (now ++ m.rank ∷ []) in
+              let o = origin.Instance (function_number (functions_of plan) c.name.bytes) vs (now ++ m.rank ∷ []) in
               so-set (Emitted (event.Spawn (now ++ m.rank ∷ [])) ∷ Handed o destination ∷ []) target (filler plan o) (record { env = m.top.env; rank = m.rank + 1; steps = n; spawned = true }) k
           by_test vs false = refl
 
@@ -171,7 +171,7 @@ module _ (plan : PlanView) (path : List ℕ) (fix : Env → Env) (mark : Option 
           ∙ by_args (values_of c.args m.top.env)
         where
           callee : Option Function
-          callee = function_at (functions_of plan) (number_of (functions_of plan) c.name.bytes)
+          callee = function_at (functions_of plan) (function_number (functions_of plan) c.name.bytes)
 
           call_run : (ℕ → State Bool) → List Value → Run Effect Exit (Value × State Bool)
           call_run at vs = frame (what destination) plan now inside (height + 1) callee vs (at n) then λ r. done (r.0, record (at n) { rank = r.1.rank; steps = r.1.steps })
@@ -247,7 +247,7 @@ module _ (plan : PlanView) (path : List ℕ) (fix : Env → Env) (mark : Option 
           fits = fits_depth (what (Looped target)) plan now hi
 
           o : Origin
-          o = origin.Loop (number_of (functions_of plan) c.name.bytes) vs lo (now ++ m.rank ∷ []) (record { lo = 0; hi = hi })
+          o = origin.Loop (function_number (functions_of plan) c.name.bytes) vs lo (now ++ m.rank ∷ []) (record { lo = 0; hi = hi })
 
           items : Bool → List Effect
           items b = Emitted (event.Loop (now ++ m.rank ∷ [])) ∷ (loop_effects b o (Looped target) ++ [])
@@ -283,7 +283,7 @@ module _ (plan : PlanView) (path : List ℕ) (fix : Env → Env) (mark : Option 
     enters-set into' into x (right.Spawn at c) h g = tt
 
     so-does : (a : Act-F Act Stmt) (n : ℕ) → Keeps fix (touched a) →
-        Alike (with_left other left) (with_left m left) (machine_inside plan st a left other) (machine_inside plan st a left m) (does (what (destination_of height a)) plan now inside height st a (there n)) (does (what (destination_of height a)) plan now inside height st a (here n))
+        Alike (with_left other left) (with_left m left) (machine_inside plan st a left other) (machine_inside plan st a left m) (does (what (child_destination height a)) plan now inside height st a (there n)) (does (what (child_destination height a)) plan now inside height st a (here n))
     so-does (act.Let x r) n k = so-right (machine_inside plan st (act.Let x r) left other) (machine_inside plan st (act.Let x r) left m) (Spawned height (Some x)) x r n (enters-let _ _ x r refl refl) k
     so-does (act.Array x as_integer) n k = so-array (machine_inside plan st (act.Array x as_integer) left other) (machine_inside plan st (act.Array x as_integer) left m) x _ _ n refl k.0
     so-does (act.Set x r) n k = so-right (machine_inside plan st (act.Set x r) left other) (machine_inside plan st (act.Set x r) left m) (Spawned height (Some x)) x r n (enters-set _ _ x r refl refl) k
@@ -328,7 +328,7 @@ module _ (plan : PlanView) (path : List ℕ) (fix : Env → Env) (mark : Option 
   top-statement m st left levels leaving returning k =
       let b : Machine = rebuilt m (st ∷ left) levels leaving returning in
       let a = out-Act (out-Stmt st).act in
-      so-paid b left st (machine_inside plan st a left (record b { top = change b.top })) (machine_inside plan st a left b) (destination_of (length m.below) a) m.steps (state_of b) _ _ (λ n. so-does b left st a n k)
+      so-paid b left st (machine_inside plan st a left (record b { top = change b.top })) (machine_inside plan st a left b) (child_destination (length m.below) a) m.steps (state_of b) _ _ (λ n. so-does b left st a n k)
 
   top-return : (m : Machine) (leaving : Bool) → TopMoves (rebuilt m [] [] leaving false)
   top-return m leaving = by_steps m.steps
@@ -430,7 +430,7 @@ module _ (plan : PlanView) (path : List ℕ) (fix : Env → Env) (mark : Option 
         a = out-Act (out-Stmt st).act
 
         run : List ℕ → ℕ → Run Effect Exit (State Bool)
-        run p n = paid_from (what (destination_of n a)) plan p m.steps (state_of m) (λ s. does (what (destination_of n a)) plan p inside n st a s)
+        run p n = paid_from (what (child_destination n a)) plan p m.steps (state_of m) (λ s. does (what (child_destination n a)) plan p inside n st a s)
 
         finished : Machine → Run Effect Exit (State Bool) → Run Effect Fault Reached
         finished b r = record { items = r.items; ending = reached plan (with_left b left) (machine_inside plan st a left b) r.ending }
@@ -445,7 +445,7 @@ module _ (plan : PlanView) (path : List ℕ) (fix : Env → Env) (mark : Option 
 
     deep-back : (below : List Frame) (target : Option Name) (v : Value) (rank steps : ℕ) → k < length below →
         ((caller : Frame) (more : List Frame) → below ≡ caller ∷ more → k ≡ length more → Keeps fix (target_names target)) →
-        on_reached (changed k change) (Ok (back below target v rank steps)) ≡ Ok (back (changed_at k change below) target v rank steps)
+        on_reached (changed k change) (Ok (back_in_caller below target v rank steps)) ≡ Ok (back_in_caller (changed_at k change below) target v rank steps)
     deep-back [] target v rank steps h keeps = absurd (omega arith)
     deep-back (caller ∷ more) target v rank steps h keeps = by_place (nat_eq k (length more)) refl
       where
@@ -454,7 +454,7 @@ module _ (plan : PlanView) (path : List ℕ) (fix : Env → Env) (mark : Option 
 
         by_place : (b : Bool) → nat_eq k (length more) ≡ b →
             ◌≡◌ {A = Result Reached Fault} (Ok (Stands (if b then record kept { top = change kept.top } else record kept { below = changed_at k change more })))
-            (Ok (back (if b then change caller ∷ more else caller ∷ changed_at k change more) target v rank steps))
+            (Ok (back_in_caller (if b then change caller ∷ more else caller ∷ changed_at k change more) target v rank steps))
         by_place true e =
             let g : k ≡ length more = eqb-true k (length more) e in
             ap (λ (env : Env). Ok (Stands (record { rank = rank; steps = steps; top = record (change caller) { env = env }; below = more }))) (sym (scalar-kept fix target v caller.env (keeps caller more refl g)))

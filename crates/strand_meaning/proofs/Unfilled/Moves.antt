@@ -14,10 +14,10 @@ use Rattle.script_grammar.specs.declared.tree.Act.TheOpen as act
 use Rattle.script_grammar.specs.declared.tree.Act.TheOpen.{Act-F}
 use Rattle.serial_meaning.specs.Runs.{Run, done, happens, after_items, ◌then◌}
 use Rattle.serial_meaning.specs.Values.{Env, value_of, values_of, slot_of, items_of, as_integer, is_true, at_index}
-use Rattle.serial_meaning.specs.Functions.{number_of, function_at}
+use Rattle.serial_meaning.specs.Functions.{function_number, function_at}
 use Rattle.serial_meaning.specs.Plan.{PlanView, functions_of}
 use Rattle.serial_meaning.specs.Exec.{State, Manner, strand, fault, unless_fault, paid_from, tested, has_room, fits_depth, with_loop_values, spawn, sync_here, leaves, goes_out, scoped, implied, frame, called, right_side, found, store, looped, does, statement, exec, count_of, bound}
-use Rattle.serial_meaning.specs.Exec.{shown as passes}
+use Rattle.serial_meaning.specs.Exec.{all_happen as passes}
 use Rattle.serial_meaning.specs.Eval.{Evaluation, first_value}
 use Rattle.serial_meaning.specs.Open.{Item, Happened, Child, Opened, Closed, NodeFault, put_off, put_off_all, unless_child_faulted, loop_end, is_empty_loop, filler}
 use Rattle.serial_meaning.proofs.Equations.RunLaws.{goes_on-after, then-then, then-same}
@@ -33,11 +33,11 @@ use Rattle.serial_meaning.specs.declared.event.Event.TheVariants as event
 use Rattle.serial_meaning.specs.declared.origin.Origin.{Origin}
 use Rattle.serial_meaning.specs.declared.origin.Origin.TheVariants as origin
 use Rattle.script_check.specs.Spawns.{spawns_in}
-use Rattle.strand_meaning.specs.Machine.{Destination, Spawned, Looped, Effect, Emitted, Exit, loop_effects, sync_effects, handing, inside, destination_of, Level, Frame, Machine, state_of, inside_of, present, here_of, with_left, into_level, with_leaving, out_of_level, with_returning, with_scalar, back, calling, machine_inside, reached, gives, act_run, value_run, level_move, move}
-use Rattle.strand_meaning.specs.Task.{Running, AtLoop, stage_after, frame_with_answer, takes, resumed, joins, with_answer}
+use Rattle.strand_meaning.specs.Machine.{Destination, Spawned, Looped, Effect, Emitted, Exit, loop_effects, sync_effects, handing, inside, child_destination, Level, Frame, Machine, state_of, inside_of, present, here_of, with_left, into_level, with_leaving, out_of_level, with_returning, with_scalar, back_in_caller, calling, machine_inside, reached, gives, act_run, value_run, level_move, move}
+use Rattle.strand_meaning.specs.Task.{Running, AtLoop, stage_after, frame_with_answer, takes, resumed, pass_sync, with_answer}
 use Rattle.strand_meaning.specs.Rest.{valued, closes, level_end, outwards, afterwards, remains, caller_state, remains_below, open_state, rest_of_machine, rest_of_stage, rest_open}
 use Rattle.strand_meaning.specs.Observation.{effect_items}
-use Rattle.strand_meaning.proofs.Unfilled.RestAfterEffects.{effect_parts, shown, changed-top}
+use Rattle.strand_meaning.proofs.Unfilled.RestAfterEffects.{effect_parts, after_effects, changed-top}
 use Rattle.strand_meaning.proofs.Unfilled.Variables.{replaced-with, filled-later}
 
 abbrev S : Type 0
@@ -66,7 +66,7 @@ module _ (plan : PlanView) (child : Origin → Evaluation) (path : List ℕ) whe
       (same : (s : State Bool) → go (opens m.top.faulted s) ≡ rest_of_machine plan child path (on s)) where
     -- the open run q and then go, is what the run r of the machine shows and leaves
     abbrev pub Shows : Run Effect Exit (State Bool) → Run Item NodeFault (State (Option Fault)) → Type 0
-    Shows r q = (q then go) ≡ after_items (effect_items r.items) (shown plan child path r.items (reached plan on into r.ending))
+    Shows r q = (q then go) ≡ after_items (effect_items r.items) (after_effects plan child path r.items (reached plan on into r.ending))
 
     pub at-done : (s : State Bool) → Shows (done s) (done (opens m.top.faulted s))
     at-done s = same s
@@ -107,9 +107,9 @@ module _ (plan : PlanView) (child : Origin → Evaluation) (path : List ℕ) whe
             ((after_items (Happened e ∷ []) (unless_child_faulted f then λ k. done (record (opens m.top.faulted s) { rank = s.rank + 1; spawned = k }))) then go)
             ≡ after_items (effect_items (Emitted e ∷ sync_effects k ++ [])) (rest_open plan child path (effect_parts (Emitted e ∷ sync_effects k ++ [])) (stage_after (Emitted e ∷ sync_effects k ++ []) (on (next k))))
         by_spawned true h None g =
-            ap (after_items (Happened e ∷ [])) (ap (λ (k : Option Fault). go (record (opens m.top.faulted s) { rank = s.rank + 1; spawned = k })) (sym g) ∙ same (next true) ∙ ap (λ (k : Option Fault). rest_of_stage plan child path (joins k (on (next true)))) (sym (keeps (next true) ∙ g)))
+            ap (after_items (Happened e ∷ [])) (ap (λ (k : Option Fault). go (record (opens m.top.faulted s) { rank = s.rank + 1; spawned = k })) (sym g) ∙ same (next true) ∙ ap (λ (k : Option Fault). rest_of_stage plan child path (pass_sync k (on (next true)))) (sym (keeps (next true) ∙ g)))
         by_spawned true h (Some f) g =
-            ap (λ (k : Option Fault). after_items (Happened e ∷ []) (rest_of_stage plan child path (joins k (on (next true))))) (sym (keeps (next true) ∙ g))
+            ap (λ (k : Option Fault). after_items (Happened e ∷ []) (rest_of_stage plan child path (pass_sync k (on (next true))))) (sym (keeps (next true) ∙ g))
         by_spawned false h None g = ap (after_items (Happened e ∷ [])) (ap (λ (k : Option Fault). go (record (opens m.top.faulted s) { rank = s.rank + 1; spawned = k })) (sym g) ∙ same (next false))
         by_spawned false h (Some f) g = let none_here : None ≡ Some f = sym (none h) ∙ g in absurd (cc)
 
@@ -146,7 +146,7 @@ module _ (plan : PlanView) (child : Origin → Evaluation) (path : List ℕ) whe
     abbrev child_run : {I E K : Type 0} → Manner I E K → CallText → List Value → State K → Run I E (Value × State K)
     child_run how c vs s =
         happens (how.event (event.Spawn (strand now s))) s then λ s.
-        how.spawn (origin.Instance (number_of (functions_of plan) c.name.bytes) vs (strand now s)) s.spawned then λ r.
+        how.spawn (origin.Instance (function_number (functions_of plan) c.name.bytes) vs (strand now s)) s.spawned then λ r.
         done (r.0, record s { rank = s.rank + 1; spawned = r.1 })
 
     answer-later : (target : Option Name) (v w : Value) (env : Env) → with_answer target w (with_scalar target v env) ≡ with_scalar target w env
@@ -176,7 +176,7 @@ module _ (plan : PlanView) (child : Origin → Evaluation) (path : List ℕ) whe
 
           by_test : (vs : List Value) (b : Bool) →
               Moves into (tested (what destination) plan now b Depth (here n) (child_run (what destination) c vs (here n)) then λ p. done (sets target p)) (tested tree plan now b Depth (there n) (child_run tree c vs (there n)) then λ p. done (sets target p))
-          by_test vs true = let o = origin.Instance (number_of (functions_of plan) c.name.bytes) vs (now ++ m.rank ∷ []) in by_end o (child o).ending
+          by_test vs true = let o = origin.Instance (function_number (functions_of plan) c.name.bytes) vs (now ++ m.rank ∷ []) in by_end o (child o).ending
           by_test vs false = refl
 
           by_args : (o : Result (List Value) FaultKind) →
@@ -190,7 +190,7 @@ module _ (plan : PlanView) (child : Origin → Evaluation) (path : List ℕ) whe
       called-shows c enters n = by_args (values_of c.args m.top.env)
         where
           as_integer : ℕ
-          as_integer = number_of (functions_of plan) c.name.bytes
+          as_integer = function_number (functions_of plan) c.name.bytes
 
           begins : Function → List Value → State Bool
           begins f vs = record { env = bound f.params vs; rank = m.rank; steps = n; spawned = false }
@@ -302,7 +302,7 @@ module _ (plan : PlanView) (child : Origin → Evaluation) (path : List ℕ) whe
         destination = Looped target
 
         o : Origin
-        o = origin.Loop (number_of (functions_of plan) c.name.bytes) vs lo (now ++ m.rank ∷ []) (record { lo = 0; hi = hi })
+        o = origin.Loop (function_number (functions_of plan) c.name.bytes) vs lo (now ++ m.rank ∷ []) (record { lo = 0; hi = hi })
 
         e : Event
         e = event.Loop (now ++ m.rank ∷ [])
@@ -402,11 +402,11 @@ module _ (plan : PlanView) (child : Origin → Evaluation) (path : List ℕ) whe
           by_test false = refl
 
     does-shows : (a : Act-F Act Stmt) → m.top.leaving ≡ false → (m.top.spawned ≡ false → m.top.faulted ≡ None) → (n : ℕ) →
-        Moves (machine_inside plan st a left m) (does (what (destination_of height a)) plan now inside height st a (here n)) (does tree plan now (exec tree plan) height st a (there n))
+        Moves (machine_inside plan st a left m) (does (what (child_destination height a)) plan now inside height st a (here n)) (does tree plan now (exec tree plan) height st a (there n))
     does-shows (act.Let x r) open_ended none n = right-shows (machine_inside plan st (act.Let x r) left m) (Some x) r (enters-let x r) n
     does-shows (act.Array x k) open_ended none n = refl
     does-shows (act.Set x r) open_ended none n = right-shows (machine_inside plan st (act.Set x r) left m) (Some x) r (enters-set x r) n
-    does-shows (act.Store x i e) open_ended none n = store-shows (destination_of height (act.Store x i e)) (machine_inside plan st (act.Store x i e) left m) x i e n
+    does-shows (act.Store x i e) open_ended none n = store-shows (child_destination height (act.Store x i e)) (machine_inside plan st (act.Store x i e) left m) x i e n
     does-shows (act.Spawn c) open_ended none n = spawned-shows (machine_inside plan st (act.Spawn c) left m) None c n
     does-shows (act.Call c) open_ended none n = called-shows (machine_inside plan st (act.Call c) left m) None c (λ inner s. refl) n
     does-shows act.Sync open_ended none n = at-sync now m on (machine_inside plan st act.Sync left m) go (λ s. refl) (Spawned height None) (here n) (λ s. refl) none
@@ -419,7 +419,7 @@ module _ (plan : PlanView) (child : Origin → Evaluation) (path : List ℕ) whe
 
   -- What remains of a machine is what a move shows, and then what it leaves.
   abbrev pub IsMove : Machine → Type 0
-  IsMove m = rest_of_machine plan child path m ≡ after_items (effect_items (move plan path m).items) (shown plan child path (move plan path m).items (move plan path m).ending)
+  IsMove m = rest_of_machine plan child path m ≡ after_items (effect_items (move plan path m).items) (after_effects plan child path (move plan path m).items (move plan path m).ending)
 
   abbrev rebuilt : Machine → List Stmt → List Level → Bool → Bool → Machine
   rebuilt m left levels leaving returning = record m { top = record m.top { left = left; levels = levels; leaving = leaving; returning = returning } }
@@ -442,20 +442,20 @@ module _ (plan : PlanView) (child : Origin → Evaluation) (path : List ℕ) whe
 
       paid-shows : Shows (here_of path k) k (with_left k left) (machine_inside plan st a left k) (later k left) (λ s. refl) (act_run plan path k st a) (statement tree plan (here_of path k) (exec tree plan) (length m.below) st (open_state plan child path k))
       paid-shows =
-          at-paid (here_of path k) k (with_left k left) (machine_inside plan st a left k) (later k left) (λ s. refl) (destination_of (length m.below) a) m.steps (state_of k) _ _ (does-shows k left st a refl none)
+          at-paid (here_of path k) k (with_left k left) (machine_inside plan st a left k) (later k left) (λ s. refl) (child_destination (length m.below) a) m.steps (state_of k) _ _ (does-shows k left st a refl none)
 
   -- the value of a return goes to the frame below
   value-is : (m : Machine) (f : Option Function) →
       (valued plan child path (here_of path m) f (open_state plan child path m) then remains_below plan child path m.below m.top.target)
-      ≡ after_items (effect_items (value_run plan path f m).items) (shown plan child path (value_run plan path f m).items (gives plan m (value_run plan path f m).ending))
+      ≡ after_items (effect_items (value_run plan path f m).items) (after_effects plan child path (value_run plan path f m).items (gives plan m (value_run plan path f m).ending))
   value-is m None = to_caller m.below
     where
-      to_caller : (below : List Frame) → remains_below plan child path below m.top.target (Int (pos 0), open_state plan child path m) ≡ shown plan child path [] (Ok (back below m.top.target (Int (pos 0)) m.rank m.steps))
+      to_caller : (below : List Frame) → remains_below plan child path below m.top.target (Int (pos 0), open_state plan child path m) ≡ after_effects plan child path [] (Ok (back_in_caller below m.top.target (Int (pos 0)) m.rank m.steps))
       to_caller [] = refl
       to_caller (caller ∷ below) = refl
   value-is m (Some f) = by_value (value_of f.result m.top.env)
     where
-      to_caller : (v : Value) (below : List Frame) → remains_below plan child path below m.top.target (v, open_state plan child path m) ≡ shown plan child path [] (Ok (back below m.top.target v m.rank m.steps))
+      to_caller : (v : Value) (below : List Frame) → remains_below plan child path below m.top.target (v, open_state plan child path m) ≡ after_effects plan child path [] (Ok (back_in_caller below m.top.target v m.rank m.steps))
       to_caller v [] = refl
       to_caller v (caller ∷ below) = refl
 
@@ -464,7 +464,7 @@ module _ (plan : PlanView) (child : Origin → Evaluation) (path : List ℕ) whe
 
       by_value : (o : Result Value FaultKind) → let r : Run Effect Exit (Value × State Bool) = unless_fault (what destination) plan (here_of path m) o (state_of m) (λ v. done (v, state_of m)) in
           (unless_fault tree plan (here_of path m) o (open_state plan child path m) (λ v. done (v, open_state plan child path m)) then remains_below plan child path m.below m.top.target)
-          ≡ after_items (effect_items r.items) (shown plan child path r.items (gives plan m r.ending))
+          ≡ after_items (effect_items r.items) (after_effects plan child path r.items (gives plan m r.ending))
       by_value (Ok v) = to_caller v m.below
       by_value (Err kind) = refl
 
@@ -505,7 +505,7 @@ module _ (plan : PlanView) (child : Origin → Evaluation) (path : List ℕ) whe
       by_steps : (n : ℕ) →
           let r : Run Effect Exit (State Bool) = paid_from (what (Spawned (length m.below) None)) plan (present path m.below) n (state_of k) (λ s. implied (what (Spawned (length m.below) None)) plan (present path m.below) (spawns_in (function_of m)) s) in
           (paid_from tree plan (present path m.below) n (open_state plan child path k) (λ s. implied tree plan (present path m.below) (spawns_in (function_of m)) s then valued plan child path (present path m.below) (function_of m)) then remains_below plan child path m.below m.top.target)
-          ≡ after_items (effect_items r.items) (shown plan child path r.items (reached plan (with_returning k) (λ inner s. k) r.ending))
+          ≡ after_items (effect_items r.items) (after_effects plan child path r.items (reached plan (with_returning k) (λ inner s. k) r.ending))
       by_steps zero = refl
       by_steps (suc n) =
           let s : State Bool = record (state_of k) { steps = n } in
@@ -558,7 +558,7 @@ module _ (plan : PlanView) (child : Origin → Evaluation) (path : List ℕ) whe
 
       by_sync : (b : Bool) →
           ((level_end plan child path b outer l.rank (open_state plan child path m) then after_level) then closing) then rest_below
-          ≡ after_items (effect_items (level_move plan path (k b) l ls b).items) (shown plan child path (level_move plan path (k b) l ls b).items (level_move plan path (k b) l ls b).ending)
+          ≡ after_items (effect_items (level_move plan path (k b) l ls b).items) (after_effects plan child path (level_move plan path (k b) l ls b).items (level_move plan path (k b) l ls b).ending)
       by_sync true = out-is (state_of m)
       by_sync false =
           let s : S = open_state plan child path m in

@@ -14,11 +14,11 @@ use Rattle.serial_meaning.specs.declared.origin.Origin.{Origin}
 use Rattle.strand_meaning.specs.Clear.{IsApart, target_names, touched}
 use Rattle.strand_meaning.specs.Machine.{Destination, Spawned, Looped, Half, Effect, Opens, Closes, Emitted, Handed, Syncs, Loops, Frame, Machine, Reached, Stands, Gives, move}
 use Rattle.strand_meaning.specs.Trace.{AwaitedChild}
-use Rattle.strand_meaning.specs.Task.{InstanceState, Running, AtSync, AtLoop, Ended, stage_after, changed, changed_at, frame_with_answer, in_machine, takes, takes_all, resumed, with_answer}
+use Rattle.strand_meaning.specs.Task.{Stage, Running, AtSync, AtLoop, Ended, stage_after, changed, changed_at, frame_with_answer, in_machine, takes, takes_all, resumed, with_answer}
 use Rattle.strand_meaning.specs.Rest.{evaluations, rest_of_stage, rest_open}
 use Rattle.strand_meaning.specs.Sound.{IsDestination, AreDestinations, is_by, any_by}
 use Rattle.strand_meaning.specs.Observation.{effect_items}
-use Rattle.strand_meaning.proofs.Unfilled.RestAfterEffects.{effect_parts, shown}
+use Rattle.strand_meaning.proofs.Unfilled.RestAfterEffects.{effect_parts, after_effects}
 use Rattle.strand_meaning.proofs.Unfilled.UntouchedStays.{keeps-answer, keeps-nothing, first-contained}
 use Rattle.strand_meaning.proofs.Unfilled.Moves.{complete-move}
 use Rattle.strand_meaning.specs.Laws.{on_reached, changed_run}
@@ -126,31 +126,31 @@ module _ (plan : PlanView) (path : List ℕ) where
 
 -- The stage that takes answers
 
-in-nothing : (stage : InstanceState) → in_machine (λ m. m) stage ≡ stage
+in-nothing : (stage : Stage) → in_machine (λ m. m) stage ≡ stage
 in-nothing (Running m) = refl
 in-nothing (AtSync m) = refl
 in-nothing (AtLoop m) = refl
 in-nothing (Ended e) = refl
 
-in-both : (f g : Machine → Machine) (stage : InstanceState) → in_machine g (in_machine f stage) ≡ in_machine (λ m. g (f m)) stage
+in-both : (f g : Machine → Machine) (stage : Stage) → in_machine g (in_machine f stage) ≡ in_machine (λ m. g (f m)) stage
 in-both f g (Running m) = refl
 in-both f g (AtSync m) = refl
 in-both f g (AtLoop m) = refl
 in-both f g (Ended e) = refl
 
-takes-destination : (height : ℕ) (destination : Destination) (ended : Result (List Value) Fault) → IsDestination height destination → (stage : InstanceState) → takes destination ended stage ≡ in_machine (take destination ended) stage
+takes-destination : (height : ℕ) (destination : Destination) (ended : Result (List Value) Fault) → IsDestination height destination → (stage : Stage) → takes destination ended stage ≡ in_machine (take destination ended) stage
 takes-destination height (Spawned owner target) ended h stage = refl
 takes-destination height (Looped target) ended h stage = absurd h
 takes-destination height Half ended h stage = sym (in-nothing stage)
 
-pub takes-taken : (child : Origin → Evaluation) (height : ℕ) (ps : List AwaitedChild) → AreDestinations height ps → (stage : InstanceState) → takes_all ps (evaluations child ps) stage ≡ in_machine (taken child ps) stage
+pub takes-taken : (child : Origin → Evaluation) (height : ℕ) (ps : List AwaitedChild) → AreDestinations height ps → (stage : Stage) → takes_all ps (evaluations child ps) stage ≡ in_machine (taken child ps) stage
 takes-taken child height [] h stage = sym (in-nothing stage)
 takes-taken child height (p ∷ ps) h stage =
     takes-taken child height ps h.1 (takes p.destination (child p.child).ending stage)
     ∙ ap (in_machine (taken child ps)) (takes-destination height p.destination (child p.child).ending h.0 stage)
     ∙ in-both (take p.destination (child p.child).ending) (taken child ps) stage
 
-pub takes-append : (child : Origin → Evaluation) (ps qs : List AwaitedChild) (stage : InstanceState) → takes_all (ps ++ qs) (evaluations child (ps ++ qs)) stage ≡ takes_all qs (evaluations child qs) (takes_all ps (evaluations child ps) stage)
+pub takes-append : (child : Origin → Evaluation) (ps qs : List AwaitedChild) (stage : Stage) → takes_all (ps ++ qs) (evaluations child (ps ++ qs)) stage ≡ takes_all qs (evaluations child qs) (takes_all ps (evaluations child ps) stage)
 takes-append child [] qs stage = refl
 takes-append child (p ∷ ps) qs stage = takes-append child ps qs (takes p.destination (child p.child).ending stage)
 
@@ -170,12 +170,12 @@ shown_with plan child path ps ts (Ok (Gives v)) = done v
 shown_with plan child path ps ts (Err f) = run_ends_by (Own f)
 
 module _ (plan : PlanView) (child : Origin → Evaluation) (path : List ℕ) (height : ℕ) (ps : List AwaitedChild) (places : AreDestinations height ps) where
-  shown-taken : (ts : List Effect) (e : Result Reached Fault) → shown plan child path ts (on_reached (taken child ps) e) ≡ shown_with plan child path ps ts e
-  shown-taken ts (Ok (Stands m)) =
+  after_effects-taken : (ts : List Effect) (e : Result Reached Fault) → after_effects plan child path ts (on_reached (taken child ps) e) ≡ shown_with plan child path ps ts e
+  after_effects-taken ts (Ok (Stands m)) =
       ap (λ stage. rest_of_stage plan child path (resumed (takes_all (effect_parts ts) (evaluations child (effect_parts ts)) stage))) (stage-in (taken child ps) ts m ∙ sym (takes-taken child height ps places (stage_after ts m)))
       ∙ ap (λ stage. rest_of_stage plan child path (resumed stage)) (sym (takes-append child ps (effect_parts ts) (stage_after ts m)))
-  shown-taken ts (Ok (Gives v)) = refl
-  shown-taken ts (Err f) = refl
+  after_effects-taken ts (Ok (Gives v)) = refl
+  after_effects-taken ts (Err f) = refl
 
   ended-so : (m : Machine) → (m.top.leaving ≡ true → m.top.left ≡ []) → (taken child ps m).top.leaving ≡ true → (taken child ps m).top.left ≡ []
   ended-so m ended h = let e = shape-taken child ps m in ap (λ (s : Shape). s.left) e ∙ ended (sym (ap (λ (s : Shape). s.leaving) e) ∙ h)
@@ -187,8 +187,8 @@ module _ (plan : PlanView) (child : Origin → Evaluation) (path : List ℕ) (he
       let r = move plan path m in
       ap (λ stage. rest_of_stage plan child path (resumed stage)) (takes-taken child height ps places (Running m))
       ∙ complete-move plan child path (taken child ps m) none (ended-so m ended)
-      ∙ ap (λ (r : Run Effect Fault Reached). after_items (effect_items r.items) (shown plan child path r.items r.ending)) (taken-move plan path child ps m free)
-      ∙ ap (after_items (effect_items r.items)) (shown-taken r.items r.ending)
+      ∙ ap (λ (r : Run Effect Fault Reached). after_items (effect_items r.items) (after_effects plan child path r.items r.ending)) (taken-move plan path child ps m free)
+      ∙ ap (after_items (effect_items r.items)) (after_effects-taken r.items r.ending)
 
 -- what is known of the innermost frame where no child is its own
 

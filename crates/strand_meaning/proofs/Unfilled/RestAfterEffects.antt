@@ -30,7 +30,7 @@ pub changed-top : (change : Frame → Frame) (m : Machine) → changed (length m
 changed-top change m = rw (same-number (length m.below)) refl
 
 -- what remains after a move that showed these
-abbrev pub shown : PlanView → (Origin → Evaluation) → List ℕ → List Effect → Result Reached Fault → Run Item NodeFault Value
-shown plan child path ts (Ok (Stands m)) = rest_open plan child path (effect_parts ts) (stage_after ts m)
-shown plan child path ts (Ok (Gives v)) = done v
-shown plan child path ts (Err f) = run_ends_by (Own f)
+abbrev pub after_effects : PlanView → (Origin → Evaluation) → List ℕ → List Effect → Result Reached Fault → Run Item NodeFault Value
+after_effects plan child path ts (Ok (Stands m)) = rest_open plan child path (effect_parts ts) (stage_after ts m)
+after_effects plan child path ts (Ok (Gives v)) = done v
+after_effects plan child path ts (Err f) = run_ends_by (Own f)

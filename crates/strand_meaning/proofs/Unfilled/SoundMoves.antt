@@ -18,7 +18,7 @@ use Rattle.script_grammar.specs.declared.tree.Act.TheOpen.{Act-F}
 use Rattle.serial_meaning.specs.Runs.{Run, done, happens, ◌then◌}
 use Rattle.serial_meaning.specs.Names.{Names}
 use Rattle.serial_meaning.specs.Values.{Env, value_of, values_of, slot_of, items_of, as_integer, is_true, at_index}
-use Rattle.serial_meaning.specs.Functions.{number_of, function_at, act_spawns, spawns, any_spawns, any_true}
+use Rattle.serial_meaning.specs.Functions.{function_number, function_at, act_spawns, spawns, any_spawns, any_true}
 use Rattle.serial_meaning.specs.Plan.{PlanView, functions_of}
 use Rattle.serial_meaning.specs.Exec.{State, Manner, fault, unless_fault, paid_from, tested, has_room, fits_depth, with_loop_values, spawn, sync_here, implied, frame, called, right_side, found, store, looped, does, count_of, bound}
 use Rattle.serial_meaning.specs.Open.{is_empty_loop}
@@ -33,7 +33,7 @@ use Rattle.serial_meaning.specs.declared.origin.Origin.{Origin}
 use Rattle.serial_meaning.specs.declared.origin.Origin.TheVariants as origin
 use Rattle.strand_meaning.specs.Clear.{IsWithin, IsApart, IsClear, Simple, Branches, Repetitions, Levels, IsSimple, touched, pending_right, pending_after, target_names, IsClearPlan}
 use Rattle.script_check.specs.Spawns.{spawns_in}
-use Rattle.strand_meaning.specs.Machine.{Destination, Spawned, Looped, Half, Effect, Emitted, Exit, loop_effects, sync_effects, handing, inside, destination_of, Level, Frame, Machine, Reached, Stands, Gives, state_of, here_of, with_left, into_level, with_leaving, out_of_level, with_returning, with_scalar, back, calling, machine_inside, reached, gives, value_run, statement_move, return_move, level_move, end_move, move_at, move}
+use Rattle.strand_meaning.specs.Machine.{Destination, Spawned, Looped, Half, Effect, Emitted, Exit, loop_effects, sync_effects, handing, inside, child_destination, Level, Frame, Machine, Reached, Stands, Gives, state_of, here_of, with_left, into_level, with_leaving, out_of_level, with_returning, with_scalar, back_in_caller, calling, machine_inside, reached, gives, value_run, statement_move, return_move, level_move, end_move, move_at, move}
 use Rattle.strand_meaning.specs.Trace.{AwaitedChild}
 use Rattle.strand_meaning.specs.Task.{changed, frame_with_answer, Running, AtSync, stage_after}
 use Rattle.strand_meaning.specs.Sound.{unfilled, is_by, any_by, AreSoundLevels, IsSound, AreSound, IsDestination, AreDestinations, IsHalf, AreHalves, after_sync, IsSoundStage}
@@ -265,11 +265,11 @@ module _ (plan : PlanView) (path : List ℕ) (clear-plan : IsClearPlan plan) (pa
         child_run : List Value → Run Effect Exit (Value × State Bool)
         child_run vs =
             happens (Emitted (event.Spawn (now ++ m.rank ∷ []))) (here n) then λ s.
-            (what destination).spawn (origin.Instance (number_of (functions_of plan) c.name.bytes) vs (now ++ m.rank ∷ [])) s.spawned then λ r.
+            (what destination).spawn (origin.Instance (function_number (functions_of plan) c.name.bytes) vs (now ++ m.rank ∷ [])) s.spawned then λ r.
             done (r.0, record s { rank = s.rank + 1; spawned = r.1 })
 
         more : List Value → List AwaitedChild
-        more vs = record { child = origin.Instance (number_of (functions_of plan) c.name.bytes) vs (now ++ m.rank ∷ []); destination = destination; after = [] } ∷ []
+        more vs = record { child = origin.Instance (function_number (functions_of plan) c.name.bytes) vs (now ++ m.rank ∷ []); destination = destination; after = [] } ∷ []
 
         none-lower : (vs : List Value) (j : ℕ) → j < height → any_by j (more vs) ≡ false
         none-lower vs j h = ap (λ b. b || false) (not-same j h)
@@ -324,7 +324,7 @@ module _ (plan : PlanView) (path : List ℕ) (clear-plan : IsClearPlan plan) (pa
         destination = Spawned height target
 
         as_integer : ℕ
-        as_integer = number_of (functions_of plan) c.name.bytes
+        as_integer = function_number (functions_of plan) c.name.bytes
 
         begins : Function → List Value → State Bool
         begins f vs = record { env = bound f.params vs; rank = m.rank; steps = n; spawned = false }
@@ -434,7 +434,7 @@ module _ (plan : PlanView) (path : List ℕ) (clear-plan : IsClearPlan plan) (pa
         destination = Looped target
 
         o : Origin
-        o = origin.Loop (number_of (functions_of plan) c.name.bytes) vs lo (now ++ m.rank ∷ []) (record { lo = 0; hi = hi })
+        o = origin.Loop (function_number (functions_of plan) c.name.bytes) vs lo (now ++ m.rank ∷ []) (record { lo = 0; hi = hi })
 
         next : State Bool
         next = record { env = with_loop_values target [] m.top.env; rank = m.rank + 1; steps = n - hi; spawned = m.top.spawned }
@@ -453,7 +453,7 @@ module _ (plan : PlanView) (path : List ℕ) (clear-plan : IsClearPlan plan) (pa
   first-within x names apart name h g = apart name (Contains-append_left (x ∷ []) names name h) g
 
   abbrev run_of : (a : Act-F Act Stmt) → ℕ → Run Effect Exit (State Bool)
-  run_of a n = does (what (destination_of height a)) plan now inside height st a (record (state_of m) { steps = n })
+  run_of a n = does (what (child_destination height a)) plan now inside height st a (record (state_of m) { steps = n })
 
   abbrev FineAct : Act-F Act Stmt → ℕ → Type 0
   FineAct a n = SoundEnd plan parts (run_of a n).items (reached plan (with_left m left) (machine_inside plan st a left m) (run_of a n).ending)
@@ -570,7 +570,7 @@ module _ (plan : PlanView) (path : List ℕ) (clear-plan : IsClearPlan plan) (pa
   statement-sound =
       let a = out-Act (out-Stmt st).act in
       let clear : IsClear pending (st ∷ left) sound.1.clear.0 = subst (λ (l : List Stmt). IsClear pending l sound.1.clear.0) top-left sound.1.clear.1 in
-      fine-paid (machine_inside plan st a left m) sound.1.clear.0 (destination_of height a) m.steps (state_of m) _ (λ n. act-fine a refl sound.1.clear.0 clear n)
+      fine-paid (machine_inside plan st a left m) sound.1.clear.0 (child_destination height a) m.steps (state_of m) _ (λ n. act-fine a refl sound.1.clear.0 clear n)
 
 module _ (plan : PlanView) (path : List ℕ) (clear-plan : IsClearPlan plan) (parts : List AwaitedChild) where
   abbrev SoundMove : Machine → Type 0
@@ -652,7 +652,7 @@ module _ (plan : PlanView) (path : List ℕ) (clear-plan : IsClearPlan plan) (pa
       none = nothing-of m sound.1 (sound.1.returning returning).0
 
       to_caller : (v : Value) (below : List Frame) → any_by (length below) parts ≡ false → AreDestinations (length below) parts → AreSound plan parts m.top.target below →
-          SoundEnd plan parts [] (Ok (back below m.top.target v m.rank m.steps))
+          SoundEnd plan parts [] (Ok (back_in_caller below m.top.target v m.rank m.steps))
       to_caller v [] n places s = (refl, only-halves parts n places)
       to_caller v (caller ∷ below) n places s =
           let k : Machine = record { rank = m.rank; steps = m.steps; top = record caller { env = with_scalar m.top.target v caller.env }; below = below } in

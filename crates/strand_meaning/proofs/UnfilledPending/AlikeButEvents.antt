@@ -10,9 +10,9 @@ use Rattle.script_grammar.specs.declared.tree.Name.{Name}
 use Rattle.strand_meaning.specs.Clear.{IsApart, target_names}
 use Rattle.strand_meaning.specs.Machine.{Destination, Effect, Opens, Closes, Emitted, Handed, Syncs, Loops, Frame}
 use Rattle.strand_meaning.specs.Trace.{AwaitedChild, Trace, after_last, emit, emit_at, add_child, with_effects}
-use Rattle.strand_meaning.specs.Task.{InstanceState, Running, AtSync, AtLoop, Ended, takes, takes_all}
+use Rattle.strand_meaning.specs.Task.{Stage, Running, AtSync, AtLoop, Ended, takes, takes_all}
 use Rattle.strand_meaning.specs.Rest.{evaluations}
-use Rattle.strand_meaning.specs.Sound.{unfilled_by, unfilled, is_by, any_by, AreSound, AreDestinations, AreHalves, IsSoundStage, AreParts}
+use Rattle.strand_meaning.specs.Sound.{unfilled_by, unfilled, is_by, any_by, AreSound, AreDestinations, AreHalves, IsSoundStage, AreSoundChildren}
 use Rattle.strand_meaning.proofs.Unfilled.RestAfterEffects.{effect_parts}
 use Rattle.strand_meaning.proofs.Unfilled.SoundMoves.{sound-as}
 
@@ -55,7 +55,7 @@ alike-effects (Handed o destination ∷ ts) trace =
 alike-effects (Syncs ∷ ts) trace = alike-effects ts trace
 alike-effects (Loops ∷ ts) trace = alike-effects ts trace
 
-pub alike-takes : (child : Origin → Evaluation) {ps qs : List AwaitedChild} → Alike ps qs → (stage : InstanceState) → takes_all ps (evaluations child ps) stage ≡ takes_all qs (evaluations child qs) stage
+pub alike-takes : (child : Origin → Evaluation) {ps qs : List AwaitedChild} → Alike ps qs → (stage : Stage) → takes_all ps (evaluations child ps) stage ≡ takes_all qs (evaluations child qs) stage
 alike-takes child End stage = refl
 alike-takes child (Next o destination before after a) stage = alike-takes child a (takes destination (child o).ending stage)
 
@@ -79,7 +79,7 @@ alike-none : {ps qs : List AwaitedChild} → Alike ps qs → ps ≡ [] → qs �
 alike-none End h = refl
 alike-none (Next o destination before after a) h = absurd (cc)
 
-pub alike-parts : (plan : PlanView) (o : Origin) {ps qs : List AwaitedChild} → Alike ps qs → AreParts plan o ps → AreParts plan o qs
+pub alike-parts : (plan : PlanView) (o : Origin) {ps qs : List AwaitedChild} → Alike ps qs → AreSoundChildren plan o ps → AreSoundChildren plan o qs
 alike-parts plan o End h = tt
 alike-parts plan o (Next child destination before after a) h = (record { known = h.0.known; fits = h.0.fits; same = h.0.same }, alike-parts plan o a h.1)
 
@@ -91,7 +91,7 @@ alike-below plan {ps} {qs} a target (caller ∷ below) s = (
   alike-below plan a caller.target below s.2,
 )
 
-pub alike-stage : (plan : PlanView) {ps qs : List AwaitedChild} → Alike ps qs → (stage : InstanceState) → IsSoundStage plan ps stage → IsSoundStage plan qs stage
+pub alike-stage : (plan : PlanView) {ps qs : List AwaitedChild} → Alike ps qs → (stage : Stage) → IsSoundStage plan ps stage → IsSoundStage plan qs stage
 alike-stage plan {ps} {qs} a (Running m) s =
     let height = length m.below in (alike-places height a s.0, sound-as plan ps qs height m.top (alike-unfilled height a) (alike-any height a) s.1, alike-below plan a m.top.target m.below s.2)
 alike-stage plan {ps} {qs} a (AtSync m) s = (alike-places (length m.below) a s.0, s.1, alike-below plan a m.top.target m.below s.2)

@@ -14,7 +14,7 @@ use Rattle.serial_meaning.specs.declared.event.Fault.{Fault}
 use Rattle.serial_meaning.specs.declared.origin.Origin.{Origin}
 use Rattle.strand_meaning.specs.Machine.{Destination, Spawned, Looped, Half, Frame, Machine}
 use Rattle.strand_meaning.specs.Trace.{AwaitedChild}
-use Rattle.strand_meaning.specs.Task.{InstanceState, Running, AtSync, AtLoop, Ended, changed, changed_at, frame_with_answer, takes, takes_all, joins, resumed}
+use Rattle.strand_meaning.specs.Task.{Stage, Running, AtSync, AtLoop, Ended, changed, changed_at, frame_with_answer, takes, takes_all, pass_sync, resumed}
 use Rattle.strand_meaning.specs.Rest.{evaluations}
 use Rattle.strand_meaning.specs.Pending.{ArePending, ArePendingStill, IsCall, IsSync, IsPfor}
 use Rattle.strand_meaning.specs.Sound.{unfilled, ArePendingBelow, ArePendingAtSync, UnfilledArePending}
@@ -28,7 +28,7 @@ sync-fewer : (plan : PlanView) (names others : Names) (a : Frame) → ((name : L
 sync-fewer plan names others a w true p = (p.0, pending-fewer plan names others a [] w p.1)
 sync-fewer plan names others a w false p = still-fewer plan names others a IsSync w p
 
-stage-fewer : (plan : PlanView) (ps qs : List AwaitedChild) → ((j : ℕ) (name : List ℕ) → Contains (unfilled j qs) name → Contains (unfilled j ps) name) → (stage : InstanceState) → UnfilledArePending plan ps stage → UnfilledArePending plan qs stage
+stage-fewer : (plan : PlanView) (ps qs : List AwaitedChild) → ((j : ℕ) (name : List ℕ) → Contains (unfilled j qs) name → Contains (unfilled j ps) name) → (stage : Stage) → UnfilledArePending plan ps stage → UnfilledArePending plan qs stage
 stage-fewer plan ps qs w (Running m) p =
     let n = length m.below in (pending-fewer plan (unfilled n ps) (unfilled n qs) m.top m.top.left (w n) p.0, below-fewer plan ps qs n (λ j h. w j) m.below (omega arith) p.1)
 stage-fewer plan ps qs w (AtSync m) p =
@@ -37,7 +37,7 @@ stage-fewer plan ps qs w (AtLoop m) p =
     let n = length m.below in (still-fewer plan (unfilled n ps) (unfilled n qs) m.top IsPfor (w n) p.0, below-fewer plan ps qs n (λ j h. w j) m.below (omega arith) p.1)
 stage-fewer plan ps qs w (Ended ended) p = tt
 
-pub alike-pending : (plan : PlanView) {ps qs : List AwaitedChild} → Alike ps qs → (stage : InstanceState) → UnfilledArePending plan ps stage → UnfilledArePending plan qs stage
+pub alike-pending : (plan : PlanView) {ps qs : List AwaitedChild} → Alike ps qs → (stage : Stage) → UnfilledArePending plan ps stage → UnfilledArePending plan qs stage
 alike-pending plan {ps} {qs} a stage p = stage-fewer plan ps qs (λ j name h. subst (λ (l : Names). Contains l name) (sym (alike-unfilled j a)) h) stage p
 
 -- Answers
@@ -97,14 +97,14 @@ module _ (plan : PlanView) where
       by_place true = (keeps m.top p, below)
       by_place false = (p, below-kept owner to q m.below below)
 
-  spawned-kept : (owner : ℕ) (to : Option Name) (q : Result (List Value) Fault) (stage : InstanceState) → UnfilledArePending plan [] stage → UnfilledArePending plan [] (takes (Spawned owner to) q stage)
+  spawned-kept : (owner : ℕ) (to : Option Name) (q : Result (List Value) Fault) (stage : Stage) → UnfilledArePending plan [] stage → UnfilledArePending plan [] (takes (Spawned owner to) q stage)
   spawned-kept owner to q (Running m) p = machine-kept AtGoing owner to q (λ a. going-kept a to q) m p.0 p.1
   spawned-kept owner to q (AtSync m) p = machine-kept AtSyncing owner to q (λ a. syncing-kept a to q) m p.0 p.1
   spawned-kept owner to q (AtLoop m) p = machine-kept AtLooping owner to q (λ a. still-kept a to IsPfor q) m p.0 p.1
   spawned-kept owner to q (Ended ended) p = tt
 
   -- a loop's values
-  looped-kept : (to : Option Name) (vs : List Value) (stage : InstanceState) → UnfilledArePending plan [] stage → UnfilledArePending plan [] (takes (Looped to) (Ok vs) stage)
+  looped-kept : (to : Option Name) (vs : List Value) (stage : Stage) → UnfilledArePending plan [] stage → UnfilledArePending plan [] (takes (Looped to) (Ok vs) stage)
   looped-kept to vs (Running m) p = (record { function = p.0.function; of_plan = p.0.of_plan; now = p.0.now; stands = p.0.stands; pending = p.0.pending }, p.1)
   looped-kept to vs (AtSync m) p = (by_kind (m.top.leaving || m.top.returning) p.0, p.1)
     where
@@ -116,18 +116,18 @@ module _ (plan : PlanView) where
       let s = p.0 in let t = s.there in (record { st = s.st; such = s.such; there = record { function = t.function; of_plan = t.of_plan; now = t.now; stands = t.stands; pending = t.pending } }, p.1)
   looped-kept to vs (Ended ended) p = tt
 
-  takes-kept : (destination : Destination) (q : Result (List Value) Fault) (stage : InstanceState) → UnfilledArePending plan [] stage → UnfilledArePending plan [] (takes destination q stage)
+  takes-kept : (destination : Destination) (q : Result (List Value) Fault) (stage : Stage) → UnfilledArePending plan [] stage → UnfilledArePending plan [] (takes destination q stage)
   takes-kept (Spawned owner to) q stage p = spawned-kept owner to q stage p
   takes-kept (Looped to) (Ok vs) stage p = looped-kept to vs stage p
   takes-kept (Looped to) (Err f) stage p = tt
   takes-kept Half q stage p = p
 
-  all-kept : (child : Origin → Evaluation) (ps : List AwaitedChild) (stage : InstanceState) → UnfilledArePending plan [] stage → UnfilledArePending plan [] (takes_all ps (evaluations child ps) stage)
+  all-kept : (child : Origin → Evaluation) (ps : List AwaitedChild) (stage : Stage) → UnfilledArePending plan [] stage → UnfilledArePending plan [] (takes_all ps (evaluations child ps) stage)
   all-kept child [] stage p = p
   all-kept child (q ∷ ps) stage p = all-kept child ps (takes q.destination (child q.child).ending stage) (takes-kept q.destination (child q.child).ending stage p)
 
   -- it goes on after a wait
-  resumed-pending : (stage : InstanceState) → UnfilledArePending plan [] stage → UnfilledArePending plan [] (resumed stage)
+  resumed-pending : (stage : Stage) → UnfilledArePending plan [] stage → UnfilledArePending plan [] (resumed stage)
   resumed-pending (Running m) p = p
   resumed-pending (AtSync m) p = by_fault m.top.faulted
     where
@@ -135,12 +135,12 @@ module _ (plan : PlanView) where
       by_kind true s = subst (ArePending plan [] m.top) (sym s.0) s.1
       by_kind false s = still-left plan m.top IsSync s
 
-      by_fault : (f : Option Fault) → UnfilledArePending plan [] (joins f m)
+      by_fault : (f : Option Fault) → UnfilledArePending plan [] (pass_sync f m)
       by_fault None = (by_kind (m.top.leaving || m.top.returning) p.0, p.1)
       by_fault (Some f) = tt
   resumed-pending (AtLoop m) p = (still-left plan m.top IsPfor p.0, p.1)
   resumed-pending (Ended ended) p = tt
 
-  pub answers-pending : (child : Origin → Evaluation) (ps : List AwaitedChild) (stage : InstanceState) → UnfilledArePending plan ps stage → UnfilledArePending plan [] (resumed (takes_all ps (evaluations child ps) stage))
+  pub answers-pending : (child : Origin → Evaluation) (ps : List AwaitedChild) (stage : Stage) → UnfilledArePending plan ps stage → UnfilledArePending plan [] (resumed (takes_all ps (evaluations child ps) stage))
   answers-pending child ps stage p =
       resumed-pending (takes_all ps (evaluations child ps) stage) (all-kept child ps stage (stage-fewer plan ps [] (λ j name h. absurd (none-contained name h)) stage p))

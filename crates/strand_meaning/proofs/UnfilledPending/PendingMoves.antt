@@ -21,7 +21,7 @@ use Rattle.script_check.specs.Statements.{judge}
 use Rattle.serial_meaning.specs.Runs.{Run, done, happens, ◌then◌}
 use Rattle.serial_meaning.specs.Names.{Names}
 use Rattle.serial_meaning.specs.Values.{Env, value_of, values_of, slot_of, items_of, as_integer, is_true, at_index}
-use Rattle.serial_meaning.specs.Functions.{number_of, function_at}
+use Rattle.serial_meaning.specs.Functions.{function_number, function_at}
 use Rattle.serial_meaning.specs.Plan.{PlanView, functions_of}
 use Rattle.serial_meaning.specs.Exec.{State, Manner, unless_fault, paid_from, tested, has_room, fits_depth, with_loop_values, spawn, sync_here, implied, frame, called, right_side, found, store, looped, does, count_of, bound}
 use Rattle.serial_meaning.specs.Open.{is_empty_loop}
@@ -35,7 +35,7 @@ use Rattle.serial_meaning.specs.declared.origin.Origin.{Origin}
 use Rattle.serial_meaning.specs.declared.origin.Origin.TheVariants as origin
 use Rattle.strand_meaning.specs.Clear.{pending_right, target_names}
 use Rattle.script_check.specs.Spawns.{spawns_in}
-use Rattle.strand_meaning.specs.Machine.{Destination, Spawned, Looped, Effect, Emitted, Exit, loop_effects, sync_effects, handing, inside, destination_of, Level, Frame, Machine, Reached, Stands, Gives, state_of, here_of, with_left, into_level, with_leaving, out_of_level, with_returning, with_scalar, back, calling, machine_inside, reached, gives, value_run, statement_move, return_move, level_move, end_move, move_at, move}
+use Rattle.strand_meaning.specs.Machine.{Destination, Spawned, Looped, Effect, Emitted, Exit, loop_effects, sync_effects, handing, inside, child_destination, Level, Frame, Machine, Reached, Stands, Gives, state_of, here_of, with_left, into_level, with_leaving, out_of_level, with_returning, with_scalar, back_in_caller, calling, machine_inside, reached, gives, value_run, statement_move, return_move, level_move, end_move, move_at, move}
 use Rattle.strand_meaning.specs.Trace.{AwaitedChild}
 use Rattle.strand_meaning.specs.Task.{Running, AtSync, stage_after}
 use Rattle.strand_meaning.specs.Pending.{act_of, Then, Else, LoopBody, Here, FrameStandsAt, Outside, InScope, judged_by, ArePending, ArePendingStill, IsCall, IsSync, IsPfor}
@@ -203,11 +203,11 @@ module _ (plan : PlanView) (path : List ℕ) (parts : List AwaitedChild) (m : Ma
         child_run : List Value → Run Effect Exit (Value × State Bool)
         child_run vs =
             happens (Emitted (event.Spawn (now ++ m.rank ∷ []))) (here n) then λ s.
-            (what destination).spawn (origin.Instance (number_of (functions_of plan) c.name.bytes) vs (now ++ m.rank ∷ [])) s.spawned then λ r.
+            (what destination).spawn (origin.Instance (function_number (functions_of plan) c.name.bytes) vs (now ++ m.rank ∷ [])) s.spawned then λ r.
             done (r.0, record s { rank = s.rank + 1; spawned = r.1 })
 
         more : List Value → List AwaitedChild
-        more vs = record { child = origin.Instance (number_of (functions_of plan) c.name.bytes) vs (now ++ m.rank ∷ []); destination = destination; after = [] } ∷ []
+        more vs = record { child = origin.Instance (function_number (functions_of plan) c.name.bytes) vs (now ++ m.rank ∷ []); destination = destination; after = [] } ∷ []
 
         none-lower : (vs : List Value) (j : ℕ) → j < height → any_by j (more vs) ≡ false
         none-lower vs j h = ap (λ b. b || false) (not-same j h)
@@ -252,7 +252,7 @@ module _ (plan : PlanView) (path : List ℕ) (parts : List AwaitedChild) (m : Ma
         destination = Spawned height target
 
         as_integer : ℕ
-        as_integer = number_of (functions_of plan) c.name.bytes
+        as_integer = function_number (functions_of plan) c.name.bytes
 
         begins : Function → List Value → State Bool
         begins f vs = record { env = bound f.params vs; rank = m.rank; steps = n; spawned = false }
@@ -349,7 +349,7 @@ module _ (plan : PlanView) (path : List ℕ) (parts : List AwaitedChild) (m : Ma
         destination = Looped target
 
         o : Origin
-        o = origin.Loop (number_of (functions_of plan) c.name.bytes) vs lo (now ++ m.rank ∷ []) (record { lo = 0; hi = hi })
+        o = origin.Loop (function_number (functions_of plan) c.name.bytes) vs lo (now ++ m.rank ∷ []) (record { lo = 0; hi = hi })
 
         next : State Bool
         next = record { env = with_loop_values target [] m.top.env; rank = m.rank + 1; steps = n - hi; spawned = m.top.spawned }
@@ -365,7 +365,7 @@ module _ (plan : PlanView) (path : List ℕ) (parts : List AwaitedChild) (m : Ma
         )
 
   abbrev run_of : (a : Act-F Act Stmt) → ℕ → Run Effect Exit (State Bool)
-  run_of a n = does (what (destination_of height a)) plan now inside height st a (record (state_of m) { steps = n })
+  run_of a n = does (what (child_destination height a)) plan now inside height st a (record (state_of m) { steps = n })
 
   abbrev PendingAct : Act-F Act Stmt → ℕ → Type 0
   PendingAct a n = PendingEnd plan parts (run_of a n).items (reached plan (with_left m left) (machine_inside plan st a left m) (run_of a n).ending)
@@ -471,7 +471,7 @@ module _ (plan : PlanView) (path : List ℕ) (parts : List AwaitedChild) (m : Ma
       s = record (state_of m) { rank = 0; steps = n }
 
   statement-pending : PendingEnd plan parts (statement_move plan path m st left).items (statement_move plan path m st left).ending
-  statement-pending = fine-paid (machine_inside plan st (act_of st) left m) (destination_of height (act_of st)) m.steps (state_of m) _ (λ n. by_act (act_of st) refl n)
+  statement-pending = fine-paid (machine_inside plan st (act_of st) left m) (child_destination height (act_of st)) m.steps (state_of m) _ (λ n. by_act (act_of st) refl n)
 
 module _ (plan : PlanView) (path : List ℕ) (parts : List AwaitedChild) where
   no-more : (T : List AwaitedChild → Type 0) → T parts → T (parts ++ [])
@@ -536,7 +536,7 @@ module _ (plan : PlanView) (path : List ℕ) (parts : List AwaitedChild) where
   value-pending : (m : Machine) → UnfilledArePending plan parts (Running m) → PendingEnd plan parts (return_move plan path m true).items (return_move plan path m true).ending
   value-pending m pends = by_function (function_at (functions_of plan) m.top.function)
     where
-      to_caller : (v : Value) (below : List Frame) → ArePendingBelow plan parts below → PendingEnd plan parts [] (Ok (back below m.top.target v m.rank m.steps))
+      to_caller : (v : Value) (below : List Frame) → ArePendingBelow plan parts below → PendingEnd plan parts [] (Ok (back_in_caller below m.top.target v m.rank m.steps))
       to_caller v [] s = tt
       to_caller v (caller ∷ below) s =
           let k : Machine = record { rank = m.rank; steps = m.steps; top = record caller { env = with_scalar m.top.target v caller.env }; below = below } in

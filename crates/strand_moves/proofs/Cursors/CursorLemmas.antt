@@ -8,7 +8,7 @@ use Rattle.script_grammar.specs.declared.tree.Act.{out-Act}
 use Rattle.strand_moves.specs.declared.cursor.Branch.TheVariants as branch
 use Rattle.strand_moves.specs.declared.cursor.Entered.{Entered}
 use Rattle.strand_moves.specs.declared.cursor.Cursor.{Cursor}
-use Rattle.strand_moves.specs.Cursors.{branch_of, branch_at, place_before, block_in, block_of, left_around, left_of, IsAfterStatement, PassesStatement}
+use Rattle.strand_moves.specs.Cursors.{branch_of, branch_at, entered_at, block_in, block_of, left_around, statements_left, IsAfterStatement, PassesStatement}
 
 -- where no block is entered, none can be left
 pub nothing-there : (es : List Entered) → (0 < length es → IsSome {T = Entered} None) → es ≡ []
@@ -48,7 +48,7 @@ pub rest-entered : (body : List Stmt) (es : List Entered) (e : Entered) → rest
 rest-entered body es e =
     ap (λ (l : List Stmt). l ++ left_around body (es ++ e ∷ [])) (block_of-more body es e) ∙ ap (λ (l : List Stmt). block_in (block_of body es) e ++ l) (left_around-more body es e)
 
-pub branch-there : (block : List Stmt) (e : Entered) (st : Stmt) → slice_get block (place_before e.branch e.back) ≡ Some st → block_in block e ≡ branch_of (out-Act (out-Stmt st).act) e.branch
+pub branch-there : (block : List Stmt) (e : Entered) (st : Stmt) → slice_get block (entered_at e.branch e.back) ≡ Some st → block_in block e ≡ branch_of (out-Act (out-Stmt st).act) e.branch
 branch-there block e st h = ap (λ (s : Option Stmt). branch_at s e.branch) h
 
 drop-next : (block : List Stmt) (n : ℕ) (st : Stmt) → slice_get block n ≡ Some st → drop n block ≡ st ∷ drop (n + 1) block
@@ -65,36 +65,36 @@ rest-back body es n st l h =
     rest-next body es (n - 1) st h ∙ ap (λ (k : ℕ). st ∷ rest_of body es k) next
 
 -- the cursor as it was, and with a block of the statement before it entered
-pub left-entered : (body : List Stmt) (c d : Cursor) (e : Entered) (st : Stmt) → d.entered.items ≡ c.entered.items ++ e ∷ [] → d.next ≡ 0 → slice_get (block_of body c.entered.items) (place_before e.branch e.back) ≡ Some st →
-    left_of body d ≡ branch_of (out-Act (out-Stmt st).act) e.branch ++ rest_of body c.entered.items e.back
-unfolding left_of
+pub left-entered : (body : List Stmt) (c d : Cursor) (e : Entered) (st : Stmt) → d.entered.items ≡ c.entered.items ++ e ∷ [] → d.next ≡ 0 → slice_get (block_of body c.entered.items) (entered_at e.branch e.back) ≡ Some st →
+    statements_left body d ≡ branch_of (out-Act (out-Stmt st).act) e.branch ++ rest_of body c.entered.items e.back
+unfolding statements_left
 left-entered body c d e st h k there =
     rw (h, k) (rest-entered body c.entered.items e) ∙ ap (λ (l : List Stmt). l ++ rest_of body c.entered.items e.back) (branch-there (block_of body c.entered.items) e st there)
 
-pub left-is : (body : List Stmt) (c : Cursor) → rest_of body c.entered.items c.next ≡ left_of body c
-unfolding left_of
+pub left-is : (body : List Stmt) (c : Cursor) → rest_of body c.entered.items c.next ≡ statements_left body c
+unfolding statements_left
 left-is body c = refl
 
 pub left-branch : (body : List Stmt) (c d : Cursor) (st : Stmt) (yes : Bool) → IsAfterStatement body c st → d.entered.items ≡ c.entered.items ++ record { branch = if yes then branch.Yes else branch.No; back = c.next } ∷ [] → d.next ≡ 0 →
-    left_of body d ≡ branch_of (out-Act (out-Stmt st).act) (if yes then branch.Yes else branch.No) ++ left_of body c
+    statements_left body d ≡ branch_of (out-Act (out-Stmt st).act) (if yes then branch.Yes else branch.No) ++ statements_left body c
 left-branch body c d st true after h k =
     left-entered body c d (record { branch = branch.Yes; back = c.next }) st h k after.there ∙ ap (λ (l : List Stmt). branch_of (out-Act (out-Stmt st).act) branch.Yes ++ l) (left-is body c)
 left-branch body c d st false after h k =
     left-entered body c d (record { branch = branch.No; back = c.next }) st h k after.there ∙ ap (λ (l : List Stmt). branch_of (out-Act (out-Stmt st).act) branch.No ++ l) (left-is body c)
 
 pub left-turn : (body : List Stmt) (c d : Cursor) (st : Stmt) → IsAfterStatement body c st → d.entered.items ≡ c.entered.items ++ record { branch = branch.LoopBody; back = c.next - 1 } ∷ [] → d.next ≡ 0 →
-    left_of body d ≡ branch_of (out-Act (out-Stmt st).act) branch.LoopBody ++ (st ∷ left_of body c)
+    statements_left body d ≡ branch_of (out-Act (out-Stmt st).act) branch.LoopBody ++ (st ∷ statements_left body c)
 left-turn body c d st after h k =
     left-entered body c d (record { branch = branch.LoopBody; back = c.next - 1 }) st h k after.there
     ∙ ap (λ (l : List Stmt). branch_of (out-Act (out-Stmt st).act) branch.LoopBody ++ l) (rest-back body c.entered.items c.next st after.some after.there ∙ ap (λ (l : List Stmt). st ∷ l) (left-is body c))
 
-pub left-back : (body : List Stmt) (c d : Cursor) (st : Stmt) → IsAfterStatement body c st → d.entered.items ≡ c.entered.items → d.next ≡ c.next - 1 → left_of body d ≡ st ∷ left_of body c
-unfolding left_of
+pub left-back : (body : List Stmt) (c d : Cursor) (st : Stmt) → IsAfterStatement body c st → d.entered.items ≡ c.entered.items → d.next ≡ c.next - 1 → statements_left body d ≡ st ∷ statements_left body c
+unfolding statements_left
 left-back body c d st after h k = rw (h, k) (rest-back body c.entered.items c.next st after.some after.there)
 
 -- after the next statement
 pub passes : (body : List Stmt) (c d : Cursor) (st : Stmt) → slice_get (block_of body c.entered.items) c.next ≡ Some st → d.entered.items ≡ c.entered.items → d.next ≡ c.next + 1 → PassesStatement body c d st
-unfolding left_of
+unfolding statements_left
 passes body c d st there h k =
     let back : c.next + 1 - 1 ≡ c.next = omega arith in
     record {
@@ -103,18 +103,18 @@ passes body c d st there h k =
     }
 
 -- a block that is left, since nothing of it is left
-pub left-out : (body : List Stmt) (c d : Cursor) (e : Entered) → c.entered.items ≡ d.entered.items ++ e ∷ [] → d.next ≡ e.back → length (block_of body c.entered.items) ≤ c.next → left_of body d ≡ left_of body c
-unfolding left_of
+pub left-out : (body : List Stmt) (c d : Cursor) (e : Entered) → c.entered.items ≡ d.entered.items ++ e ∷ [] → d.next ≡ e.back → length (block_of body c.entered.items) ≤ c.next → statements_left body d ≡ statements_left body c
+unfolding statements_left
 left-out body c d e h k ended =
     let past : length (block_of body (d.entered.items ++ e ∷ [])) ≤ c.next = rw h at ended in
     rw (h, k) (sym (rest-left body d.entered.items e c.next past))
 
-pub left-ended : (body : List Stmt) (c : Cursor) → c.entered.items ≡ [] → length (block_of body c.entered.items) ≤ c.next → left_of body c ≡ []
-unfolding left_of
+pub left-ended : (body : List Stmt) (c : Cursor) → c.entered.items ≡ [] → length (block_of body c.entered.items) ≤ c.next → statements_left body c ≡ []
+unfolding statements_left
 left-ended body c h ended =
     let past : length body ≤ c.next = rw h at ended in
     rw h (rest-ended body c.next past)
 
-pub left-same : (body : List Stmt) (c d : Cursor) → d.entered.items ≡ c.entered.items → d.next ≡ c.next → left_of body d ≡ left_of body c
-unfolding left_of
+pub left-same : (body : List Stmt) (c d : Cursor) → d.entered.items ≡ c.entered.items → d.next ≡ c.next → statements_left body d ≡ statements_left body c
+unfolding statements_left
 left-same body c d h k = rw (h, k) refl

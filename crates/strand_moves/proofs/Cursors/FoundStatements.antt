@@ -17,7 +17,7 @@ use Rattle.strand_moves.specs.declared.cursor.Entered.{Entered}
 use Rattle.strand_moves.specs.declared.frame.Frame.{Frame}
 use Rattle.strand_moves.specs.declared.frame.Level.{Level}
 use Rattle.strand_moves.specs.declared.instance_parts.InstanceParts.{InstanceParts}
-use Rattle.strand_moves.specs.Cursors.{IsAfterStatement, block_in, block_of, branch_at, branch_of, place_before, scope_at, scope_of}
+use Rattle.strand_moves.specs.Cursors.{IsAfterStatement, block_in, block_of, branch_at, branch_of, entered_at, scope_at, scope_of}
 use Rattle.strand_moves.specs.Found.{ArePlaces, FindsStatement}
 use Rattle.strand_moves.specs.InstanceParts.{AreNamed, IsNamed, block_inside, body_in, body_of, statements_of}
 
@@ -57,12 +57,12 @@ module _ (is calls : Name → Bool) where
   scope-found (act.Scope block) h = h
 
   entered : (block : List Stmt) (e : Entered) → every_in_block is calls block ≡ true → every_in_block is calls (block_in block e) ≡ true
-  entered block e h = by (slice_get block (place_before e.branch e.back)) refl
+  entered block e h = by (slice_get block (entered_at e.branch e.back)) refl
     where
-      by : (o : Option Stmt) → slice_get block (place_before e.branch e.back) ≡ o → every_in_block is calls (branch_at o e.branch) ≡ true
+      by : (o : Option Stmt) → slice_get block (entered_at e.branch e.back) ≡ o → every_in_block is calls (branch_at o e.branch) ≡ true
       by None i = refl
       by (Some st) i =
-          branch-found (out-Act (out-Stmt st).act) e.branch (opened-found is calls st (out-Act (out-Stmt st).act) refl (one-of (every_in_statement is calls) block (place_before e.branch e.back) st h i))
+          branch-found (out-Act (out-Stmt st).act) e.branch (opened-found is calls st (out-Act (out-Stmt st).act) refl (one-of (every_in_statement is calls) block (entered_at e.branch e.back) st h i))
 
   block-found : (block : List Stmt) (es : List Entered) → every_in_block is calls block ≡ true → every_in_block is calls (block_of block es) ≡ true
   block-found block [] h = h

@@ -9,10 +9,10 @@ use Rattle.strand_moves.specs.declared.frame.Level.{Level}
 use Rattle.strand_moves.specs.declared.cursor.Cursor.{Cursor}
 use Rattle.strand_moves.specs.declared.instance_parts.InstanceParts.{InstanceParts}
 use Rattle.strand_moves.specs.declared.effects.MoveResult.{MoveResult}
-use Rattle.strand_moves.specs.declared.effects.MoveResult.TheVariants as moved
+use Rattle.strand_moves.specs.declared.effects.MoveResult.TheVariants as move_result
 use Rattle.strand_moves.specs.declared.effects.Effects.TheVariants as effect
 use Rattle.strand_moves.specs.Acts.{Costs, Stays}
-use Rattle.strand_moves.specs.Cursors.{left_of, PassesStatement}
+use Rattle.strand_moves.specs.Cursors.{statements_left, PassesStatement}
 use Rattle.strand_moves.specs.Moves.{acted, run_of}
 use Rattle.strand_moves.specs.Quick.{EndsFrame, IsSentMove}
 use Rattle.strand_moves.specs.Rows.{ComesToStatement, HasPassedStatement, IsNextStatement, More, Row, RunsOn, Emits, unpassed}
@@ -28,13 +28,13 @@ module _ (plan : PlanView) (i : InstanceParts) where
 
   -- the move of a statement that was passed
   pub next-moves : (next : Option Stmt) (st : Stmt) → next ≡ Some st →
-      move plan (path_of i) (unpassed plan i next) ≡ statement_move plan (path_of i) (machine_of plan i) st (left_of (statements_of plan i.top) i.top.cursor)
+      move plan (path_of i) (unpassed plan i next) ≡ statement_move plan (path_of i) (machine_of plan i) st (statements_left (statements_of plan i.top) i.top.cursor)
   next-moves next st e =
       ap (λ (n : Option Stmt). move plan (path_of i) (unpassed plan i n)) e
-      ∙ moves-on plan (path_of i) (unpassed plan i (Some st)) st (left_of (statements_of plan i.top) i.top.cursor) refl
+      ∙ moves-on plan (path_of i) (unpassed plan i (Some st)) st (statements_left (statements_of plan i.top) i.top.cursor) refl
 
   -- and where none was left
-  pub end-moves : (next : Option Stmt) → next ≡ None → left_of (statements_of plan i.top) i.top.cursor ≡ [] →
+  pub end-moves : (next : Option Stmt) → next ≡ None → statements_left (statements_of plan i.top) i.top.cursor ≡ [] →
       move plan (path_of i) (unpassed plan i next) ≡ end_move plan (path_of i) (machine_of plan i) (machine_of plan i).top.levels
   end-moves next e none =
       ap (λ (n : Option Stmt). move plan (path_of i) (unpassed plan i n)) e
@@ -134,7 +134,7 @@ module _ {S : Type 0} (after : Event → S → S) (plan : PlanView) (first : Ins
   paid-named : KeepsNames plan i paid
   paid-named = top-named plan i paid refl refl refl refl
 
-  sent-on : (new : InstanceParts) (heard : S) (e : Event) → heard ≡ after e sent → acted plan (present_of paid) (machine_of plan paid) st (out-Act (out-Stmt st).act) ≡ run_of (moved.Went (effect.Emitted e)) (machine_of plan new) →
+  sent-on : (new : InstanceParts) (heard : S) (e : Event) → heard ≡ after e sent → acted plan (present_of paid) (machine_of plan paid) st (out-Act (out-Stmt st).act) ≡ run_of (move_result.Went (effect.Emitted e)) (machine_of plan new) →
       KeepsNames plan paid new → Stays paid new → Costs paid new → RowOn after plan first start i new heard
   sent-on new heard e is acts named stays few =
       let alike : Stays i new = record { trail = stays.trail; scopes = stays.scopes; leaving = stays.leaving } in
@@ -146,14 +146,14 @@ module _ {S : Type 0} (after : Event → S → S) (plan : PlanView) (first : Ins
         path = path;
       }
 
-  pub row-sent : (before : InstanceParts) → before ≡ paid → (new : InstanceParts) (heard : S) (e : Event) → heard ≡ after e sent → acted plan (present_of before) (machine_of plan before) st (out-Act (out-Stmt st).act) ≡ run_of (moved.Went (effect.Emitted e)) (machine_of plan new) →
+  pub row-sent : (before : InstanceParts) → before ≡ paid → (new : InstanceParts) (heard : S) (e : Event) → heard ≡ after e sent → acted plan (present_of before) (machine_of plan before) st (out-Act (out-Stmt st).act) ≡ run_of (move_result.Went (effect.Emitted e)) (machine_of plan new) →
       KeepsNames plan before new → Stays before new → Costs before new → RowOn after plan first start i new heard
   row-sent before same new heard e is acts named stays few =
       sent-on new heard e is
-      (subst (λ (x : InstanceParts). acted plan (present_of x) (machine_of plan x) st (out-Act (out-Stmt st).act) ≡ run_of (moved.Went (effect.Emitted e)) (machine_of plan new)) same acts)
+      (subst (λ (x : InstanceParts). acted plan (present_of x) (machine_of plan x) st (out-Act (out-Stmt st).act) ≡ run_of (move_result.Went (effect.Emitted e)) (machine_of plan new)) same acts)
       (subst (λ (x : InstanceParts). KeepsNames plan x new) same named) (subst (λ (x : InstanceParts). Stays x new) same stays) (subst (λ (x : InstanceParts). Costs x new) same few)
 
-  called-on : (new : InstanceParts) (heard : S) → heard ≡ sent → acted plan (present_of paid) (machine_of plan paid) st (out-Act (out-Stmt st).act) ≡ run_of (moved.Went effect.Nothing) (machine_of plan new) →
+  called-on : (new : InstanceParts) (heard : S) → heard ≡ sent → acted plan (present_of paid) (machine_of plan paid) st (out-Act (out-Stmt st).act) ≡ run_of (move_result.Went effect.Nothing) (machine_of plan new) →
       KeepsNames plan paid new → Stays paid new → Costs paid new → RowOn after plan first start i new heard
   called-on new heard is acts named stays few =
       let alike : Stays i new = record { trail = stays.trail; scopes = stays.scopes; leaving = stays.leaving } in
@@ -165,9 +165,9 @@ module _ {S : Type 0} (after : Event → S → S) (plan : PlanView) (first : Ins
         path = path;
       }
 
-  pub row-called : (before : InstanceParts) → before ≡ paid → (new : InstanceParts) (heard : S) → heard ≡ sent → acted plan (present_of before) (machine_of plan before) st (out-Act (out-Stmt st).act) ≡ run_of (moved.Went effect.Nothing) (machine_of plan new) →
+  pub row-called : (before : InstanceParts) → before ≡ paid → (new : InstanceParts) (heard : S) → heard ≡ sent → acted plan (present_of before) (machine_of plan before) st (out-Act (out-Stmt st).act) ≡ run_of (move_result.Went effect.Nothing) (machine_of plan new) →
       KeepsNames plan before new → Stays before new → Costs before new → RowOn after plan first start i new heard
   row-called before same new heard is acts named stays few =
       called-on new heard is
-      (subst (λ (x : InstanceParts). acted plan (present_of x) (machine_of plan x) st (out-Act (out-Stmt st).act) ≡ run_of (moved.Went effect.Nothing) (machine_of plan new)) same acts)
+      (subst (λ (x : InstanceParts). acted plan (present_of x) (machine_of plan x) st (out-Act (out-Stmt st).act) ≡ run_of (move_result.Went effect.Nothing) (machine_of plan new)) same acts)
       (subst (λ (x : InstanceParts). KeepsNames plan x new) same named) (subst (λ (x : InstanceParts). Stays x new) same stays) (subst (λ (x : InstanceParts). Costs x new) same few)

@@ -13,7 +13,7 @@ use Rattle.serial_meaning.specs.declared.event.FaultKind.{FaultKind}
 use Rattle.serial_meaning.specs.declared.value.Value.{Value}
 use Rattle.script_grammar.specs.declared.tree.Expr.{Expr}
 use Rattle.script_grammar.specs.declared.tree.Param.{Param}
-use Rattle.strand_meaning.specs.Machine.{Stands, begun}
+use Rattle.strand_meaning.specs.Machine.{Stands, function_begun}
 use Rattle.strand_values.specs.Changes.{called_with}
 use Rattle.strand_values.specs.Environments.{EnvironmentView}
 use Rattle.strand_moves.specs.declared.frame.Frame.{Frame}
@@ -24,7 +24,7 @@ use Rattle.strand_values.specs.declared.halt.Halt as values
 use Rattle.strand_values.specs.declared.halt.Halt.TheVariants as halt
 use Rattle.strand_moves.specs.Acts.{IsCallee, StaysUnlessMemory, Stays}
 use Rattle.strand_moves.specs.Quick.{quiet}
-use Rattle.strand_moves.specs.Cursors.{left_of}
+use Rattle.strand_moves.specs.Cursors.{statements_left}
 use Rattle.strand_moves.specs.InstanceParts.{frame_of, block_inside, body_in, body_of, levels_of, machine_of, scopes_of}
 use Rattle.strand_moves.proofs.Statements.Equations.{callee}
 
@@ -62,7 +62,7 @@ module _ (plan : PlanView) (number : ℕ) (f : Function) (vs : List Value) (name
       let text = ap (λ (ls : List Level). block_inside (body_of plan a.function) (reverse ls)) is.levels in
       let levels = ap (λ (ls : List Level). levels_of (body_of plan a.function) (reverse ls)) is.levels in
       let left =
-      ap (λ (sts : List Stmt). left_of sts a.cursor) text ∙ ap (λ (n : ℕ). left_of (body_of plan n) a.cursor) is.function ∙ ap (λ (o : Option Function). left_of (body_in o) a.cursor) h ∙ is.left f.body in
+      ap (λ (sts : List Stmt). statements_left sts a.cursor) text ∙ ap (λ (n : ℕ). statements_left (body_of plan n) a.cursor) is.function ∙ ap (λ (o : Option Function). statements_left (body_in o) a.cursor) h ∙ is.left f.body in
       rw (left, levels, is.function, is.returning, is.env, is.spawned, is.faulted, is.target) refl
 
   pub machine-begun : (old new : InstanceParts) → IsCallee number with_params target new.top → new.below.items ≡ old.below.items ++ old.top ∷ [] → new.rank ≡ old.rank → new.steps ≡ old.steps → new.leaving ≡ old.leaving → old.leaving ≡ false →
@@ -72,7 +72,7 @@ module _ (plan : PlanView) (number : ℕ) (f : Function) (vs : List Value) (name
 
   -- an instance before its first move
   pub first-begun : (i : InstanceParts) → IsCallee number with_params target i.top → i.below.items ≡ [] → i.rank ≡ 0 → i.steps ≡ plan.limits.budget → i.leaving ≡ false → target ≡ None → function_at (functions_of plan) number ≡ Some f →
-      begun plan number vs ≡ Stands (machine_of plan i)
+      function_begun plan number vs ≡ Stands (machine_of plan i)
   first-begun i is alone rank steps on to there = rw (there, on, callee-begun i.top is there, alone, rank, steps, to) refl
 
 -- a call that begins opens no scope and leaves none

@@ -11,9 +11,9 @@ use Rattle.strand_values.specs.declared.halt.Halt.TheVariants as halt
 use Rattle.strand_moves.specs.declared.frame.Level.{Level}
 use Rattle.strand_moves.specs.declared.instance_parts.InstanceParts.{InstanceParts}
 use Rattle.strand_moves.specs.declared.effects.Effects.TheVariants as effect
-use Rattle.strand_moves.specs.declared.effects.MoveResult.TheVariants as moved
+use Rattle.strand_moves.specs.declared.effects.MoveResult.TheVariants as move_result
 use Rattle.strand_moves.specs.Acts.{StaysUnlessMemory, Stays}
-use Rattle.strand_moves.specs.Cursors.{left_of}
+use Rattle.strand_moves.specs.Cursors.{statements_left}
 use Rattle.strand_moves.specs.Moves.{Makes, present_pedigree, run_of}
 use Rattle.strand_moves.specs.Quick.{EndsFrame, IsEmittedTo, IsSentMove, IsWent, Shortens, quiet, emitted_if_any}
 use Rattle.strand_moves.specs.InstanceParts.{IsInstance, KeepsNames, body_of, levels_of, machine_of, open_scopes, path_of, present_of, statements_of}
@@ -43,7 +43,7 @@ module _ {S : Type 0} (after : Event → S → S) (plan : PlanView) (old new : I
   did-not-end did e h = subst (EndsFrame after plan old from new to) e h
 
 -- where no statement and no scope of a frame is left
-module _ (plan : PlanView) (i : InstanceParts) (h : IsInstance plan i) (on : i.leaving ≡ false) (none : left_of (statements_of plan i.top) i.top.cursor ≡ []) (outside : i.top.levels.items ≡ []) where
+module _ (plan : PlanView) (i : InstanceParts) (h : IsInstance plan i) (on : i.leaving ≡ false) (none : statements_left (statements_of plan i.top) i.top.cursor ≡ []) (outside : i.top.levels.items ≡ []) where
   ends-by : (returning : Bool) → i.top.returning ≡ returning → move plan (path_of i) (machine_of plan i) ≡ return_move plan (path_of i) (machine_of plan i) returning
   ends-by returning is =
       let m = machine_of plan i in
@@ -71,10 +71,10 @@ module _ (plan : PlanView) (i : InstanceParts) (h : IsInstance plan i) (on : i.l
       shorter : Shortens i new
       shorter = let frames = ap (λ (x : InstanceParts). length x.below.items) is in omega (arith, paid, frames)
 
-      pub returned-alone : return_move plan (path_of i) (machine_of plan i) false ≡ run_of (moved.Went effect.Nothing) (machine_of plan new) → to ≡ from → EndsFrame after plan i from new to true
+      pub returned-alone : return_move plan (path_of i) (machine_of plan i) false ≡ run_of (move_result.Went effect.Nothing) (machine_of plan new) → to ≡ from → EndsFrame after plan i from new to true
       returned-alone moves still = ends (returning-stays i new is) (inl (ends-by false off ∙ moves, still)) shorter
 
-      pub returned-sent : {E : Type 0} (e : Event) (sent : Result Bool E) → return_move plan (path_of i) (machine_of plan i) false ≡ run_of (moved.Went (effect.Emitted e)) (machine_of plan new) → IfOk sent (IsEmittedTo after (Ok e) from to) →
+      pub returned-sent : {E : Type 0} (e : Event) (sent : Result Bool E) → return_move plan (path_of i) (machine_of plan i) false ≡ run_of (move_result.Went (effect.Emitted e)) (machine_of plan new) → IfOk sent (IsEmittedTo after (Ok e) from to) →
           IfOk sent (EndsFrame after plan i from new to)
       returned-sent e (Ok sent) moves w = subst (EndsFrame after plan i from new to) (sym w.0) (ends (returning-stays i new is) (inr (e, ends-by false off ∙ moves, w.1)) shorter)
       returned-sent e (Err x) moves w = tt

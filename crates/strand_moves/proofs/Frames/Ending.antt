@@ -7,7 +7,7 @@ use Rattle.serial_meaning.specs.declared.value.Value.{Value}
 use Rattle.serial_meaning.specs.declared.event.Event.TheVariants as event
 use Rattle.serial_meaning.specs.declared.event.FaultKind.{FaultKind}
 use Rattle.script_check.specs.Spawns.{spawns_in}
-use Rattle.strand_meaning.specs.Machine.{Stands, Gives, Emitted, back, here_of, sync_effects, with_scalar, return_move, Effect, Machine, Reached}
+use Rattle.strand_meaning.specs.Machine.{Stands, Gives, Emitted, back_in_caller, here_of, sync_effects, with_scalar, return_move, Effect, Machine, Reached}
 use Rattle.strand_values.specs.Environments.{EnvironmentView}
 use Rattle.strand_moves.specs.declared.frame.Frame.{Frame}
 use Rattle.strand_moves.specs.declared.instance_parts.InstanceParts.{InstanceParts}
@@ -26,11 +26,11 @@ reaches r = record { items = []; ending = Ok r }
 
 module _ (plan : PlanView) (path : List ℕ) (m : Machine) where
   by_function : (found : Option Function) → function_at (functions_of plan) m.top.function ≡ found → (v : Value) → result_of found m.top.env ≡ Ok v →
-      return_move plan path m true ≡ reaches (back m.below m.top.target v m.rank m.steps)
+      return_move plan path m true ≡ reaches (back_in_caller m.below m.top.target v m.rank m.steps)
   by_function (Some f) h v k = rw (h, k) refl
-  by_function None h v k = rw h (ap (λ (x : Value). reaches (back m.below m.top.target x m.rank m.steps)) (cc))
+  by_function None h v k = rw h (ap (λ (x : Value). reaches (back_in_caller m.below m.top.target x m.rank m.steps)) (cc))
 
-  pub value-known : (v : Value) → result_of (function_at (functions_of plan) m.top.function) m.top.env ≡ Ok v → return_move plan path m true ≡ reaches (back m.below m.top.target v m.rank m.steps)
+  pub value-known : (v : Value) → result_of (function_at (functions_of plan) m.top.function) m.top.env ≡ Ok v → return_move plan path m true ≡ reaches (back_in_caller m.below m.top.target v m.rank m.steps)
   value-known = by_function (function_at (functions_of plan) m.top.function) refl
 
   by_fault : (found : Option Function) → function_at (functions_of plan) m.top.function ≡ found → (kind : FaultKind) → result_of found m.top.env ≡ Err kind → return_move plan path m true ≡ faults kind (here_of path m ++ m.rank ∷ [])
@@ -73,14 +73,14 @@ module _ (plan : PlanView) (i : InstanceParts) (v : Value) (known : result_of (f
   value-received rest caller env new b e r s g t l =
       rw (r, s, g, t, l, e)
       (value-known plan (path_of i) (machine_of plan i) v known
-      ∙ ap (λ (items : List Frame). reaches (back (map (frame_of plan false) (reverse items)) i.top.target v i.rank i.steps)) b
-      ∙ ap (λ below. reaches (back below i.top.target v i.rank i.steps)) (below-more plan rest caller))
+      ∙ ap (λ (items : List Frame). reaches (back_in_caller (map (frame_of plan false) (reverse items)) i.top.target v i.rank i.steps)) b
+      ∙ ap (λ below. reaches (back_in_caller below i.top.target v i.rank i.steps)) (below-more plan rest caller))
 
   -- there is no frame below it
   pub value-returned : i.below.items ≡ [] → return_move plan (path_of i) (machine_of plan i) true ≡ reaches (Gives v)
   value-returned none =
       value-known plan (path_of i) (machine_of plan i) v known
-      ∙ ap (λ (items : List Frame). reaches (back (map (frame_of plan false) (reverse items)) i.top.target v i.rank i.steps)) none
+      ∙ ap (λ (items : List Frame). reaches (back_in_caller (map (frame_of plan false) (reverse items)) i.top.target v i.rank i.steps)) none
 
 -- the frame below it has the open scopes where it had none
 pub ended-stays : (i new : InstanceParts) (rest : List Frame) (caller : Frame) (env : EnvironmentView) → i.top.levels.items ≡ [] → i.below.items ≡ rest ++ caller ∷ [] → new.top ≡ record caller { env = env } → new.below.items ≡ rest →

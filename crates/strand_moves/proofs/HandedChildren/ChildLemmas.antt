@@ -8,7 +8,7 @@ use Rattle.script_grammar.specs.declared.tree.CallText.{CallText}
 use Rattle.script_grammar.specs.declared.tree.Stmt.{Stmt}
 use Rattle.script_grammar.specs.declared.tree.Act.TheOpen as act
 use Rattle.serial_meaning.specs.Values.{value_of, values_of, as_integer}
-use Rattle.serial_meaning.specs.Functions.{number_of, function_at}
+use Rattle.serial_meaning.specs.Functions.{function_number, function_at}
 use Rattle.serial_meaning.specs.Plan.{PlanView, functions_of}
 use Rattle.serial_meaning.specs.Exec.{count_of, with_loop_values}
 use Rattle.serial_meaning.specs.Open.{answer_filler}
@@ -33,7 +33,7 @@ strand_at i = present_of i ++ i.rank ∷ []
 
 module _ (plan : PlanView) (i : InstanceParts) (st : Stmt) where
   pub spawned-child : (target : Option Name) (c : CallText) (vs : List Value) (instead : Value) (function height : ℕ) (at path : List ℕ) (to : Option Name) (env : EnvironmentView) (received : InstanceParts) →
-      values_of c.args i.top.env.variables ≡ Ok vs → length (present_of i) + 1 < plan.limits.depth → function ≡ number_of (functions_of plan) c.name.bytes → at ≡ strand_at i → path ≡ strand_at i →
+      values_of c.args i.top.env.variables ≡ Ok vs → length (present_of i) + 1 < plan.limits.depth → function ≡ function_number (functions_of plan) c.name.bytes → at ≡ strand_at i → path ≡ strand_at i →
       instead ≡ answer_filler (function_at (functions_of plan) function) → env.variables ≡ with_scalar target instead i.top.env.variables → received ≡ record i { top = record i.top { env = env } } →
       height ≡ length i.below.items → to ≡ target →
       acted plan (present_of i) (machine_of plan i) st (spawn_to target c)
@@ -58,7 +58,7 @@ module _ (plan : PlanView) (i : InstanceParts) (st : Stmt) where
     looped-none none s passed e p =
         rw (e, p, is-begun, ← left) (pfor-none plan (present_of i) (machine_of plan i) st var lo hi target c l h vs n known-lo known-hi known-args counted none begins)
 
-    pub looped-some : 0 < n → (s : Effects) (passed : InstanceParts) (function : ℕ) (first : ℤ) (path : List ℕ) (trail : Trail) → function ≡ number_of (functions_of plan) c.name.bytes → first ≡ as_integer l → path ≡ strand_at begun →
+    pub looped-some : 0 < n → (s : Effects) (passed : InstanceParts) (function : ℕ) (first : ℤ) (path : List ℕ) (trail : Trail) → function ≡ function_number (functions_of plan) c.name.bytes → first ≡ as_integer l → path ≡ strand_at begun →
         s ≡ effect.Looped (event.Loop (strand_at begun)) (record { child = record { origin = origin.Loop function vs first path (record { lo = 0; hi = n }); trail = trail }; target = target }) → passed ≡ passed_on →
         acted plan (present_of i) (machine_of plan i) st (act.Pfor var lo hi target c) ≡ went (effects_of s) (machine_of plan passed)
     looped-some some s passed function first path trail f g a e p =

@@ -18,7 +18,7 @@ use Rattle.strand_values.specs.Gives.{Gives}
 use Rattle.strand_values.specs.declared.halt.Halt as values
 use Rattle.strand_moves.specs.declared.instance_parts.InstanceParts.{InstanceParts}
 use Rattle.strand_moves.specs.declared.effects.Spawning.{Spawning}
-use Rattle.strand_moves.specs.declared.effects.MoveResult.TheVariants as moved
+use Rattle.strand_moves.specs.declared.effects.MoveResult.TheVariants as move_result
 use Rattle.strand_moves.specs.declared.effects.Effects.TheVariants as effect
 use Rattle.strand_moves.specs.Acts.{Acts, Costs, IsKept, Stays}
 use Rattle.strand_moves.specs.Moves.{Makes, acted, spawn_to, present_pedigree}
@@ -65,7 +65,7 @@ module _ (i : InstanceParts) (n : ℕ) (less : n + 1 ≡ i.steps) where
 
   module _ (plan : PlanView) (sound : IsInstance plan i) (st : Stmt) (passed : HasPassedStatement plan i (Some st)) (new : InstanceParts) where
     pub spawn-kept : KeepsNames plan paid new → Stays paid new → Costs paid new → IsKept plan i new
-    spawn-kept named stays few = keeps-paid plan i paid n sound passed.0 refl less new named stays few (Ok (moved.Went effect.Nothing))
+    spawn-kept named stays few = keeps-paid plan i paid n sound passed.0 refl less new named stays few (Ok (move_result.Went effect.Nothing))
 
     pub spawn-did : (to : Option Name) (c : CallText) → DoesAs st to c → (done : Result Spawning values.Halt) (s : Spawning) → done ≡ Ok s → Acts plan st (spawn_to to c) paid new (spawn_as_move done) → HasSpawned plan i (Some st) new (Some s)
     spawn-did to c does done s is acts =

@@ -13,7 +13,7 @@ use Rattle.strand_values.specs.declared.halt.Halt as values
 use Rattle.strand_values.specs.declared.halt.Halt.TheVariants as halt
 use Rattle.strand_moves.specs.declared.effects.MoveResult.{MoveResult}
 use Rattle.strand_moves.specs.declared.instance_parts.InstanceParts.{InstanceParts}
-use Rattle.strand_moves.specs.Acts.{IsKept, Keeps}
+use Rattle.strand_moves.specs.Acts.{IsKept, KeepsInstance}
 use Rattle.strand_moves.specs.Moves.{Makes, Shows}
 use Rattle.strand_moves.specs.Quick.{emitted, quiet}
 use Rattle.strand_moves.proofs.Statements.Equations.{faults, went}
@@ -47,12 +47,12 @@ module _ (run : Run Effect Fault Reached) (strand : List ℕ) (m : Machine) wher
 
   -- by a call that shows these effects
   pub shows-made : {A : Type 0} (effects : List Effect) (r : Result MoveResult values.Halt) → IfOk r (Shows effects) → OnErr r (r ≡ Err halt.Memory) → OnOk r A → (A → run ≡ went effects m) → Makes run strand m r
-  shows-made effects (Ok moved) s f a g = g a ∙ sym (s m)
+  shows-made effects (Ok move_result) s f a g = g a ∙ sym (s m)
   shows-made effects (Err (halt.Fault kind)) s f a g = absurd (cc)
   shows-made effects (Err halt.Memory) s f a g = tt
 
 -- and what it keeps
-pub keeps-made : {A : Type 0} (plan : PlanView) (old new : InstanceParts) (r : Result MoveResult values.Halt) → OnErr r (r ≡ Err halt.Memory) → OnOk r A → (A → IsKept plan old new) → Keeps plan old new r
-keeps-made plan old new (Ok moved) f a g = g a
+pub keeps-made : {A : Type 0} (plan : PlanView) (old new : InstanceParts) (r : Result MoveResult values.Halt) → OnErr r (r ≡ Err halt.Memory) → OnOk r A → (A → IsKept plan old new) → KeepsInstance plan old new r
+keeps-made plan old new (Ok move_result) f a g = g a
 keeps-made plan old new (Err (halt.Fault kind)) f a g = absurd (cc)
 keeps-made plan old new (Err halt.Memory) f a g = tt

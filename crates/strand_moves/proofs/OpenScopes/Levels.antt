@@ -16,7 +16,7 @@ use Rattle.strand_moves.specs.declared.frame.Level.{Level}
 use Rattle.strand_moves.specs.declared.cursor.Cursor.{Cursor}
 use Rattle.strand_moves.specs.declared.instance_parts.InstanceParts.{InstanceParts}
 use Rattle.strand_moves.specs.Acts.{GoesIn, IsKept}
-use Rattle.strand_moves.specs.Cursors.{IsAfterStatement, left_of, scope_after, scope_at, scope_of}
+use Rattle.strand_moves.specs.Cursors.{IsAfterStatement, statements_left, scope_after, scope_at, scope_of}
 use Rattle.strand_moves.specs.Moves.{acted}
 use Rattle.strand_moves.proofs.Frames.CallLemmas.{is_below}
 use Rattle.strand_moves.specs.InstanceParts.{AreAround, IsInstance, body_of, block_inside, levels_of, machine_of, open_scopes, path_around, path_of, present_of, ranks_after, scopes_of, statements_of}
@@ -89,11 +89,11 @@ module _ (plan : PlanView) (i : InstanceParts) (h : IsInstance plan i) where
         let body = body_of plan i.top.function in
         let levels = ap (λ (ls : List Level). levels_of body (reverse ls)) there ∙ ap (λ (ls : List Level). levels_of body ls) (turned rest l) in
         let place = here-is plan i h ∙ stands.0 in
-        let next : Machine = record m { rank = l.rank + 1; top = record m.top { left = left_of (block_inside body (reverse rest)) l.cursor; levels = levels_of body (reverse rest); leaving = false } } in
+        let next : Machine = record m { rank = l.rank + 1; top = record m.top { left = statements_left (block_inside body (reverse rest)) l.cursor; levels = levels_of body (reverse rest); leaving = false } } in
         let machine : machine_of plan new ≡ next =
         ap (λ (x : InstanceParts). machine_of plan x) out.1
-        ∙ ap (λ (ls : List Level). record m { rank = l.rank + 1; top = record m.top { left = left_of (block_inside body (reverse ls)) l.cursor; levels = levels_of body (reverse ls); leaving = false } }) out.0 in
-        goes-out plan (path_of i) m (record { rank = l.rank; left = left_of (block_inside body (reverse rest)) l.cursor }) (levels_of body (reverse rest)) levels leaves
+        ∙ ap (λ (ls : List Level). record m { rank = l.rank + 1; top = record m.top { left = statements_left (block_inside body (reverse ls)) l.cursor; levels = levels_of body (reverse ls); leaving = false } }) out.0 in
+        goes-out plan (path_of i) m (record { rank = l.rank; left = statements_left (block_inside body (reverse rest)) l.cursor }) (levels_of body (reverse rest)) levels leaves
         ∙ ap (λ (p : List ℕ). went (Closes p ∷ []) next) place
         ∙ ap (λ (n : Machine). went (Closes (l.trail.path ++ l.rank ∷ []) ∷ []) n) (sym machine)
 
@@ -143,7 +143,7 @@ module _ (plan : PlanView) (i : InstanceParts) (h : IsInstance plan i) where
         joins plan (path_of i) m _ _ (ap (λ (ls : List Level). levels_of body ls) first.1.1) on
         ∙ ap (λ (p : List ℕ). went (Emitted (event.Sync (p ++ i.rank ∷ [])) ∷ sync_effects i.top.spawned) (machine_of plan joined)) (here-is plan i h)
 
-    pub join-kept : left_of (statements_of plan i.top) i.top.cursor ≡ [] → IsKept plan i joined
+    pub join-kept : statements_left (statements_of plan i.top) i.top.cursor ≡ [] → IsKept plan i joined
     join-kept none =
         let few = h.few in
         let before : (if i.leaving then 0 else i.rank) ≡ i.rank = ap (λ (b : Bool). if b then 0 else i.rank) on in
@@ -169,7 +169,7 @@ module _ (i new : InstanceParts) (inner : Trail) where
   abbrev pub Begins : Type 0
   Begins =
       (new.top.levels.items ≡ i.top.levels.items ++ record { trail = i.trail; rank = i.rank; cursor = i.top.cursor } ∷ [])
-      × ((body : List Stmt) → left_of body new.top.cursor ≡ body)
+      × ((body : List Stmt) → statements_left body new.top.cursor ≡ body)
       × (new ≡ record i { trail = inner; rank = 0; top = record i.top { levels = new.top.levels; cursor = new.top.cursor } })
 
   abbrev last : Level

@@ -16,7 +16,7 @@ use Rattle.script_grammar.specs.declared.tree.Act.TheOpen as act
 use Rattle.script_grammar.specs.declared.tree.Act.TheOpen.{Act-F}
 use Rattle.serial_meaning.specs.Runs.{Run}
 use Rattle.serial_meaning.specs.Values.{Env, value_of, values_of, slot_of, items_of, as_integer, is_true, at_index}
-use Rattle.serial_meaning.specs.Functions.{number_of, function_at}
+use Rattle.serial_meaning.specs.Functions.{function_number, function_at}
 use Rattle.serial_meaning.specs.Plan.{PlanView, functions_of, drawn}
 use Rattle.serial_meaning.specs.Exec.{with_slot, does, bound, set_item, zeros, count_of, paid_from}
 use Rattle.serial_meaning.specs.Open.{filler}
@@ -29,7 +29,7 @@ use Rattle.serial_meaning.specs.declared.event.Fault.{Fault}
 use Rattle.serial_meaning.specs.declared.event.Event.TheVariants as event
 use Rattle.serial_meaning.specs.declared.origin.Origin.{Origin}
 use Rattle.serial_meaning.specs.declared.origin.Origin.TheVariants as origin
-use Rattle.strand_meaning.specs.Machine.{Spawned, Effect, Emitted, Handed, Opens, handing, here_of, inside, destination_of, Frame, Machine, Reached, Stands, state_of, with_left, with_scalar, machine_inside, reached, statement_move, sync_effects}
+use Rattle.strand_meaning.specs.Machine.{Spawned, Effect, Emitted, Handed, Opens, handing, here_of, inside, child_destination, Frame, Machine, Reached, Stands, state_of, with_left, with_scalar, machine_inside, reached, statement_move, sync_effects}
 use Rattle.strand_moves.specs.Moves.{acted, call_to, spawn_to}
 
 abbrev pub with_env : Machine → Env → Machine
@@ -50,7 +50,7 @@ after_statement m n left = record m { steps = n; top = record m.top { left = lef
 
 module _ (plan : PlanView) (here : List ℕ) (m : Machine) (st : Stmt) (left : List Stmt) where
   by_act : (n : ℕ) (a : Act-F Act Stmt) →
-      (let r = does (handing plan (destination_of (length m.below) a)) plan here inside (length m.below) st a (record (state_of m) { steps = n }) in
+      (let r = does (handing plan (child_destination (length m.below) a)) plan here inside (length m.below) st a (record (state_of m) { steps = n }) in
       let run : Run Effect Fault Reached = record { items = r.items; ending = reached plan (with_left m left) (machine_inside plan st a left m) r.ending } in run)
       ≡ acted plan here (after_statement m n left) st a
   unfolding acted
@@ -80,7 +80,7 @@ module _ (plan : PlanView) (path : List ℕ) (m : Machine) (st : Stmt) (left : L
   paid-move n h =
       let a = out-Act (out-Stmt st).act in
       ap (λ (k : ℕ).
-      let r = paid_from (handing plan (destination_of (length m.below) a)) plan (here_of path m) k (state_of m) (λ s. does (handing plan (destination_of (length m.below) a)) plan (here_of path m) inside (length m.below) st a s) in
+      let r = paid_from (handing plan (child_destination (length m.below) a)) plan (here_of path m) k (state_of m) (λ s. does (handing plan (child_destination (length m.below) a)) plan (here_of path m) inside (length m.below) st a s) in
       let run : Run Effect Fault Reached = record { items = r.items; ending = reached plan (with_left m left) (machine_inside plan st a left m) r.ending } in run) h
       ∙ by_act plan (here_of path m) m st left n a
 
@@ -195,7 +195,7 @@ module _ (plan : PlanView) (path : List ℕ) (m : Machine) (st : Stmt) where
   -- children and calls
 
   abbrev pub child : CallText → List Value → Origin
-  child c vs = origin.Instance (number_of (functions_of plan) c.name.bytes) vs (path ++ m.rank ∷ [])
+  child c vs = origin.Instance (function_number (functions_of plan) c.name.bytes) vs (path ++ m.rank ∷ [])
 
   pub spawn : (target : Option Name) (c : CallText) (vs : List Value) (env : Env) → values_of c.args m.top.env ≡ Ok vs → nat_lt (length path + 1) plan.limits.depth ≡ true →
       env ≡ with_scalar target (filler plan (child c vs)) m.top.env →
@@ -215,8 +215,8 @@ module _ (plan : PlanView) (path : List ℕ) (m : Machine) (st : Stmt) where
   spawn-depth-fault None c vs h k = rw (h, k) refl
   spawn-depth-fault (Some x) c vs h k = rw (h, k) refl
 
-  pub call : (target : Option Name) (c : CallText) (vs : List Value) (f : Function) → values_of c.args m.top.env ≡ Ok vs → nat_lt (length m.below) 256 ≡ true → function_at (functions_of plan) (number_of (functions_of plan) c.name.bytes) ≡ Some f →
-      acted plan path m st (call_to target c) ≡ went [] (record m { top = callee target (number_of (functions_of plan) c.name.bytes) f vs; below = m.top ∷ m.below })
+  pub call : (target : Option Name) (c : CallText) (vs : List Value) (f : Function) → values_of c.args m.top.env ≡ Ok vs → nat_lt (length m.below) 256 ≡ true → function_at (functions_of plan) (function_number (functions_of plan) c.name.bytes) ≡ Some f →
+      acted plan path m st (call_to target c) ≡ went [] (record m { top = callee target (function_number (functions_of plan) c.name.bytes) f vs; below = m.top ∷ m.below })
   unfolding acted
   call None c vs f h k j = rw (h, k, j) refl
   call (Some x) c vs f h k j = rw (h, k, j) refl

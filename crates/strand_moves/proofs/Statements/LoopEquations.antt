@@ -7,7 +7,7 @@ use Rattle.script_grammar.specs.declared.tree.CallText.{CallText}
 use Rattle.script_grammar.specs.declared.tree.Stmt.{Stmt}
 use Rattle.script_grammar.specs.declared.tree.Act.TheOpen as act
 use Rattle.serial_meaning.specs.Values.{value_of, values_of, as_integer}
-use Rattle.serial_meaning.specs.Functions.{number_of}
+use Rattle.serial_meaning.specs.Functions.{function_number}
 use Rattle.serial_meaning.specs.Plan.{PlanView, functions_of}
 use Rattle.serial_meaning.specs.Exec.{count_of, has_room, with_loop_values, fits_depth}
 use Rattle.serial_meaning.specs.Open.{is_zero}
@@ -40,7 +40,7 @@ module _ (plan : PlanView) (path : List ℕ) (m : Machine) (st : Stmt) (var : Na
   module _ (l h : Value) (vs : List Value) (n : ℕ) (known-lo : value_of lo m.top.env ≡ Ok l) (known-hi : value_of hi m.top.env ≡ Ok h) (known-args : values_of c.args m.top.env ≡ Ok vs)
       (counted : n ≡ count_of (as_integer h -ℤ as_integer l)) where
     abbrev pub range_child : Origin
-    range_child = origin.Loop (number_of (functions_of plan) c.name.bytes) vs (as_integer l) (path ++ m.rank ∷ []) (record { lo = 0; hi = n })
+    range_child = origin.Loop (function_number (functions_of plan) c.name.bytes) vs (as_integer l) (path ++ m.rank ∷ []) (record { lo = 0; hi = n })
 
     -- a loop whose steps there are, whose target has room, and whose pedigrees are short enough
     abbrev pub looped_on : Machine

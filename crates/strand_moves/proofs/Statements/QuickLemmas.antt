@@ -13,7 +13,7 @@ use Rattle.strand_values.specs.declared.halt.Halt.TheVariants as halt
 use Rattle.strand_moves.specs.declared.cursor.Cursor.{Cursor}
 use Rattle.strand_moves.specs.declared.instance_parts.InstanceParts.{InstanceParts}
 use Rattle.strand_moves.specs.Acts.{Acts, BeginsOne, StaysUnlessMemory}
-use Rattle.strand_moves.specs.Cursors.{IsAfterStatement, left_of, PassesStatement}
+use Rattle.strand_moves.specs.Cursors.{IsAfterStatement, statements_left, PassesStatement}
 use Rattle.strand_moves.specs.InstanceParts.{IsInstance, machine_of, path_of, present_of, statements_of}
 use Rattle.strand_moves.specs.Moves.{acted, MovesTrail, present_pedigree}
 use Rattle.strand_moves.specs.Quick.{HasCalled, HasEmitted, IsDone, IsQuiet, IsEmittedTo, IsWent, emitted, is_plain, is_emitting, quiet}
@@ -146,7 +146,7 @@ module _ (plan : PlanView) (i : InstanceParts) where
     passed : move plan (path_of i) (machine_of plan i) ≡ acted plan (present_of i) (machine_of plan (with_cursor n cursor)) st (out-Act (out-Stmt st).act)
     passed =
         let m = machine_of plan i in
-        let left = left_of text cursor in
+        let left = statements_left text cursor in
         let one : m.steps ≡ suc n = omega arith in
         moves-on plan (path_of i) m st left passes.first ∙ paid-move plan (path_of i) (record m { top = record m.top { left = left } }) st left n one
         ∙ ap (λ (p : List ℕ). acted plan p (machine_of plan (with_cursor n cursor)) st (out-Act (out-Stmt st).act)) here
@@ -162,7 +162,7 @@ module _ (plan : PlanView) (i : InstanceParts) where
     quick-showed effects new acts = passed ∙ acts
 
   -- a statement is left, so the sync at a scope's end isn't after it
-  pub passed-on : (st : Stmt) (left : List Stmt) → IsInstance plan i → left_of text i.top.cursor ≡ st ∷ left → i.leaving ≡ false
+  pub passed-on : (st : Stmt) (left : List Stmt) → IsInstance plan i → statements_left text i.top.cursor ≡ st ∷ left → i.leaving ≡ false
   passed-on st left h some = by_flag i.leaving refl
     where
       by_flag : (b : Bool) → i.leaving ≡ b → i.leaving ≡ false
@@ -170,7 +170,7 @@ module _ (plan : PlanView) (i : InstanceParts) where
       by_flag false e = e
 
   -- an instance whose cursor passed
-  pub cursor-sound : (cursor : Cursor) → IsInstance plan i → (i.leaving ≡ true → left_of text cursor ≡ []) → IsInstance plan (with_cursor i.steps cursor)
+  pub cursor-sound : (cursor : Cursor) → IsInstance plan i → (i.leaving ≡ true → statements_left text cursor ≡ []) → IsInstance plan (with_cursor i.steps cursor)
   cursor-sound cursor h none =
       record {
         strand = record { fits = h.strand.fits; within = h.strand.within; few = h.strand.few };

@@ -113,8 +113,8 @@ impl Gate for RunsTogether {
 #[test]
 fn two_seeds_run_at_once(rt: HostRuntime) -> Result<(), Fail> {
     let gate = RunsTogether(Meeting::of(2));
-    let told = guarded(&rt, "batch --seeds 1,2 --workers 2", ONE.as_bytes(), &gate)?;
+    let printed = guarded(&rt, "batch --seeds 1,2 --workers 2", ONE.as_bytes(), &gate)?;
     assert!(rt; gate.0.took_place());
-    compare(&rt, "batch", &told, 0, "seed 1\n1\nseed 2\n1\n", "");
+    compare(&rt, "batch", &printed, 0, "seed 1\n1\nseed 2\n1\n", "");
     Ok(())
 }

@@ -1,6 +1,6 @@
 // The commands and their words, and what the streams do to them.
 
-use super::{DRAWS, Host, ONE, Told, call, compare, generated, prints, refuses, same, words};
+use super::{DRAWS, Host, ONE, Printed, call, compare, generated, prints, refuses, same, words};
 use engine::{OpenGate, pedrun};
 use ped_io::{MemSink, MemSource};
 use std::alloc::{AllocError, Global};
@@ -221,7 +221,7 @@ fn words_that_give_no_command_are_refused(rt: HostRuntime) -> Result<(), Fail> {
 }
 
 /// A run whose read of this number fails, of 8 bytes at most.
-fn run_reading<R: Host>(rt: &R, planned: u64) -> Result<Told, Fail> {
+fn run_reading<R: Host>(rt: &R, planned: u64) -> Result<Printed, Fail> {
     let alloc = rt.alloc();
     let script = ONE.as_bytes().to_vec(alloc)?;
     let reads = Vec::from_slice(alloc, &[planned])?;
@@ -232,8 +232,8 @@ fn run_reading<R: Host>(rt: &R, planned: u64) -> Result<Told, Fail> {
 #[test]
 fn a_failed_read_is_told(rt: HostRuntime) -> Result<(), Fail> {
     for planned in 0..5 {
-        let told = run_reading(&rt, planned)?;
-        compare(&rt, "run", &told, 4, "", "read fault\n");
+        let printed = run_reading(&rt, planned)?;
+        compare(&rt, "run", &printed, 4, "", "read fault\n");
     }
     compare(&rt, "run", &run_reading(&rt, 5)?, 0, "1\n", "");
     Ok(())
@@ -242,7 +242,7 @@ fn a_failed_read_is_told(rt: HostRuntime) -> Result<(), Fail> {
 const THREE_DRAWS: &str = "run --gamma 1";
 
 /// A run whose write of this number fails, of 4 bytes at most.
-fn run_writing<R: Host>(rt: &R, planned: u64) -> Result<Told, Fail> {
+fn run_writing<R: Host>(rt: &R, planned: u64) -> Result<Printed, Fail> {
     let alloc = rt.alloc();
     let script = DRAWS.as_bytes().to_vec(alloc)?;
     let writes = Vec::from_slice(alloc, &[planned])?;
@@ -263,11 +263,11 @@ static FRONTS: [(u64, &str); 3] = [(0, ""), (1, "21\n2"), (2, "21\n210\n9")];
 #[test]
 fn a_failed_write_is_told(rt: HostRuntime) -> Result<(), Fail> {
     for &(planned, front) in &FRONTS {
-        let told = run_writing(&rt, planned)?;
-        compare(&rt, THREE_DRAWS, &told, 5, front, "write fault\n");
+        let printed = run_writing(&rt, planned)?;
+        compare(&rt, THREE_DRAWS, &printed, 5, front, "write fault\n");
     }
-    let told = run_writing(&rt, 3)?;
-    compare(&rt, THREE_DRAWS, &told, 0, "21\n210\n903\n", "");
+    let printed = run_writing(&rt, 3)?;
+    compare(&rt, THREE_DRAWS, &printed, 0, "21\n210\n903\n", "");
     Ok(())
 }
 

@@ -39,8 +39,8 @@ fn refusals_have_their_places(rt: HostRuntime) -> Result<(), Fail> {
 #[test]
 fn a_byte_beyond_ascii_is_refused(rt: HostRuntime) -> Result<(), Fail> {
     for line in ["run", "check", "fmt"] {
-        let told = plain(&rt, line, b"\xff")?;
-        compare(&rt, line, &told, 3, "", "script: not ASCII at byte 0\n");
+        let printed = plain(&rt, line, b"\xff")?;
+        compare(&rt, line, &printed, 3, "", "script: not ASCII at byte 0\n");
     }
     Ok(())
 }
@@ -126,8 +126,8 @@ fn fronts_are_refused_by_what_is_missing(rt: HostRuntime) -> Result<(), Fail> {
     let script = ONE.as_bytes();
     for length in 0..script.len() {
         let refusal = line_of_front(rt.alloc(), length)?;
-        let told = plain(&rt, "run", &script[..length])?;
-        compare(&rt, "run", &told, 3, "", refusal.as_str());
+        let printed = plain(&rt, "run", &script[..length])?;
+        compare(&rt, "run", &printed, 3, "", refusal.as_str());
     }
     Ok(())
 }
@@ -136,9 +136,9 @@ fn fronts_are_refused_by_what_is_missing(rt: HostRuntime) -> Result<(), Fail> {
 fn fronts_of_a_script_are_refused(rt: HostRuntime) -> Result<(), Fail> {
     let script = SQUARES.as_bytes();
     for length in 0..script.len() {
-        let told = plain(&rt, "run", &script[..length])?;
-        same(&rt, length, told.code, 3);
-        same(&rt, length, told.out.as_str(), "");
+        let printed = plain(&rt, "run", &script[..length])?;
+        same(&rt, length, printed.code, 3);
+        same(&rt, length, printed.out.as_str(), "");
     }
     Ok(())
 }
@@ -228,10 +228,10 @@ fn scripts_have_at_most_1024_functions(rt: HostRuntime) -> Result<(), Fail> {
 fn the_longest_script_runs(rt: HostRuntime) -> Result<(), Fail> {
     let mut script = ONE.as_bytes().to_vec(rt.alloc())?;
     script.resize(LONGEST, b' ')?;
-    let told = plain(&rt, "run", &script)?;
-    compare(&rt, "run", &told, 0, "1\n", "");
+    let printed = plain(&rt, "run", &script)?;
+    compare(&rt, "run", &printed, 0, "1\n", "");
     script.push(b' ')?;
-    let told = plain(&rt, "run", &script)?;
-    compare(&rt, "run", &told, 3, "", "script: too long\n");
+    let printed = plain(&rt, "run", &script)?;
+    compare(&rt, "run", &printed, 3, "", "script: too long\n");
     Ok(())
 }

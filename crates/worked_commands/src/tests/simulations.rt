@@ -85,11 +85,11 @@ fn simulate_all<R: Host>(rt: &R, script: &str) -> Result<(), Fail> {
     for workers in [1u32, 2, 5, 64] {
         for number in 0..4u64 {
             let line = format!(in alloc; "sim --workers {workers} --number {number}")?;
-            let told = plain(rt, line.as_str(), script.as_bytes())?;
-            assert_eq!(rt; told.code, run.code, "{line}");
-            assert!(rt; told.out.as_str().starts_with("worker "), "{line}");
+            let printed = plain(rt, line.as_str(), script.as_bytes())?;
+            assert_eq!(rt; printed.code, run.code, "{line}");
+            assert!(rt; printed.out.as_str().starts_with("worker "), "{line}");
             assert_eq!(rt;
-                lines_after_first(told.out.as_str()),
+                lines_after_first(printed.out.as_str()),
                 run.out.as_str(),
                 "{line}"
             );
@@ -114,13 +114,13 @@ fn a_simulation_tells_faults_of_its_streams(rt: HostRuntime) -> Result<(), Fail>
     for &(planned, front) in &FRONTS {
         let script = ONE_CHILD.as_bytes().to_vec(alloc)?;
         let writes = vec![in alloc; planned]?;
-        let told = call(&rt, line, script, 4, Vec::new(alloc), writes, &OpenGate)?;
-        compare(&rt, line, &told, 5, front, "write fault\n");
+        let printed = call(&rt, line, script, 4, Vec::new(alloc), writes, &OpenGate)?;
+        compare(&rt, line, &printed, 5, front, "write fault\n");
     }
     let script = ONE_CHILD.as_bytes().to_vec(alloc)?;
     let reads = vec![in alloc; 1u64]?;
-    let told = call(&rt, line, script, 8, reads, Vec::new(alloc), &OpenGate)?;
-    compare(&rt, line, &told, 4, "", "read fault\n");
+    let printed = call(&rt, line, script, 8, reads, Vec::new(alloc), &OpenGate)?;
+    compare(&rt, line, &printed, 4, "", "read fault\n");
     ends(
         &rt,
         line,

@@ -107,9 +107,9 @@ static AT_ONCE: [(u64, &str, &str, &str); 2] = [
 fn workers_work_at_once(rt: HostRuntime) -> Result<(), Fail> {
     for &(children, line, script, output) in &AT_ONCE {
         let gate = Together(Meeting::of(children));
-        let told = guarded(&rt, line, script.as_bytes(), &gate)?;
+        let printed = guarded(&rt, line, script.as_bytes(), &gate)?;
         assert!(rt; gate.0.took_place(), "{line}");
-        compare(&rt, line, &told, 0, output, "");
+        compare(&rt, line, &printed, 0, output, "");
     }
     Ok(())
 }
@@ -137,9 +137,9 @@ impl Gate for HeldAtItsEnd {
 fn an_answer_is_put_before_its_task_leaves(rt: HostRuntime) -> Result<(), Fail> {
     let gate = HeldAtItsEnd(Meeting::of(1));
     let line = "run --workers 2";
-    let told = guarded(&rt, line, CHILD_AFTER_A_SYNC.as_bytes(), &gate)?;
+    let printed = guarded(&rt, line, CHILD_AFTER_A_SYNC.as_bytes(), &gate)?;
     assert!(rt; gate.0.took_place());
-    compare(&rt, line, &told, 0, "1\n2\n", "");
+    compare(&rt, line, &printed, 0, "1\n2\n", "");
     Ok(())
 }
 

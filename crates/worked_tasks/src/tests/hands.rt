@@ -60,7 +60,7 @@ fn looks(rt: &impl Abort, alloc: Global, hand: &mut Hand) -> Result<(), Fail> {
     turns(rt, alloc, hand, &OpenGate, &["ran"])?;
     assert!(rt; matches!(hand.look_newest(alloc)?, Looked::Nothing));
     turns(rt, alloc, hand, &OpenGate, &["answered", "popped", "ran"])?;
-    assert!(rt; matches!(hand.look_newest(alloc)?, Looked::Goes));
+    assert!(rt; matches!(hand.look_newest(alloc)?, Looked::Resumes));
     turns(rt, alloc, hand, &OpenGate, &["ended"])
 }
 

@@ -8,7 +8,7 @@ use serial_meaning::{FaultKind, Value};
 use std::alloc::Global;
 use std::process::Abort;
 use std::test::Fail;
-use strand_values::{Halt, count, is_true, iterations, number};
+use strand_values::{Halt, count_of, is_true, iteration_count, number};
 
 fn int(value: i64) -> Expr {
     Expr::Number(Number { at: 0, value })
@@ -453,10 +453,15 @@ fn the_first_fault_of_arguments_is_told(rt: HostRuntime) -> Result<(), Fail> {
 
 #[test]
 fn a_loop_has_the_integers_between_its_bounds(rt: HostRuntime) {
-    for (lo, hi, turns) in [(3, 5, 2), (5, 3, 0), (LEAST, GREATEST, u64::MAX)] {
-        same(&rt, format_args!("{lo}..{hi}"), iterations(lo, hi), turns);
+    for (lo, hi, wanted) in [(3, 5, 2), (5, 3, 0), (LEAST, GREATEST, u64::MAX)] {
+        same(
+            &rt,
+            format_args!("{lo}..{hi}"),
+            iteration_count(lo, hi),
+            wanted,
+        );
     }
-    for (number, turns) in [(12, 12), (-1, 0)] {
-        same(&rt, number, count(number), turns);
+    for (number, wanted) in [(12, 12), (-1, 0)] {
+        same(&rt, number, count_of(number), wanted);
     }
 }

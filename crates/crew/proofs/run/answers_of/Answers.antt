@@ -23,7 +23,7 @@ loop-root-preserved g c =
     record {
       roots = omega (arith, was.roots, ap length roots.0, roots.1);
       answers = λ rest h. subst (λ (l : List AnswerView). AreRootAnswers c.args.roots.items (l ++ rest)) (sym c.in_ok-push.ensures.items)
-          (one-more-answer _ _ _ c.in-Some.root c.answer_of.result c.loop-root.answers.items rest was.answers roots.0 c.answer_of.ensures.tag c.answer_of.ensures.meant h);
+          (one-more-answer _ _ _ c.in-Some.root c.roots_answer.result c.loop-root.answers.items rest was.answers roots.0 c.roots_answer.ensures.tag c.roots_answer.ensures.meant h);
     }
 
 pub returns : goal.returns

@@ -10,5 +10,5 @@ returns-in-Ok-blocked_line-clause-delivered g c =
     let ending : c.args.report.now.ending ≡ Blocked c.in-Blocked.fault = search rules in
     let line : c.deref-in-Ok-blocked_line.result.now ≡ blocked_line c.in-Blocked.fault.at = search rules in
     blocked_delivers c.args.report.now.output.items c.args.report.now.ending (watched g.K.Sink.written g.K.Sink.faults c.args.out.now c.args.out.now)
-    (watched g.E.Sink.written g.E.Sink.faults c.args.err.now c.tell_none-in-Ok-blocked_line.new.err)
-    c.in-Blocked.fault c.deref-in-Ok-blocked_line.result.now c.tell_none-in-Ok-blocked_line.result ending c.tell_none-in-Ok-blocked_line.ensures.status line c.tell_none-in-Ok-blocked_line.ensures.told
+    (watched g.E.Sink.written g.E.Sink.faults c.args.err.now c.write_no_strand-in-Ok-blocked_line.new.err)
+    c.in-Blocked.fault c.deref-in-Ok-blocked_line.result.now c.write_no_strand-in-Ok-blocked_line.result ending c.write_no_strand-in-Ok-blocked_line.ensures.status line c.write_no_strand-in-Ok-blocked_line.ensures.told

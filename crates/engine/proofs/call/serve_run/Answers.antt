@@ -1,6 +1,6 @@
 use Rattle.ped_words.specs.declared.command.Command.TheVariants.{Run}
 use Rattle.engine.specs.Promise.{watched}
-use Rattle.engine.specs.Report.{shown}
+use Rattle.engine.specs.Report.{report_view}
 use Rattle.engine.proofs.CallLemmas.{delivered_answers}
 use Rattle.engine.proofs.call.serve_run.Goals as goal
 
@@ -9,4 +9,4 @@ returns-in-Ok-clause-answers g c =
     delivered_answers (Run c.args.settings c.args.workers) (watched g.S.Source.left g.S.Source.faults c.args.source.now c.prepare_run.new.source)
     (watched g.K.Sink.written g.K.Sink.faults c.args.out.now c.deliver.new.out)
     (watched g.E.Sink.written g.E.Sink.faults c.args.err.now c.deliver.new.err)
-    (shown c.in-Ok.report) c.in-Ok.ensures.ready c.deliver.result c.deliver.ensures.delivered
+    (report_view c.in-Ok.report) c.in-Ok.ensures.ready c.deliver.result c.deliver.ensures.delivered

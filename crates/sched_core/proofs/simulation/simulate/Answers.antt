@@ -8,14 +8,14 @@ loop-next-init c =
     let small : c.args.number < 2 ^ 64 = omega (arith, c.ranges.number) in
     starts (arc_value c.args.plan.now) c.args.workers c.args.number c.seed_from_u64-words.result c.in_ok-state.state c.in_ok-state.ensures.begun c.in_ok-state.ensures.consistent c.requires.0 c.requires.1 small c.seed_from_u64-words.ensures.same
 
-pub go_on-requires-clause-consistent : goal.go_on-requires-clause-consistent
-go_on-requires-clause-consistent c = c.loop-next.invariant.consistent
+pub play_step-requires-clause-consistent : goal.play_step-requires-clause-consistent
+play_step-requires-clause-consistent c = c.loop-next.invariant.consistent
 
-pub go_on-requires-clause-few : goal.go_on-requires-clause-few
-go_on-requires-clause-few c = c.loop-next.invariant.few
+pub play_step-requires-clause-few : goal.play_step-requires-clause-few
+play_step-requires-clause-few c = c.loop-next.invariant.few
 
-pub go_on-requires-clause-root : goal.go_on-requires-clause-root
-go_on-requires-clause-root c = c.loop-next.invariant.root
+pub play_step-requires-clause-root : goal.play_step-requires-clause-root
+play_step-requires-clause-root c = c.loop-next.invariant.root
 
 pub loop-next-preserved : goal.loop-next-preserved
 loop-next-preserved c =

@@ -1,7 +1,7 @@
 use Rattle.std.proofs.Common.{◌≡◌, ◌<◌, true, false, Some, slice_get, slice_set, length, map, refl, sym, ◌∙◌, arith}
 use Rattle.sched_meaning.specs.Simulation.{is_free}
 use Rattle.sched_core.specs.Cores.{worker_of}
-use Rattle.sched_core.specs.Lawful.{has_waiting}
+use Rattle.sched_core.specs.Lawful.{has_stalled}
 use Rattle.sched_core.specs.Moves.{Leaves, Stalls, TakesJob, WorkerChanges}
 use Rattle.sched_core.proofs.Worked.Lists.{length-set}
 use Rattle.sched_core.proofs.Worked.Placing.{change-at, first-true, get-at, is-below, on-ok}
@@ -17,7 +17,7 @@ index-requires c =
     let w = c.args.w in
     let j = c.leave-job.result in
     let mid = slice_set ws w c.leave-job.new.self in
-    let free : is_free (slice_get (map worker_of ws) w) ≡ true = first-true (is_free (slice_get (map worker_of ws) w)) (has_waiting c.args.place (slice_get (map worker_of ws) w)) c.requires.lawful in
+    let free : is_free (slice_get (map worker_of ws) w) ≡ true = first-true (is_free (slice_get (map worker_of ws) w)) (has_stalled c.args.place (slice_get (map worker_of ws) w)) c.requires.lawful in
     let leaves : WorkerChanges w (Leaves c.args.place j) ws mid = change-at w (Leaves c.args.place j) ws c.index_mut.result.now c.leave-job.new.self c.index_mut.ensures.value (is-below is_free refl ws w free) c.leave-job.ensures in
     let is = stalled-job s c.requires.consistent w c.args.place leaves.worker leaves.there j leaves.does.0 in
     let small : j.number < length s.nodes.items = slice_get_within s.nodes.items j.number is.node is.there in
@@ -30,7 +30,7 @@ resume-requires c =
     let w = c.args.w in
     let j = c.leave-job.result in
     let mid = slice_set ws w c.leave-job.new.self in
-    let free : is_free (slice_get (map worker_of ws) w) ≡ true = first-true (is_free (slice_get (map worker_of ws) w)) (has_waiting c.args.place (slice_get (map worker_of ws) w)) c.requires.lawful in
+    let free : is_free (slice_get (map worker_of ws) w) ≡ true = first-true (is_free (slice_get (map worker_of ws) w)) (has_stalled c.args.place (slice_get (map worker_of ws) w)) c.requires.lawful in
     let leaves : WorkerChanges w (Leaves c.args.place j) ws mid = change-at w (Leaves c.args.place j) ws c.index_mut.result.now c.leave-job.new.self c.index_mut.ensures.value (is-below is_free refl ws w free) c.leave-job.ensures in
     let is = stalled-job s c.requires.consistent w c.args.place leaves.worker leaves.there j leaves.does.0 in
     let small : j.number < length s.nodes.items = slice_get_within s.nodes.items j.number is.node is.there in
@@ -43,7 +43,7 @@ index_mut-requires-then-is_ready c =
     let s = c.args.state.now in
     let ws = s.workers.items in
     let w = c.args.w in
-    let free : is_free (slice_get (map worker_of ws) w) ≡ true = first-true (is_free (slice_get (map worker_of ws) w)) (has_waiting c.args.place (slice_get (map worker_of ws) w)) c.requires.lawful in
+    let free : is_free (slice_get (map worker_of ws) w) ≡ true = first-true (is_free (slice_get (map worker_of ws) w)) (has_stalled c.args.place (slice_get (map worker_of ws) w)) c.requires.lawful in
     let small : w < length ws = is-below is_free refl ws w free in
     omega (arith, small, s.workers.ok.0)
 
@@ -54,7 +54,7 @@ returns-then-is_ready c =
     let w = c.args.w in
     let j = c.leave-job.result in
     let mid = slice_set ws w c.leave-job.new.self in
-    let free : is_free (slice_get (map worker_of ws) w) ≡ true = first-true (is_free (slice_get (map worker_of ws) w)) (has_waiting c.args.place (slice_get (map worker_of ws) w)) c.requires.lawful in
+    let free : is_free (slice_get (map worker_of ws) w) ≡ true = first-true (is_free (slice_get (map worker_of ws) w)) (has_stalled c.args.place (slice_get (map worker_of ws) w)) c.requires.lawful in
     let leaves : WorkerChanges w (Leaves c.args.place j) ws mid = change-at w (Leaves c.args.place j) ws c.index_mut.result.now c.leave-job.new.self c.index_mut.ensures.value (is-below is_free refl ws w free) c.leave-job.ensures in
     let is = stalled-job s c.requires.consistent w c.args.place leaves.worker leaves.there j leaves.does.0 in
     let small : j.number < length s.nodes.items = slice_get_within s.nodes.items j.number is.node is.there in
@@ -69,7 +69,7 @@ index_mut-requires-2 c =
     let s = c.args.state.now in
     let ws = s.workers.items in
     let w = c.args.w in
-    let free : is_free (slice_get (map worker_of ws) w) ≡ true = first-true (is_free (slice_get (map worker_of ws) w)) (has_waiting c.args.place (slice_get (map worker_of ws) w)) c.requires.lawful in
+    let free : is_free (slice_get (map worker_of ws) w) ≡ true = first-true (is_free (slice_get (map worker_of ws) w)) (has_stalled c.args.place (slice_get (map worker_of ws) w)) c.requires.lawful in
     let small : w < length ws = is-below is_free refl ws w free in
     omega (arith, small, s.workers.ok.0)
 
@@ -80,7 +80,7 @@ returns c =
     let w = c.args.w in
     let j = c.leave-job.result in
     let mid = slice_set ws w c.leave-job.new.self in
-    let free : is_free (slice_get (map worker_of ws) w) ≡ true = first-true (is_free (slice_get (map worker_of ws) w)) (has_waiting c.args.place (slice_get (map worker_of ws) w)) c.requires.lawful in
+    let free : is_free (slice_get (map worker_of ws) w) ≡ true = first-true (is_free (slice_get (map worker_of ws) w)) (has_stalled c.args.place (slice_get (map worker_of ws) w)) c.requires.lawful in
     let leaves : WorkerChanges w (Leaves c.args.place j) ws mid = change-at w (Leaves c.args.place j) ws c.index_mut.result.now c.leave-job.new.self c.index_mut.ensures.value (is-below is_free refl ws w free) c.leave-job.ensures in
     let is = stalled-job s c.requires.consistent w c.args.place leaves.worker leaves.there j leaves.does.0 in
     let small : j.number < length s.nodes.items = slice_get_within s.nodes.items j.number is.node is.there in

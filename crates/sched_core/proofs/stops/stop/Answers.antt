@@ -2,7 +2,7 @@ use Rattle.std.proofs.Common.{◌<◌, length, refl, sym, ◌∙◌, subst, arit
 use Rattle.std.proofs.lemmas.Option.{slice_get_within}
 use Rattle.strand_machine.specs.declared.stop.Stop.TheVariants as stop
 use Rattle.sched_meaning.proofs.OneCore.OneStep.{some-one}
-use Rattle.sched_core.specs.Moves.{CanHear, job}
+use Rattle.sched_core.specs.Moves.{CanAnswer, job}
 use Rattle.sched_core.specs.declared.node.SpawnNode.{SpawnNode}
 use Rattle.sched_core.proofs.Events.Arms.{by-kind, stalls-at}
 use Rattle.sched_core.proofs.Worked.Placing.{on-ok}
@@ -28,7 +28,7 @@ pub put_answer-requires-clause-number : goal.put_answer-requires-clause-number
 put_answer-requires-clause-number c = slice_get_within c.args.state.now.nodes.items c.args.number c.requires.node c.requires.there
 
 pub put_answer-requires-clause-hears : goal.put_answer-requires-clause-hears
-put_answer-requires-clause-hears c = λ n h. subst (λ (x : SpawnNode). CanHear c.args.state.now.nodes.items x.link) (some-one c.requires.node n (sym c.requires.there ∙ h)) c.requires.hears
+put_answer-requires-clause-hears c = λ n h. subst (λ (x : SpawnNode). CanAnswer c.args.state.now.nodes.items x.link) (some-one c.requires.node n (sym c.requires.there ∙ h)) c.requires.hears
 
 pub returns : goal.returns
 returns c = by-kind c.put_answer.result c.args.w c.args.number c.args.stop (stop.Done c.in-Done.answer c.in-Done.give) c.args.state.now c.put_answer.new.state c.in-Done.is c.put_answer.ensures

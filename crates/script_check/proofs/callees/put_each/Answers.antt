@@ -20,7 +20,7 @@ pub loop-name-preserved : goal.loop-name-preserved
 loop-name-preserved c =
     let names = function_names c.args.functions.now in
     let x = c.name-item.result in
-    let next = c.put.new.table.items in
+    let next = c.set_place.new.table.items in
     let put : next ≡ with_place c.loop-name.table.items x.at c.unwrap_or-number.result = search rules in
     let got : c.get.result ≡ first_named c.args.functions.now x.bytes = search rules in
     let number : c.unwrap_or-number.result ≡ unwrap_or (place_in names x.bytes) 0 = c.unwrap_or-number.ensures ∙ ap (λ o. unwrap_or o 0) (got ∙ first-place c.args.functions.now x.bytes) in

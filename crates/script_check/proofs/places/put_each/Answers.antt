@@ -8,6 +8,6 @@ pub loop-name-preserved : goal.loop-name-preserved
 loop-name-preserved c =
     let names = c.args.variables.now in
     let x = c.name-item.result in
-    let next = c.put.new.table.items in
+    let next = c.set_place.new.table.items in
     let is : next ≡ with_place c.loop-name.table.items x.at (unwrap_or (place_in names x.bytes) 0) = search rules in
     c.loop-name.invariant ∙ one-placed names c.args.named.now c.loop-name.name-index x c.loop-name.table.items next c.loop-name-test.true c.name-item.is is

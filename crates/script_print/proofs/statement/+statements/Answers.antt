@@ -9,4 +9,4 @@ write_act-returns-in_ok-write_into-in-Pfor t c =
 
 pub write_block-returns : goal.write_block-returns
 write_block-returns t c =
-    block_written _ _ _ _ _ _ _ _ c.in_ok-extend_from_slice.ensures.items (c.deref.ensures.value ∙ c.in_ok-deeper.ensures) c.in_ok-write_stmts.ensures c.in_ok-extend_from_slice-2.ensures.items c.in_ok-push.ensures.items
+    block_written _ _ _ _ _ _ _ _ c.in_ok-extend_from_slice.ensures.items (c.deref.ensures.value ∙ c.in_ok-inner_margin.ensures) c.in_ok-write_stmts.ensures c.in_ok-extend_from_slice-2.ensures.items c.in_ok-push.ensures.items

@@ -1,5 +1,5 @@
 use Rattle.std.proofs.Common.{◌≡◌, ◌∙◌, [], ◌∷◌, sym, ap, subst}
-use Rattle.serial_runner.specs.Stacks.{Closes}
+use Rattle.serial_runner.specs.Stacks.{AnswersLowest}
 use Rattle.serial_runner.proofs.ObservedStops.{made}
 use Rattle.strand_machine.proofs.NextStops.Pausing.{ended-stop}
 use Rattle.serial_runner.proofs.Advancing.{went_whole, spawned, waits, has_answers, went_up, known_fault, answer_below, all_ended, ended}
@@ -30,8 +30,8 @@ end_all-requires-clause-below c = answer_below c.args.stack c.requires c.finish-
 
 pub returns-then-is_fault : goal.returns-then-is_fault
 returns-then-is_fault c =
-    subst (Closes c.args.stack) (sym c.in_ok-boxed-in-Ended.ensures)
+    subst (AnswersLowest c.args.stack) (sym c.in_ok-boxed-in-Ended.ensures)
     (all_ended c.args.stack c.requires c.finish-answer.result.0 c.finish-answer.result.1 (ended-stop _ c.in-Ended.rest _ (rw c.in-Ended.is at c.in_ok-paused.ensures) c.finish-answer.ensures) _ c.in_ok-last-in-Ended.ensures)
 
 pub returns-else-is_fault : goal.returns-else-is_fault
-returns-else-is_fault c = ended c.args.stack c.requires c.finish-answer.result.0 c.finish-answer.result.1 (ended-stop _ c.in-Ended.rest _ (rw c.in-Ended.is at c.in_ok-paused.ensures) c.finish-answer.ensures) c.answered.result c.answered.ensures.parent c.answered.ensures.last
+returns-else-is_fault c = ended c.args.stack c.requires c.finish-answer.result.0 c.finish-answer.result.1 (ended-stop _ c.in-Ended.rest _ (rw c.in-Ended.is at c.in_ok-paused.ensures) c.finish-answer.ensures) c.answer_below.result c.answer_below.ensures.parent c.answer_below.ensures.last

@@ -1,11 +1,11 @@
 use Rattle.std.proofs.Common.{◌≡◌, ◌∙◌, sym, ap, subst, true}
 use Rattle.std.specs.Arc.{arc_value}
 use Rattle.strand_machine.specs.Family.{tags}
-use Rattle.strand_machine.specs.Parts.{awaited}
+use Rattle.strand_machine.specs.AwaitedChildren.{awaited}
 use Rattle.strand_machine.specs.Stops.{answer_tags, any_cut, WentOn}
 use Rattle.strand_machine.specs.Tasks.{TaskView}
 use Rattle.serial_runner.specs.Observed.{origin_of, with_child, WalksOn}
-use Rattle.serial_runner.specs.declared.walk.Walked.TheVariants.{Goes}
+use Rattle.serial_runner.specs.declared.walk.Walked.TheVariants.{Continues}
 use Rattle.serial_runner.proofs.ObservedStops.{made}
 use Rattle.serial_runner.proofs.Walking.{it_waits, children_known, it_has_answers, walks_by_child, over_by_child, walks_by_wait, over_by_wait, walk_ends}
 use Rattle.serial_runner.proofs.walk.walk_on.Goals as goal
@@ -19,7 +19,7 @@ returns-then-is_over c =
 pub returns-else-is_over : goal.returns-else-is_over
 returns-else-is_over c =
     let s = c.in_ok-stop.ensures in
-    subst (λ (task : TaskView). WalksOn (arc_value c.args.plan.now) (origin_of c.args.walk) c.args.at.now c.args.walk (Goes (record { task = task; observed = c.in_ok-rest-in-Spawn.observed }))) (sym (ap (λ z. z.0) c.in_ok-rest-in-Spawn.ensures.0))
+    subst (λ (task : TaskView). WalksOn (arc_value c.args.plan.now) (origin_of c.args.walk) c.args.at.now c.args.walk (Continues (record { task = task; observed = c.in_ok-rest-in-Spawn.observed }))) (sym (ap (λ z. z.0) c.in_ok-rest-in-Spawn.ensures.0))
     (walks_by_child _ _ _ _ c.requires.walk s.observed_stop s.is_observed c.in-Spawn.child c.in-Spawn.rest (sym s.stops ∙ c.in-Spawn.is) c.observation_goes_on.ensures _ _ s.sees
     (ap (λ z. z.1) c.in_ok-rest-in-Spawn.ensures.0 ∙ made (λ _. c.observe_child-seen.new.self ≡ with_child c.args.at.now c.in-Spawn.child.task.origin _) _ _ c.in_ok-rest-in-Spawn.ensures.1 c.observe_child-seen.ensures))
 

@@ -7,8 +7,8 @@ use Rattle.strand_machine.proofs.advance.keep_end.Goals as goal
 
 pub returns-clause-holds : goal.returns-clause-holds
 returns-clause-holds c =
-    let f = c.args.parts.now.body.family in
+    let f = c.args.parts.now.state.family in
     let e = c.end-ended in
-    let can = subst (IsAnswer f.plan f.origin c.args.parts.now.body.trace.prefix) (sym e.ensures.ended) c.requires.can in
-    holds-end _ e.result _ c.set_work.ensures (subst (λ (es : List Event). IsAnswer f.plan f.origin es e.result) (sym e.ensures.prefix) can)
+    let can = subst (IsAnswer f.plan f.origin c.args.parts.now.state.trace.prefix) (sym e.ensures.ended) c.requires.can in
+    holds-end _ e.result _ c.set_remaining.ensures (subst (λ (es : List Event). IsAnswer f.plan f.origin es e.result) (sym e.ensures.prefix) can)
     (subst (IsByFaultOf f.plan) (sym e.ensures.ended) c.requires.known) refl

@@ -9,7 +9,7 @@ use Rattle.strand_machine.proofs.NextStops.Pausing.{keeps-end, knows-at, spawns-
 use Rattle.strand_machine.proofs.advance.paused.Goals as goal
 
 pub unreachable-requires : goal.unreachable-requires
-unreachable-requires c = never-goes c.args.passed c.in-Goes.is c.requires.stops
+unreachable-requires c = never-goes c.args.passed c.in-Continues.is c.requires.stops
 
 pub invariant_of-result : goal.invariant_of-result
 invariant_of-result c = waits-holds c.args.parts.value c.args.passed c.in-Waits.is c.requires.sound
@@ -25,11 +25,11 @@ returns-in-Spawned c = spawns-as c.args.parts.value c.args.passed c.in-Spawned.c
 
 pub keep_end-requires-clause-can : goal.keep_end-requires-clause-can
 keep_end-requires-clause-can c =
-    subst (λ (p : Parts). CanEnd p.body c.in-Ends.outcome) (sym c.deref_mut.ensures.value) (ends-can c.args.parts.value c.args.passed c.in-Ends.outcome c.in-Ends.is c.requires.sound)
+    subst (λ (p : Parts). CanEnd p.state c.in-Ends.outcome) (sym c.deref_mut.ensures.value) (ends-can c.args.parts.value c.args.passed c.in-Ends.outcome c.in-Ends.is c.requires.sound)
 
 pub keep_end-requires-clause-known : goal.keep_end-requires-clause-known
 keep_end-requires-clause-known c =
-    subst (λ (p : Parts). IsByFaultOf p.body.family.plan (ended_by p.body.trace.fault c.in-Ends.outcome)) (sym c.deref_mut.ensures.value)
+    subst (λ (p : Parts). IsByFaultOf p.state.family.plan (ended_by p.state.trace.fault c.in-Ends.outcome)) (sym c.deref_mut.ensures.value)
     (knows-at c.args.parts.value c.args.passed c.in-Ends.outcome c.in-Ends.is c.requires.known)
 
 pub invariant_of-result-in-Ends : goal.invariant_of-result-in-Ends
@@ -39,4 +39,4 @@ pub returns-in-Ends : goal.returns-in-Ends
 returns-in-Ends c =
     let k = c.keep_end.ensures in
     let left = c.keep_end.new.parts in
-    subst (λ (p : Parts). PausesAs (made p c.args.passed) (paused-in.Ended (view_of left.body left.work))) c.deref_mut.ensures.value (keeps-end c.deref_mut.result.now c.keep_end.new.parts c.args.passed c.in-Ends.outcome c.in-Ends.is k.work k.family k.prefix)
+    subst (λ (p : Parts). PausesAs (made p c.args.passed) (paused-in.Ended (view_of left.state left.remaining))) c.deref_mut.ensures.value (keeps-end c.deref_mut.result.now c.keep_end.new.parts c.args.passed c.in-Ends.outcome c.in-Ends.is k.remaining k.family k.prefix)

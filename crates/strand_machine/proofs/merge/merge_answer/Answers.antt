@@ -4,20 +4,20 @@ use Rattle.std.specs.Prelude.{OnOk}
 use Rattle.serial_meaning.specs.Answer.{AnswerView}
 use Rattle.serial_meaning.specs.Plan.{PlanView}
 use Rattle.strand_meaning.specs.Trace.{AwaitedChild}
-use Rattle.strand_machine.specs.Merge.{TakesAnswers, WorkFinds, Works, result_of_outcome, merge_of}
-use Rattle.strand_machine.specs.Parts.{awaited_child, destination_of}
-use Rattle.strand_machine.specs.Tasks.{work_of}
-use Rattle.strand_machine.specs.declared.body.Body.{Body}
+use Rattle.strand_machine.specs.Merge.{TakesAnswers, RemainingFinds, IsRemainingOfPlan, result_of_outcome, merge_of}
+use Rattle.strand_machine.specs.AwaitedChildren.{awaited_child, destination_of}
+use Rattle.strand_machine.specs.Tasks.{remaining_of}
+use Rattle.strand_machine.specs.declared.task_state.TaskState.{TaskState}
 use Rattle.strand_machine.specs.declared.parts.Parts.{Parts}
-use Rattle.strand_machine.proofs.TakenAnswers.Cutting.{heard-alone, takes-answer, heard-front}
+use Rattle.strand_machine.proofs.TakenAnswers.Cutting.{merging-alone, takes-answer, merging-front}
 use Rattle.strand_machine.proofs.TakenAnswers.Taking.{on-both, ok-of}
 use Rattle.strand_machine.proofs.merge.merge_answer.Goals as goal
 
-pub merge_value-requires-clause-works : goal.merge_value-requires-clause-works
-merge_value-requires-clause-works c = subst (λ (p : PlanView). Works p c.args.parts.now.work) (sym c.plan.ensures) c.requires.works
+pub merge_value-requires-clause-of_plan : goal.merge_value-requires-clause-of_plan
+merge_value-requires-clause-of_plan c = subst (λ (p : PlanView). IsRemainingOfPlan p c.args.parts.now.remaining) (sym c.plan.ensures) c.requires.of_plan
 
 pub merge_value-requires-clause-found : goal.merge_value-requires-clause-found
-merge_value-requires-clause-found c = subst (λ (p : PlanView). WorkFinds p (destination_of c.args.after.destination) (work_of p c.args.parts.now.work)) (sym c.plan.ensures) c.requires.found
+merge_value-requires-clause-found c = subst (λ (p : PlanView). RemainingFinds p (destination_of c.args.after.destination) (remaining_of p c.args.parts.now.remaining)) (sym c.plan.ensures) c.requires.found
 
 pub returns-in-Ok-clause-takes : goal.returns-in-Ok-clause-takes
 returns-in-Ok-clause-takes c =
@@ -25,17 +25,17 @@ returns-in-Ok-clause-takes c =
     let v : AnswerView = record { plan = arc_value a.plan; origin = a.origin; out = a.out; outcome = a.outcome } in
     let p : AwaitedChild = awaited_child a.origin c.args.after in
     let e = c.in-Ok.ensures in
-    let b : Body = c.args.parts.now.body in
-    let after : Parts = record { body = record b { trace = c.hear.new.trace; values = c.merge_value.new.values }; work = c.merge_value.new.work } in
-    subst (λ (x : AnswerView). OnOk c.merge_value.result (TakesAnswers (awaited_child x.origin c.args.after ∷ []) (x ∷ []) (merge_of c.args.parts.now c.args.heard.now) (merge_of after c.hear.new.self))) c.answer.view_is
+    let b : TaskState = c.args.parts.now.state in
+    let after : Parts = record { state = record b { trace = c.merge_events.new.trace; values = c.merge_value.new.values }; remaining = c.merge_value.new.remaining } in
+    subst (λ (x : AnswerView). OnOk c.merge_value.result (TakesAnswers (awaited_child x.origin c.args.after ∷ []) (x ∷ []) (merge_of c.args.parts.now c.args.merging.now) (merge_of after c.merge_events.new.self))) c.answer.view_is
     (on-both c.merge_value.result _ _ _
-    (λ values work. takes-answer p v (merge_of c.args.parts.now c.args.heard.now) (merge_of after c.hear.new.self) (heard-front p (record { items = a.out; ending = result_of_outcome a.outcome }) b.trace c.hear.new.trace (e.trace p refl))
-    e.ended e.cut values work c.answer.invariant)
-    c.merge_value.ensures.values c.merge_value.ensures.work)
+    (λ values remaining. takes-answer p v (merge_of c.args.parts.now c.args.merging.now) (merge_of after c.merge_events.new.self) (merging-front p (record { items = a.out; ending = result_of_outcome a.outcome }) b.trace c.merge_events.new.trace (e.trace p refl))
+    e.ended e.cut values remaining c.answer.invariant)
+    c.merge_value.ensures.values c.merge_value.ensures.remaining)
 
 pub returns-in-Ok-clause-rest : goal.returns-in-Ok-clause-rest
 returns-in-Ok-clause-rest c =
     let a = c.answer.inside in
     let p : AwaitedChild = awaited_child a.origin c.args.after in
     ok-of c.merge_value.result _
-    (record { body = refl; handed = heard-alone p (record { items = a.out; ending = result_of_outcome a.outcome }) c.args.parts.now.body.trace c.hear.new.trace (c.in-Ok.ensures.trace p refl) })
+    (record { state = refl; handed = merging-alone p (record { items = a.out; ending = result_of_outcome a.outcome }) c.args.parts.now.state.trace c.merge_events.new.trace (c.in-Ok.ensures.trace p refl) })

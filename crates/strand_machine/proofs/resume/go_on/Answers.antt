@@ -5,13 +5,13 @@ use Rattle.strand_meaning.specs.Found.{FindsTargets, IsFoundPlan, functions_left
 use Rattle.strand_meaning.specs.Trace.{Trace}
 use Rattle.strand_machine.specs.Family.{FamilyView}
 use Rattle.strand_machine.specs.Merge.{EndsShort, IsShort, merge_of, trace_of}
-use Rattle.strand_machine.specs.Parts.{awaited}
+use Rattle.strand_machine.specs.AwaitedChildren.{awaited}
 use Rattle.strand_machine.specs.Stops.{answer_tags}
-use Rattle.strand_machine.specs.Tasks.{IsSound, view_of, work_of}
-use Rattle.strand_machine.specs.declared.body.Body.{Body}
+use Rattle.strand_machine.specs.Tasks.{IsSound, view_of, remaining_of}
+use Rattle.strand_machine.specs.declared.task_state.TaskState.{TaskState}
 use Rattle.strand_machine.proofs.NextStops.Advancing.{sound_holds}
 use Rattle.strand_machine.proofs.TakenAnswers.Answering.{length-answer-tags, length-tags}
-use Rattle.strand_machine.proofs.TakenAnswers.Cutting.{answers-of, ends-short, kept-body, own-children, short-on, taken-from, takes-whole, went-short, went-whole}
+use Rattle.strand_machine.proofs.TakenAnswers.Cutting.{answers-of, ends-short, kept-state, own-children, short-on, taken-from, takes-whole, went-short, went-whole}
 use Rattle.strand_machine.proofs.Moves.Handed.{awaited_parts}
 use Rattle.strand_machine.proofs.TakenAnswers.Taking.{goes-on-sound, goes-on-view}
 use Rattle.strand_machine.proofs.TakenAnswers.Targets.{all-found}
@@ -19,7 +19,7 @@ use Rattle.strand_machine.proofs.resume.go_on.Goals as goal
 
 pub merge_all-requires-clause-many : goal.merge_all-requires-clause-many
 merge_all-requires-clause-many c =
-    let b = c.args.parts.now.body in
+    let b = c.args.parts.now.state in
     let q = c.take_children-after.ensures.parted in
     sym (length-answer-tags c.args.answers) ∙ ap length c.requires.tags ∙ length-tags b.family.plan (awaited b.trace.handed)
     ∙ ap (λ (x : Trace). length (awaited x.handed)) (sym q.is) ∙ ap length (awaited_parts q.children c.take_children-after.result.items q.many) ∙ q.many
@@ -27,13 +27,13 @@ merge_all-requires-clause-many c =
 pub merge_all-requires-clause-handed : goal.merge_all-requires-clause-handed
 merge_all-requires-clause-handed c = ap (λ (x : Trace). x.handed) c.take_children-after.ensures.rest
 
-pub merge_all-requires-clause-works : goal.merge_all-requires-clause-works
-merge_all-requires-clause-works c = (c.args.parts.now.body.family.origin, c.requires.sound.works)
+pub merge_all-requires-clause-of_plan : goal.merge_all-requires-clause-of_plan
+merge_all-requires-clause-of_plan c = (c.args.parts.now.state.family.origin, c.requires.sound.of_plan)
 
 pub merge_all-requires-clause-found : goal.merge_all-requires-clause-found
 merge_all-requires-clause-found c =
-    let b = c.args.parts.now.body in
-    let left = work_of b.family.plan c.args.parts.now.work in
+    let b = c.args.parts.now.state in
+    let left = remaining_of b.family.plan c.args.parts.now.remaining in
     let q = c.take_children-after.ensures.parted in
     let table = c.places-places.ensures in
     let found : IsFoundPlan b.family.plan = subst IsFoundPlan c.plan.ensures (subst (λ (places : List ℕ). finds_all places (functions_of c.plan.result.now) ≡ true) table.table table.found) in
@@ -42,71 +42,71 @@ merge_all-requires-clause-found c =
 
 pub cut_short-requires-clause-ends : goal.cut_short-requires-clause-ends
 cut_short-requires-clause-ends c =
-    let b = c.args.parts.now.body in
-    let w = c.args.parts.now.work in
+    let b = c.args.parts.now.state in
+    let w = c.args.parts.now.remaining in
     let q = c.take_children-after.ensures.parted in
     let bs = c.take_children-after.result.items in
-    let after = merge_of c.merge_all.new.parts c.merge_all.new.heard in
+    let after = merge_of c.merge_all.new.parts c.merge_all.new.merging in
     let parts = ap (λ (x : Trace). x.handed) q.is in
     let h = taken-from b w _ _ c.args.answers after c.take_children-after.ensures.rest c.in_ok-left.ensures.takes in
-    subst (λ (f : FamilyView). EndsShort f after) (sym (ap (λ (x : Body). x.family) c.in_ok-left.ensures.rest.body))
+    subst (λ (f : FamilyView). EndsShort f after) (sym (ap (λ (x : TaskState). x.family) c.in_ok-left.ensures.rest.state))
     (ends-short b w q.children bs c.args.answers after parts (own-children b q.children bs (answer_tags c.args.answers) parts q.many c.requires.tags) h c.answers_end.ensures c.requires.sound.task
-    (answers-of b.family.plan b.trace.handed c.args.answers h.said c.requires.tags) (sym h.cut ∙ c.if-heard.true))
+    (answers-of b.family.plan b.trace.handed c.args.answers h.said c.requires.tags) (sym h.cut ∙ c.if-merging.true))
 
 pub cut_short-requires-clause-handed : goal.cut_short-requires-clause-handed
 cut_short-requires-clause-handed c = c.in_ok-left.ensures.rest.handed
 
-pub returns-then-heard-clause-went : goal.returns-then-heard-clause-went
-returns-then-heard-clause-went c =
-    let b = c.args.parts.now.body in
-    let w = c.args.parts.now.work in
+pub returns-then-merging-clause-went : goal.returns-then-merging-clause-went
+returns-then-merging-clause-went c =
+    let b = c.args.parts.now.state in
+    let w = c.args.parts.now.remaining in
     let q = c.take_children-after.ensures.parted in
     let bs = c.take_children-after.result.items in
-    let after = merge_of c.merge_all.new.parts c.merge_all.new.heard in
-    let next = view_of c.cut_short.new.parts.body c.cut_short.new.parts.work in
+    let after = merge_of c.merge_all.new.parts c.merge_all.new.merging in
+    let next = view_of c.cut_short.new.parts.state c.cut_short.new.parts.remaining in
     let parts = ap (λ (x : Trace). x.handed) q.is in
     let h = taken-from b w _ _ c.args.answers after c.take_children-after.ensures.rest c.in_ok-left.ensures.takes in
-    went-short c.args.answers (view_of b w) next (sym h.cut ∙ c.if-heard.true)
+    went-short c.args.answers (view_of b w) next (sym h.cut ∙ c.if-merging.true)
     (short-on b w q.children bs c.args.answers after parts (own-children b q.children bs (answer_tags c.args.answers) parts q.many c.requires.tags) h next
-    (subst (λ (x : Body). IsShort x.family after x.advanced next) c.in_ok-left.ensures.rest.body c.cut_short.ensures.short))
+    (subst (λ (x : TaskState). IsShort x.family after x.advanced next) c.in_ok-left.ensures.rest.state c.cut_short.ensures.short))
 
-pub returns-then-heard-clause-answers : goal.returns-then-heard-clause-answers
-returns-then-heard-clause-answers c = let b = c.args.parts.now.body in answers-of b.family.plan b.trace.handed c.args.answers c.in_ok-left.ensures.takes.said c.requires.tags
+pub returns-then-merging-clause-answers : goal.returns-then-merging-clause-answers
+returns-then-merging-clause-answers c = let b = c.args.parts.now.state in answers-of b.family.plan b.trace.handed c.args.answers c.in_ok-left.ensures.takes.said c.requires.tags
 
 pub returns-clause-went : goal.returns-clause-went
 returns-clause-went c =
-    let b = c.args.parts.now.body in
-    let w = c.args.parts.now.work in
+    let b = c.args.parts.now.state in
+    let w = c.args.parts.now.remaining in
     let q = c.take_children-after.ensures.parted in
     let bs = c.take_children-after.result.items in
     let kept = c.merge_all.new.parts in
-    let after = merge_of kept c.merge_all.new.heard in
-    let next = c.goes_on.new.parts in
+    let after = merge_of kept c.merge_all.new.merging in
+    let next = c.end_wait.new.parts in
     let parts = ap (λ (x : Trace). x.handed) q.is in
     let h = taken-from b w _ _ c.args.answers after c.take_children-after.ensures.rest c.in_ok-left.ensures.takes in
-    let whole = sym h.cut ∙ c.if-heard.false in
+    let whole = sym h.cut ∙ c.if-merging.false in
     let takes = takes-whole b w q.children bs c.args.answers after c.answers_are_evaluations.ensures h whole in
-    let body : next.body ≡ record b { trace = trace_of after; values = after.values; waiting = false } =
-    c.in_ok-goes_on.ensures.body ∙ ap (λ (x : Body). record x { waiting = false }) (kept-body _ kept c.in_ok-left.ensures.rest) in
+    let state : next.state ≡ record b { trace = trace_of after; values = after.values; waiting = false } =
+    c.in_ok-end_wait.ensures.state ∙ ap (λ (x : TaskState). record x { waiting = false }) (kept-state _ kept c.in_ok-left.ensures.rest) in
     went-whole c.args.answers (view_of b w) _ whole
-    (ap (λ (x : Body). view_of x next.work) body ∙ goes-on-view b w q.children bs (answer_tags c.args.answers) after next.work parts q.many c.requires.tags takes c.in_ok-goes_on.ensures.work c.requires.sound)
+    (ap (λ (x : TaskState). view_of x next.remaining) state ∙ goes-on-view b w q.children bs (answer_tags c.args.answers) after next.remaining parts q.many c.requires.tags takes c.in_ok-end_wait.ensures.remaining c.requires.sound)
 
 pub returns-clause-answers : goal.returns-clause-answers
-returns-clause-answers c = let b = c.args.parts.now.body in answers-of b.family.plan b.trace.handed c.args.answers c.in_ok-left.ensures.takes.said c.requires.tags
+returns-clause-answers c = let b = c.args.parts.now.state in answers-of b.family.plan b.trace.handed c.args.answers c.in_ok-left.ensures.takes.said c.requires.tags
 
 pub returns-clause-holds : goal.returns-clause-holds
 returns-clause-holds c =
-    let b = c.args.parts.now.body in
-    let w = c.args.parts.now.work in
+    let b = c.args.parts.now.state in
+    let w = c.args.parts.now.remaining in
     let q = c.take_children-after.ensures.parted in
     let bs = c.take_children-after.result.items in
     let kept = c.merge_all.new.parts in
-    let after = merge_of kept c.merge_all.new.heard in
-    let next = c.goes_on.new.parts in
+    let after = merge_of kept c.merge_all.new.merging in
+    let next = c.end_wait.new.parts in
     let parts = ap (λ (x : Trace). x.handed) q.is in
     let h = taken-from b w _ _ c.args.answers after c.take_children-after.ensures.rest c.in_ok-left.ensures.takes in
-    let takes = takes-whole b w q.children bs c.args.answers after c.answers_are_evaluations.ensures h (sym h.cut ∙ c.if-heard.false) in
-    let body : next.body ≡ record b { trace = trace_of after; values = after.values; waiting = false } =
-    c.in_ok-goes_on.ensures.body ∙ ap (λ (x : Body). record x { waiting = false }) (kept-body _ kept c.in_ok-left.ensures.rest) in
-    sound_holds _ next.work (subst (λ (x : Body). IsSound x next.work) (sym body)
-    (goes-on-sound b w q.children bs (answer_tags c.args.answers) after next.work parts q.many c.requires.tags takes c.in_ok-goes_on.ensures.work c.answers_keep_tasks.ensures c.requires.sound))
+    let takes = takes-whole b w q.children bs c.args.answers after c.answers_are_evaluations.ensures h (sym h.cut ∙ c.if-merging.false) in
+    let state : next.state ≡ record b { trace = trace_of after; values = after.values; waiting = false } =
+    c.in_ok-end_wait.ensures.state ∙ ap (λ (x : TaskState). record x { waiting = false }) (kept-state _ kept c.in_ok-left.ensures.rest) in
+    sound_holds _ next.remaining (subst (λ (x : TaskState). IsSound x next.remaining) (sym state)
+    (goes-on-sound b w q.children bs (answer_tags c.args.answers) after next.remaining parts q.many c.requires.tags takes c.in_ok-end_wait.ensures.remaining c.answers_keep_tasks.ensures c.requires.sound))

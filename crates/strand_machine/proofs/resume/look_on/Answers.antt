@@ -1,23 +1,23 @@
 use Rattle.std.proofs.Common.{ℕ, ◌-◌, true, false, length, drop, refl, sym, ap, ◌∙◌, subst}
 use Rattle.serial_meaning.specs.Plan.{PlanView}
 use Rattle.strand_machine.specs.Family.{FamilyView, AwaitsCount, tags}
-use Rattle.strand_machine.specs.Parts.{awaited}
+use Rattle.strand_machine.specs.AwaitedChildren.{awaited}
 use Rattle.strand_machine.specs.Tasks.{view_of}
 use Rattle.strand_machine.proofs.NextStops.Advancing.{sound_holds}
 use Rattle.strand_machine.proofs.TakenAnswers.Answering.{awaits-count, last-awaited}
-use Rattle.strand_machine.proofs.Moves.Dispatch.{works-on}
+use Rattle.strand_machine.proofs.Moves.Dispatch.{of_plan-on}
 use Rattle.strand_machine.proofs.TakenAnswers.Taking.{looked-last, looked-same, looked-sound, taken-answered, resumed-on}
 use Rattle.strand_machine.proofs.resume.look_on.Goals as goal
 
 pub returns-in-NotYet-clause-resumed : goal.returns-in-NotYet-clause-resumed
 returns-in-NotYet-clause-resumed c =
-    let b = c.args.parts.now.body in
-    let w = c.args.parts.now.work in looked-same b w c.look.new.self false c.look.new.self.loads c.in-NotYet.ensures.1 (view_of b w) refl c.in-NotYet.ensures.0
+    let b = c.args.parts.now.state in
+    let w = c.args.parts.now.remaining in looked-same b w c.look.new.self false c.look.new.self.loads c.in-NotYet.ensures.1 (view_of b w) refl c.in-NotYet.ensures.0
 
 pub returns-in-NotYet-clause-holds : goal.returns-in-NotYet-clause-holds
 returns-in-NotYet-clause-holds c =
-    let b = c.args.parts.now.body in
-    let w = c.args.parts.now.work in
+    let b = c.args.parts.now.state in
+    let w = c.args.parts.now.remaining in
     sound_holds (record b { family = c.look.new.self }) w (looked-sound b w c.look.new.self false c.look.new.self.loads c.in-NotYet.ensures.1 c.requires.sound)
 
 pub take_answers-requires-clause-ready : goal.take_answers-requires-clause-ready
@@ -25,19 +25,19 @@ take_answers-requires-clause-ready c = ap (λ (f : FamilyView). f.ready) c.in-Re
 
 pub take_answers-requires-clause-last : goal.take_answers-requires-clause-last
 take_answers-requires-clause-last c =
-    let b = c.args.parts.now.body in
+    let b = c.args.parts.now.state in
     let last = looked-last b.family c.look.new.self b.trace.handed true c.look.new.self.loads c.in-Ready.ensures.1 c.requires.sound.family in
     subst (AwaitsCount c.look.new.self) (sym (ap length (c.as_slice.ensures ∙ c.awaited.ensures))) (awaits-count c.look.new.self b.trace.handed last)
 
 pub go_on-requires-clause-sound : goal.go_on-requires-clause-sound
 go_on-requires-clause-sound c =
-    let b = c.args.parts.now.body in
-    let w = c.args.parts.now.work in
+    let b = c.args.parts.now.state in
+    let w = c.args.parts.now.remaining in
     taken-answered b w c.look.new.self c.take_answers.new.family true c.look.new.self.loads c.in-Ready.ensures.1 c.take_answers.ensures.family c.take_answers.ensures.length c.requires.sound
 
 pub go_on-requires-clause-tags : goal.go_on-requires-clause-tags
 go_on-requires-clause-tags c =
-    let b = c.args.parts.now.body in
+    let b = c.args.parts.now.state in
     let g = c.look.new.self in
     let last = looked-last b.family g b.trace.handed true g.loads c.in-Ready.ensures.1 c.requires.sound.family in
     c.in_ok-answers-in-Ready.ensures.tags ∙ ap (λ (n : ℕ). tags g.plan (drop (length g.children - n) g.children)) (ap length (c.as_slice.ensures ∙ c.awaited.ensures))
@@ -45,7 +45,7 @@ go_on-requires-clause-tags c =
 
 pub returns-in_ok-left-in-Ready-clause-resumed : goal.returns-in_ok-left-in-Ready-clause-resumed
 returns-in_ok-left-in-Ready-clause-resumed c =
-    let b = c.args.parts.now.body in
-    let w = c.args.parts.now.work in
+    let b = c.args.parts.now.state in
+    let w = c.args.parts.now.remaining in
     resumed-on b w c.look.new.self c.take_answers.new.family true c.look.new.self.loads c.in-Ready.ensures.1 c.take_answers.ensures.family (view_of b w) _ refl
-    (works-on b.family.plan b.family.origin w c.requires.sound.works) _ c.in_ok-left-in-Ready.ensures.answers c.in_ok-left-in-Ready.ensures.went c.in-Ready.ensures.0
+    (of_plan-on b.family.plan b.family.origin w c.requires.sound.of_plan) _ c.in_ok-left-in-Ready.ensures.answers c.in_ok-left-in-Ready.ensures.went c.in-Ready.ensures.0

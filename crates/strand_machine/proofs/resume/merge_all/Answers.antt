@@ -3,12 +3,12 @@ use Rattle.std.proofs.lemmas.List.{reverse-append, reverse-reverse, length-rever
 use Rattle.std.specs.Vec.Iter.{into_iter_items}
 use Rattle.serial_meaning.specs.Answer.{AnswerView}
 use Rattle.strand_machine.specs.Family.{origins}
-use Rattle.strand_machine.specs.Merge.{TakesAnswers, WorkFindsAll, merge_of}
-use Rattle.strand_machine.specs.Parts.{awaited_child, awaited_children}
+use Rattle.strand_machine.specs.Merge.{TakesAnswers, RemainingFindsAll, merge_of}
+use Rattle.strand_machine.specs.AwaitedChildren.{awaited_child, awaited_children}
 use Rattle.strand_machine.specs.Stops.{answer_tags}
-use Rattle.strand_machine.specs.Tasks.{work_of}
+use Rattle.strand_machine.specs.Tasks.{remaining_of}
 use Rattle.strand_machine.specs.declared.trace.AfterChild.{AfterChild}
-use Rattle.strand_machine.proofs.TakenAnswers.Cutting.{answers-next, answers-no-more, found-then, keeps-then, works-then}
+use Rattle.strand_machine.proofs.TakenAnswers.Cutting.{answers-next, answers-no-more, found-then, keeps-then, of_plan-then}
 use Rattle.strand_machine.proofs.resume.merge_all.Goals as goal
 
 pub loop-part-init : goal.loop-part-init
@@ -16,27 +16,27 @@ loop-part-init c =
     let gives = c.into_iter-part-iterator.ensures.into_iter_gives in
     let parts : into_iter_items c.into_iter-part-iterator.result ≡ c.args.after.items = gives.0 in
     let back : reverse c.reverse.new.self.items ≡ c.args.answers = ap reverse c.reverse.ensures.items ∙ reverse-reverse _ ∙ c.answers.view_is in
-    let before = merge_of c.args.parts.now c.args.heard.now in
+    let before = merge_of c.args.parts.now c.args.merging.now in
     record {
       parts = gives.1 ∙ c.args.after.ok.0 ∙ ap length (sym parts);
       same = sym (length-reverse c.reverse.new.self.items) ∙ ap length back ∙ c.requires.many ∙ ap length (sym parts);
       takes = λ after h. subst (λ (xs : List AnswerView). TakesAnswers (awaited_children (origins (answer_tags xs)) c.args.after.items) xs before after) back
           (subst (λ (bs : List AfterChild). TakesAnswers (awaited_children (origins (answer_tags (reverse c.reverse.new.self.items))) bs) (reverse c.reverse.new.self.items) before after) parts h);
-      rest = record { body = refl; handed = c.requires.handed };
-      works = c.requires.works;
+      rest = record { state = refl; handed = c.requires.handed };
+      of_plan = c.requires.of_plan;
       found =
-          subst (λ (bs : List AfterChild). WorkFindsAll c.args.parts.now.body.family.plan bs (work_of c.args.parts.now.body.family.plan c.args.parts.now.work)) (sym parts) c.requires.found;
+          subst (λ (bs : List AfterChild). RemainingFindsAll c.args.parts.now.state.family.plan bs (remaining_of c.args.parts.now.state.family.plan c.args.parts.now.remaining)) (sym parts) c.requires.found;
     }
 
 pub merge_answer-requires-clause-handed : goal.merge_answer-requires-clause-handed
 merge_answer-requires-clause-handed c = c.loop-part.invariant.rest.handed
 
-pub merge_answer-requires-clause-works : goal.merge_answer-requires-clause-works
-merge_answer-requires-clause-works c = c.loop-part.invariant.works
+pub merge_answer-requires-clause-of_plan : goal.merge_answer-requires-clause-of_plan
+merge_answer-requires-clause-of_plan c = c.loop-part.invariant.of_plan
 
 pub merge_answer-requires-clause-found : goal.merge_answer-requires-clause-found
 merge_answer-requires-clause-found c =
-    let all = subst (λ (bs : List AfterChild). WorkFindsAll c.loop-part.parts.body.family.plan bs (work_of c.loop-part.parts.body.family.plan c.loop-part.parts.work)) c.in-Some.ensures.steps.0 c.loop-part.invariant.found in
+    let all = subst (λ (bs : List AfterChild). RemainingFindsAll c.loop-part.parts.state.family.plan bs (remaining_of c.loop-part.parts.state.family.plan c.loop-part.parts.remaining)) c.in-Some.ensures.steps.0 c.loop-part.invariant.found in
     all.0
 
 pub unreachable-requires : goal.unreachable-requires
@@ -52,16 +52,16 @@ loop-part-preserved c =
     let parts = c.in-Some.ensures.steps in
     let shorter = ap length parts.0 in
     let popped : c.loop-part.left.items ≡ c.pop.new.self.items ++ c.in-Some-pop.answer ∷ [] = c.in-Some-pop.ensures.items in
-    let all = subst (λ (bs : List AfterChild). WorkFindsAll c.loop-part.parts.body.family.plan bs (work_of c.loop-part.parts.body.family.plan c.loop-part.parts.work)) parts.0 was.found in
+    let all = subst (λ (bs : List AfterChild). RemainingFindsAll c.loop-part.parts.state.family.plan bs (remaining_of c.loop-part.parts.state.family.plan c.loop-part.parts.remaining)) parts.0 was.found in
     let front : reverse c.loop-part.left.items ≡ c.in-Some-pop.answer ∷ reverse c.pop.new.self.items = ap reverse popped ∙ reverse-append c.pop.new.self.items (c.in-Some-pop.answer ∷ []) in
     record {
       parts = omega (arith, was.parts, parts.1, shorter);
       same = omega (arith, was.same, ap length popped, length-append c.pop.new.self.items (c.in-Some-pop.answer ∷ []), shorter);
-      takes = λ after h. was.takes after (answers-next _ _ _ _ c.in-Some-pop.answer c.in-Some.part (merge_of c.loop-part.parts c.loop-part.heard) (merge_of c.merge_answer.new.parts c.merge_answer.new.heard) after front parts.0 c.in_ok-merge_answer.ensures.takes h);
+      takes = λ after h. was.takes after (answers-next _ _ _ _ c.in-Some-pop.answer c.in-Some.part (merge_of c.loop-part.parts c.loop-part.merging) (merge_of c.merge_answer.new.parts c.merge_answer.new.merging) after front parts.0 c.in_ok-merge_answer.ensures.takes h);
       rest = keeps-then _ _ _ was.rest c.in_ok-merge_answer.ensures.rest;
-      works = works-then c.loop-part.parts c.merge_answer.new.parts c.loop-part.heard c.merge_answer.new.heard _ _ c.in_ok-merge_answer.ensures.rest c.in_ok-merge_answer.ensures.takes was.works;
+      of_plan = of_plan-then c.loop-part.parts c.merge_answer.new.parts c.loop-part.merging c.merge_answer.new.merging _ _ c.in_ok-merge_answer.ensures.rest c.in_ok-merge_answer.ensures.takes was.of_plan;
       found =
-          found-then c.loop-part.parts c.merge_answer.new.parts c.loop-part.heard c.merge_answer.new.heard (awaited_child c.in-Some-pop.answer.origin c.in-Some.part) c.in-Some-pop.answer _
+          found-then c.loop-part.parts c.merge_answer.new.parts c.loop-part.merging c.merge_answer.new.merging (awaited_child c.in-Some-pop.answer.origin c.in-Some.part) c.in-Some-pop.answer _
           c.in_ok-merge_answer.ensures.rest c.in_ok-merge_answer.ensures.takes all.1;
     }
 
@@ -70,7 +70,7 @@ returns-clause-takes c =
     let was = c.loop-part.invariant in
     let none = c.in-None.ensures.steps in
     let left : length (into_iter_items c.loop-part.part-iterator) ≡ 0 = sym was.parts ∙ none.0 in
-    let now = merge_of c.loop-part.parts c.loop-part.heard in
+    let now = merge_of c.loop-part.parts c.loop-part.merging in
     was.takes now (answers-no-more _ _ now (length-reverse c.loop-part.left.items ∙ was.same ∙ left) left)
 
 pub returns-clause-none : goal.returns-clause-none

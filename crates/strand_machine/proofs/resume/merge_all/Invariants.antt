@@ -1,10 +1,10 @@
 use Rattle.std.proofs.Common.{◌≡◌, length, reverse}
 use Rattle.std.specs.Vec.Iter.{into_iter_items, into_iter_len}
 use Rattle.strand_machine.specs.Family.{origins}
-use Rattle.strand_machine.specs.Merge.{KeepsRest, Merge, TakesAnswers, WorkFindsAll, Works, merge_of}
-use Rattle.strand_machine.specs.Parts.{awaited_children}
+use Rattle.strand_machine.specs.Merge.{KeepsRest, Merge, TakesAnswers, RemainingFindsAll, IsRemainingOfPlan, merge_of}
+use Rattle.strand_machine.specs.AwaitedChildren.{awaited_children}
 use Rattle.strand_machine.specs.Stops.{answer_tags}
-use Rattle.strand_machine.specs.Tasks.{work_of}
+use Rattle.strand_machine.specs.Tasks.{remaining_of}
 use Rattle.strand_machine.proofs.resume.merge_all.Given as goal
 
 -- whoever takes the answers that are left, the last one first, has taken all
@@ -15,9 +15,9 @@ invariant-loop-part l =
     record {
       parts : into_iter_len l.part-iterator ≡ length (into_iter_items l.part-iterator);
       same : length l.left.items ≡ length (into_iter_items l.part-iterator);
-      takes : (after : Merge) → TakesAnswers (awaited_children (origins (answer_tags rest)) (into_iter_items l.part-iterator)) rest (merge_of l.parts l.heard) after →
-          TakesAnswers (awaited_children (origins all) l.fn.after.items) l.fn.answers (merge_of l.initial.parts l.initial.heard) after;
+      takes : (after : Merge) → TakesAnswers (awaited_children (origins (answer_tags rest)) (into_iter_items l.part-iterator)) rest (merge_of l.parts l.merging) after →
+          TakesAnswers (awaited_children (origins all) l.fn.after.items) l.fn.answers (merge_of l.initial.parts l.initial.merging) after;
       rest : KeepsRest l.initial.parts l.parts;
-      works : Works l.parts.body.family.plan l.parts.work;
-      found : WorkFindsAll l.parts.body.family.plan (into_iter_items l.part-iterator) (work_of l.parts.body.family.plan l.parts.work);
+      of_plan : IsRemainingOfPlan l.parts.state.family.plan l.parts.remaining;
+      found : RemainingFindsAll l.parts.state.family.plan (into_iter_items l.part-iterator) (remaining_of l.parts.state.family.plan l.parts.remaining);
     }

@@ -1,20 +1,20 @@
 use Rattle.std.proofs.Common.{IfOk, sym, ◌∙◌, subst}
-use Rattle.strand_machine.specs.Made.{made, GoesOn}
+use Rattle.strand_machine.specs.Made.{made, StepsOn}
 use Rattle.strand_machine.specs.Tasks.{view_of}
-use Rattle.strand_machine.specs.declared.work.Work.{Work}
+use Rattle.strand_machine.specs.declared.remaining.Remaining.{Remaining}
 use Rattle.strand_machine.proofs.Moves.Making.{sound-at}
 use Rattle.strand_machine.proofs.step.pass_on.Goals as goal
 
 pub go-requires : goal.go-requires
-go-requires c = let p = c.args.parts.now in sound-at p.body p.work _ c.in-Some.ensures.some c.requires
+go-requires c = let p = c.args.parts.now in sound-at p.state p.remaining _ c.in-Some.ensures.some c.requires
 
 pub returns-in-Some-clause-step : goal.returns-in-Some-clause-step
 returns-in-Some-clause-step c =
-    subst (λ (x : Work). IfOk c.go.result (λ passed. GoesOn (view_of c.args.parts.now.body x) (made c.go.new.parts passed))) (sym c.in-Some.ensures.some) c.go.ensures.step
+    subst (λ (x : Remaining). IfOk c.go.result (λ passed. StepsOn (view_of c.args.parts.now.state x) (made c.go.new.parts passed))) (sym c.in-Some.ensures.some) c.go.ensures.step
 
 pub pass_with-requires : goal.pass_with-requires
-pass_with-requires c = let p = c.args.parts.now in sound-at p.body p.work _ (sym (c.replace-work.ensures.value ∙ c.in_default.ensures.none)) c.requires
+pass_with-requires c = let p = c.args.parts.now in sound-at p.state p.remaining _ (sym (c.replace-remaining.ensures.value ∙ c.in_default.ensures.none)) c.requires
 
 pub returns-clause-step : goal.returns-clause-step
 returns-clause-step c =
-    subst (λ (x : Work). IfOk c.pass_with.result (λ passed. GoesOn (view_of c.args.parts.now.body x) (made c.pass_with.new.parts passed))) (c.replace-work.ensures.value ∙ c.in_default.ensures.none) c.pass_with.ensures.step
+    subst (λ (x : Remaining). IfOk c.pass_with.result (λ passed. StepsOn (view_of c.args.parts.now.state x) (made c.pass_with.new.parts passed))) (c.replace-remaining.ensures.value ∙ c.in_default.ensures.none) c.pass_with.ensures.step

@@ -11,16 +11,16 @@ pass_on-requires c = c.loop-passed.invariant.sound
 pub loop-passed-smaller : goal.loop-passed-smaller
 loop-passed-smaller c =
     let p = c.args.parts.now in
-    way-falls (view_of p.body p.work) c.loop-passed.parts c.pass_on.new.parts _ c.loop-passed.invariant c.in_ok-passed.ensures.step c.in_ok-passed.ensures.sound c.moves_fall.ensures c.in-Goes.is
+    way-falls (view_of p.state p.remaining) c.loop-passed.parts c.pass_on.new.parts _ c.loop-passed.invariant c.in_ok-passed.ensures.step c.in_ok-passed.ensures.sound c.moves_fall.ensures c.in-Continues.is
 
 pub loop-passed-preserved : goal.loop-passed-preserved
 loop-passed-preserved c =
     let p = c.args.parts.now in
-    way-on (view_of p.body p.work) c.loop-passed.parts c.pass_on.new.parts _ c.loop-passed.invariant c.in_ok-passed.ensures.step c.in_ok-passed.ensures.sound c.moves_fall.ensures c.in-Goes.is
+    way-on (view_of p.state p.remaining) c.loop-passed.parts c.pass_on.new.parts _ c.loop-passed.invariant c.in_ok-passed.ensures.step c.in_ok-passed.ensures.sound c.moves_fall.ensures c.in-Continues.is
 
 pub returns-in_default-clause-stopped : goal.returns-in_default-clause-stopped
-returns-in_default-clause-stopped c = is-stopped _ c.in_default.not-Goes
+returns-in_default-clause-stopped c = is-stopped _ c.in_default.not-Continues
 
 pub returns-in_default-clause-stop : goal.returns-in_default-clause-stop
 returns-in_default-clause-stop c =
-    way-stops c.stops_are_sound.ensures c.args.parts.now c.loop-passed.parts c.pass_on.new.parts _ c.requires c.loop-passed.invariant c.in_ok-passed.ensures.step (is-stopped _ c.in_default.not-Goes)
+    way-stops c.stops_are_sound.ensures c.args.parts.now c.loop-passed.parts c.pass_on.new.parts _ c.requires c.loop-passed.invariant c.in_ok-passed.ensures.step (is-stopped _ c.in_default.not-Continues)

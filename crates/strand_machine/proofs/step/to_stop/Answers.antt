@@ -2,7 +2,7 @@ use Rattle.strand_machine.proofs.Moves.Making.{ends-can, never-goes, spawned-hol
 use Rattle.strand_machine.proofs.step.to_stop.Goals as goal
 
 pub unreachable-requires : goal.unreachable-requires
-unreachable-requires c = never-goes c.args.passed c.in-Goes.is c.requires.stops
+unreachable-requires c = never-goes c.args.passed c.in-Continues.is c.requires.stops
 
 pub invariant_of-result : goal.invariant_of-result
 invariant_of-result c = waits-holds c.args.parts.value c.args.passed c.in-Waits.is c.requires.sound

@@ -3,8 +3,8 @@ use Rattle.strand_values.proofs.FoundOperands.{in_product, in_variable}
 use Rattle.strand_values.proofs.NumberLemmas.{value_of_product}
 use Rattle.strand_values.proofs.plain.first_operand.Goals as goal
 
-pub number_of-requires : goal.number_of-requires
-number_of-requires c = in_variable (has_place c.args.places.now c.args.env.now.names) c.args.e.now c.in-Var.name c.in-Var.is c.requires
+pub integer_or_zero-requires : goal.integer_or_zero-requires
+integer_or_zero-requires c = in_variable (has_place c.args.places.now c.args.env.now.names) c.args.e.now c.in-Var.name c.in-Var.is c.requires
 
 pub scaled-requires-clause-first : goal.scaled-requires-clause-first
 scaled-requires-clause-first c =

@@ -14,12 +14,12 @@ pub value-scalar-requires : goal.value-scalar-requires
 value-scalar-requires t c =
     in_variable (has_place c.args.places.now c.args.env.now.names) c.args.e.now c.in-Var.name c.in-Var.is c.requires.found
 
-pub integer-number_of-requires : goal.integer-number_of-requires
-integer-number_of-requires t c =
+pub integer-integer_or_zero-requires : goal.integer-integer_or_zero-requires
+integer-integer_or_zero-requires t c =
     in_variable (has_place c.args.places.now c.args.env.now.names) c.args.e.now c.in-Var.name c.in-Var.is c.requires.found
 
-pub operand-number_of-requires : goal.operand-number_of-requires
-operand-number_of-requires t c =
+pub operand-integer_or_zero-requires : goal.operand-integer_or_zero-requires
+operand-integer_or_zero-requires t c =
     in_variable (has_place c.args.places.now c.args.env.now.names) c.args.e.now c.in-Var.name c.in-Var.is c.requires.found
 
 pub add-operand-requires : goal.add-operand-requires

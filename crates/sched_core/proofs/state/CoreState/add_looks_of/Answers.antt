@@ -13,6 +13,6 @@ loop-place-preserved c = add-one (core_of false c.args.self.now) (λ place. Look
 pub returns : goal.returns
 returns c =
     let o = slice_get (map worker_of c.args.self.now.workers.items) c.args.worker in
-    let end : c.loop-place.place ≡ length (stalled_places o) = let l = c.waiting-place-end.ensures in let t = c.loop-place-test.false in let k = c.loop-place.auto.place-end in omega (arith, l, t, k) in
+    let end : c.loop-place.place ≡ length (stalled_places o) = let l = c.stalled_count-place-end.ensures in let t = c.loop-place-test.false in let k = c.loop-place.auto.place-end in omega (arith, l, t, k) in
     subst (λ (places : List ℕ). c.loop-place.events.items ≡ c.args.events.now.items ++ looks_at (core_of false c.args.self.now) c.args.worker places) (places-range o)
     (subst (λ (n : ℕ). c.loop-place.events.items ≡ c.args.events.now.items ++ looks_at (core_of false c.args.self.now) c.args.worker (range_with_len 0 n)) end c.loop-place.invariant)

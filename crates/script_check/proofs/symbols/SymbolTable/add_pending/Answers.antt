@@ -1,7 +1,7 @@
 use Rattle.std.proofs.Common.{◌≡◌, ℕ, false, List, ap, ◌∙◌, rules}
 use Rattle.script_check.specs.Names.{with_name}
 use Rattle.script_check.specs.Tables.{table_of}
-use Rattle.script_check.specs.Walk.{names_of, state_of, pending_in, undone}
+use Rattle.script_check.specs.Walk.{names_of, walk_state, pending_in, undone}
 use Rattle.script_check.proofs.Walk.Collected.{names_added}
 use Rattle.script_check.proofs.Walk.Undone.{one_added}
 use Rattle.script_check.proofs.symbols.SymbolTable.add_pending.Goals as goal
@@ -19,4 +19,4 @@ returns-in_ok-insert c =
     let undoes : undone c.push.new.self.items (names_of (table_of c.insert.new.self.map)) ≡ undone s.block.changes.items (pending_in s) =
     one_added s.block.changes.items c.push.new.self.items key x (pending_in s) (names_of (table_of c.insert.new.self.map))
     c.in_ok-push.ensures.items copied added absent in
-    λ i. record (state_of s) { names = added i; before = undoes i }
+    λ i. record (walk_state s) { names = added i; before = undoes i }

@@ -77,13 +77,13 @@ more_factors-loop-sign-preserved t c = one_more_factor c.args.source.now c.args.
 pub more_factors-returns : goal.more_factors-returns
 more_factors-returns t c = factors_end c.args.source.now c.args.depth _ _ _ c.loop-sign.invariant c.in_default.ensures
 
-pub factor-returns-in_err-number_of-in-Number : goal.factor-returns-in_err-number_of-in-Number
-factor-returns-in_err-number_of-in-Number t c =
+pub factor-returns-in_err-number_node-in-Number : goal.factor-returns-in_err-number_node-in-Number
+factor-returns-in_err-number_node-in-Number t c =
     let p = err_from_is_err_and c.from_residual.result c.from_residual.ensures.1 in
-    rw (p.1, p.2, c.in-Some.ensures.cases.0) (factor_number_err c.args.source.now c.args.depth _ _ _ c.in-Number.is c.in_err-number_of-in-Number.ensures)
+    rw (p.1, p.2, c.in-Some.ensures.cases.0) (factor_number_err c.args.source.now c.args.depth _ _ _ c.in-Number.is c.in_err-number_node-in-Number.ensures)
 
-pub factor-returns-in_ok-number_of-in-Number : goal.factor-returns-in_ok-number_of-in-Number
-factor-returns-in_ok-number_of-in-Number t c = rw c.in-Some.ensures.cases.0 (factor_number c.args.source.now c.args.depth _ _ _ c.in-Number.is c.requires c.in_ok-number_of-in-Number.ensures)
+pub factor-returns-in_ok-number_node-in-Number : goal.factor-returns-in_ok-number_node-in-Number
+factor-returns-in_ok-number_node-in-Number t c = rw c.in-Some.ensures.cases.0 (factor_number c.args.source.now c.args.depth _ _ _ c.in-Number.is c.requires c.in_ok-number_node-in-Number.ensures)
 
 pub factor-returns-in_err-x-in-Same : goal.factor-returns-in_err-x-in-Same
 factor-returns-in_err-x-in-Same t c =

@@ -1,9 +1,9 @@
 use Rattle.std.proofs.Common.{List, [], ◌∷◌, ◌++◌, length, ◌+◌, ◌-◌, ◌*◌}
 use Rattle.script_grammar.specs.declared.tree.SumPart.{SumPart}
 use Rattle.script_grammar.specs.declared.tree.ProductPart.{ProductPart}
-use Rattle.script_grammar.specs.Grammar.{Token, IsTerms, IsFactors}
+use Rattle.script_grammar.specs.Grammar.{Terminal, IsTerms, IsFactors}
 use Rattle.script_text.specs.Machine.{more_terms, more_factors}
-use Rattle.script_text.specs.Reads.{seen, Leads}
+use Rattle.script_text.specs.Reads.{terminals_of, ReadsTo}
 use Rattle.script_text.proofs.parser.expression.+expressions.Given as goal
 
 abbrev pub decreases-factor : goal.decreases-factor
@@ -38,8 +38,8 @@ decreases-expr l = 7 * (65 - l.depth) + 6
 
 abbrev pub invariant-more_terms-loop-minus : goal.invariant-more_terms-loop-minus
 invariant-more_terms-loop-minus l = record {
-  so_far : (xs : List SumPart) (rest : List Token) → IsTerms (seen l.source l.left) xs rest → IsTerms (seen l.source l.tokens) (l.found.items ++ xs) rest;
-  goes : Leads (more_terms ∷ []) (more_terms ∷ []) l.source l.depth l.tokens l.left;
+  so_far : (xs : List SumPart) (rest : List Terminal) → IsTerms (terminals_of l.source l.left) xs rest → IsTerms (terminals_of l.source l.tokens) (l.found.items ++ xs) rest;
+  goes : ReadsTo (more_terms ∷ []) (more_terms ∷ []) l.source l.depth l.tokens l.left;
 }
 
 abbrev pub decreases-more_terms-loop-minus : goal.decreases-more_terms-loop-minus
@@ -47,8 +47,8 @@ decreases-more_terms-loop-minus l = length l.left
 
 abbrev pub invariant-more_factors-loop-sign : goal.invariant-more_factors-loop-sign
 invariant-more_factors-loop-sign l = record {
-  so_far : (xs : List ProductPart) (rest : List Token) → IsFactors (seen l.source l.left) xs rest → IsFactors (seen l.source l.tokens) (l.found.items ++ xs) rest;
-  goes : Leads (more_factors ∷ []) (more_factors ∷ []) l.source l.depth l.tokens l.left;
+  so_far : (xs : List ProductPart) (rest : List Terminal) → IsFactors (terminals_of l.source l.left) xs rest → IsFactors (terminals_of l.source l.tokens) (l.found.items ++ xs) rest;
+  goes : ReadsTo (more_factors ∷ []) (more_factors ∷ []) l.source l.depth l.tokens l.left;
 }
 
 abbrev pub decreases-more_factors-loop-sign : goal.decreases-more_factors-loop-sign

@@ -1,10 +1,10 @@
 use Rattle.std.proofs.Common.{sym, ap, subst}
-use Rattle.strand_machine.specs.Tasks.{Holds, view_of}
+use Rattle.strand_machine.specs.Tasks.{HoldsOfTask, view_of}
 use Rattle.strand_machine.specs.declared.parts.Parts.{Parts}
 use Rattle.strand_machine.proofs.parts.Parts.boxed.Goals as goal
 
 pub invariant_of-result : goal.invariant_of-result
-invariant_of-result c = subst (λ (q : Parts). Holds q.body q.work) (sym c.in-Ok.ensures.ok) c.requires
+invariant_of-result c = subst (λ (q : Parts). HoldsOfTask q.state q.remaining) (sym c.in-Ok.ensures.ok) c.requires
 
 pub returns-in-Ok : goal.returns-in-Ok
-returns-in-Ok c = ap (λ (q : Parts). view_of q.body q.work) c.in-Ok.ensures.ok
+returns-in-Ok c = ap (λ (q : Parts). view_of q.state q.remaining) c.in-Ok.ensures.ok

@@ -5,8 +5,8 @@ use Rattle.strand_machine.proofs.task.Task.advance.Goals as goal
 pub run-requires : goal.run-requires
 run-requires c = goes-on-uncut _ _ c.is_cut_short.ensures c.if-is_cut_short.false
 
-pub done-requires-in-Ended : goal.done-requires-in-Ended
-done-requires-in-Ended c = ended-short c.args.self _ c.in_ok-paused.ensures c.in-Ended.rest c.in-Ended.is
+pub stop_done-requires-in-Ended : goal.stop_done-requires-in-Ended
+stop_done-requires-in-Ended c = ended-short c.args.self _ c.in_ok-paused.ensures c.in-Ended.rest c.in-Ended.is
 
 pub returns-in-Spawn : goal.returns-in-Spawn
 returns-in-Spawn c = spawns-so c.args.self _ c.in_ok-paused.ensures c.in-Spawn.child c.in-Spawn.rest (goes-on-uncut _ _ c.is_cut_short.ensures c.if-is_cut_short.false) c.in-Spawn.is
@@ -15,4 +15,4 @@ pub returns-in-Wait : goal.returns-in-Wait
 returns-in-Wait c = waits-so c.args.self _ c.in_ok-paused.ensures c.in-Wait.rest (goes-on-uncut _ _ c.is_cut_short.ensures c.if-is_cut_short.false) c.in-Wait.is
 
 pub returns-in-Ended : goal.returns-in-Ended
-returns-in-Ended c = ends-so c.args.self _ c.in_ok-paused.ensures c.in-Ended.rest _ (goes-on-uncut _ _ c.is_cut_short.ensures c.if-is_cut_short.false) c.in-Ended.is c.done-in-Ended.ensures
+returns-in-Ended c = ends-so c.args.self _ c.in_ok-paused.ensures c.in-Ended.rest _ (goes-on-uncut _ _ c.is_cut_short.ensures c.if-is_cut_short.false) c.in-Ended.is c.stop_done-in-Ended.ensures

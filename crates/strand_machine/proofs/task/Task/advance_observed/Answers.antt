@@ -20,4 +20,4 @@ pub returns-in-Stops : goal.returns-in-Stops
 returns-in-Stops c =
     let m = c.in_ok-next.ensures in
     observed-stop c.args.self c.args.at.now c.args.eye c.loop-observation.task c.loop-observation.observation c.step_observed.new.observation c.loop-observation.invariant m.observation c.stops_are_sound.ensures
-    (is-task c.self.inside.parts.value.body c.self.inside.parts.value.work c.args.self c.self.view_is c.requires.goes_on c.self.invariant) c.in-Stops.stop _ m.step c.in-Stops.is
+    (is-task c.self.inside.parts.value.state c.self.inside.parts.value.remaining c.args.self c.self.view_is c.requires.goes_on c.self.invariant) c.in-Stops.stop _ m.step c.in-Stops.is

@@ -1,7 +1,7 @@
 use Rattle.std.proofs.Common.{◌≡◌, sym, ap, ◌∙◌, subst}
 use Rattle.strand_machine.specs.Family.{tags}
 use Rattle.strand_machine.specs.Merge.{HasTakenAnswers}
-use Rattle.strand_machine.specs.Parts.{awaited}
+use Rattle.strand_machine.specs.AwaitedChildren.{awaited}
 use Rattle.strand_machine.specs.Stops.{WentOn, answer_tags}
 use Rattle.strand_machine.specs.Tasks.{TaskView, view_of}
 use Rattle.strand_machine.specs.declared.parts.Parts.{Parts}
@@ -12,16 +12,16 @@ use Rattle.strand_machine.proofs.task.Task.resume_by.Goals as goal
 pub go_on-requires-clause-sound : goal.go_on-requires-clause-sound
 go_on-requires-clause-sound c =
     let p = c.self.inside.parts.value in
-    subst (λ (q : Parts). HasTakenAnswers q.body q.work) (sym c.deref_mut.ensures.value)
-    (answered-sound p.body p.work (waits-sound p.body p.work c.args.self c.self.view_is c.requires.waits c.self.invariant))
+    subst (λ (q : Parts). HasTakenAnswers q.state q.remaining) (sym c.deref_mut.ensures.value)
+    (answered-sound p.state p.remaining (waits-sound p.state p.remaining c.args.self c.self.view_is c.requires.waits c.self.invariant))
 
 pub go_on-requires-clause-tags : goal.go_on-requires-clause-tags
 go_on-requires-clause-tags c =
-    let same = ap (λ (q : Parts). view_of q.body q.work) c.deref_mut.ensures.value ∙ c.self.view_is in
+    let same = ap (λ (q : Parts). view_of q.state q.remaining) c.deref_mut.ensures.value ∙ c.self.view_is in
     subst (λ (t : TaskView). answer_tags c.args.answers ≡ tags t.task.plan (awaited t.task.trace.handed)) (sym same) c.requires.tags
 
 pub returns-clause-went : goal.returns-clause-went
 returns-clause-went c =
-    let same = ap (λ (q : Parts). view_of q.body q.work) c.deref_mut.ensures.value ∙ c.self.view_is in
+    let same = ap (λ (q : Parts). view_of q.state q.remaining) c.deref_mut.ensures.value ∙ c.self.view_is in
     let after = c.go_on.new.parts in
-    subst (λ (t : TaskView). WentOn c.args.answers t (view_of after.body after.work)) same c.in_ok-left.ensures.went
+    subst (λ (t : TaskView). WentOn c.args.answers t (view_of after.state after.remaining)) same c.in_ok-left.ensures.went

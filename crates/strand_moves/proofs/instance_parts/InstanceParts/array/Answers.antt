@@ -11,7 +11,7 @@ pub returns-clause-shows : goal.returns-clause-shows
 returns-clause-shows c = λ plan st.
     let i = c.args.self.now in
     let fits : SFits w64 c.args.n.value = search rules in
-    let counted = rw (to_z-of_z w64 c.args.n.value fits) at c.count.ensures in
+    let counted = rw (to_z-of_z w64 c.args.n.value fits) at c.count_of.ensures in
     let set = rw counted at c.in_ok-set_array.ensures.ok in
     array plan (present_of i) (machine_of plan i) st c.args.x.now c.args.n c.set_array.new.self.variables (variables-are c.set_array.new.self i.top.env _ set)
 

@@ -26,7 +26,7 @@ pub returns-in-Spawn-clause-shows : goal.returns-in-Spawn-clause-shows
 returns-in-Spawn-clause-shows c = λ st.
     let i = c.args.self.now in
     let m = machine_of c.args.plan.now i in
-    handed-acts c.args.plan.now st _ i c.spawn.new.self c.spawn.result c.handed.result c.handed.ensures
+    handed-acts c.args.plan.now st _ i c.spawn.new.self c.spawn.result c.spawn_as_move.result c.spawn_as_move.ensures
     (rw (c.in-Spawn.is, spawn-at c.args.plan.now (present_of i) m st c.args.x.now c.in-Spawn.field-0 c.in-Spawn.c) (c.spawn.ensures.shows st))
 
 pub returns-in-Value-clause-child : goal.returns-in-Value-clause-child
@@ -45,7 +45,7 @@ pub returns-in-Call-clause-stays : goal.returns-in-Call-clause-stays
 returns-in-Call-clause-stays c = rw c.quiet-in-Call.ensures c.call.ensures.stays
 
 pub returns-in-Spawn-clause-child : goal.returns-in-Spawn-clause-child
-returns-in-Spawn-clause-child c = handed-child c.args.plan.now c.spawn.result c.handed.result c.handed.ensures c.spawn.ensures.child
+returns-in-Spawn-clause-child c = handed-child c.args.plan.now c.spawn.result c.spawn_as_move.result c.spawn_as_move.ensures c.spawn.ensures.child
 
 pub set_value-requires-clause-value : goal.set_value-requires-clause-value
 set_value-requires-clause-value c = in_value (has_place c.args.places.now c.args.self.now.top.env.names) (finds_callee (functions_of c.args.plan.now)) c.args.r.now c.in-Value.e c.in-Value.is c.requires.right

@@ -30,7 +30,7 @@ returns-in_ok-go_out-in-Some-clause-shows c =
     let popped : InstanceParts = record i { top = record i.top { levels = c.pop.new.self } } in
     let s = c.in_ok-go_out-in-Some.ensures in
     let out = is-out plan i c.requires.instance rest l there leaves popped c.go_out.new.self refl refl s.passed in
-    out-moves plan i c.requires.instance rest l there leaves c.go_out.new.self out ∙ ap (λ (x : Effects). went (effects_of x) (machine_of plan c.go_out.new.self)) (sym s.shown)
+    out-moves plan i c.requires.instance rest l there leaves c.go_out.new.self out ∙ ap (λ (x : Effects). went (effects_of x) (machine_of plan c.go_out.new.self)) (sym s.effects)
 
 pub returns-in_ok-go_out-in-Some-clause-keeps : goal.returns-in_ok-go_out-in-Some-clause-keeps
 returns-in_ok-go_out-in-Some-clause-keeps c =
@@ -52,14 +52,14 @@ returns-then-not-is_empty-clause-shows c =
     let plan = c.args.plan.now in
     let i = c.args.self.now in
     let s = c.join_scope.ensures in
-    let is-open : i.top.levels.items ≡ [] → ⊥ = λ e.
+    let is-open_call : i.top.levels.items ≡ [] → ⊥ = λ e.
     (let some = c.if-not-is_empty.true in
     let none : c.is_empty.result ≡ true = rw (c.as_slice.ensures.value, e) at c.is_empty.ensures in
     absurd (cc)) in
     let m = machine_of plan i in
-    shows-made (end_move plan (path_of i) m m.top.levels) (present_pedigree (present_of i) m) (machine_of plan c.join_scope.new.self) _ c.join_scope.result s.shown s.fine s.passed
+    shows-made (end_move plan (path_of i) m m.top.levels) (present_pedigree (present_of i) m) (machine_of plan c.join_scope.new.self) _ c.join_scope.result s.effects s.fine s.passed
     (λ passed.
-    join-moves plan i c.requires.instance is-open c.if-self.false
+    join-moves plan i c.requires.instance is-open_call c.if-self.false
     ∙ ap (λ (x : InstanceParts). went (Emitted (event.Sync (present_of i ++ i.rank ∷ [])) ∷ sync_effects i.top.spawned) (machine_of plan x)) (sym passed))
 
 pub returns-then-not-is_empty-clause-keeps : goal.returns-then-not-is_empty-clause-keeps
@@ -67,12 +67,12 @@ returns-then-not-is_empty-clause-keeps c =
     let plan = c.args.plan.now in
     let i = c.args.self.now in
     let s = c.join_scope.ensures in
-    let is-open : i.top.levels.items ≡ [] → ⊥ = λ e.
+    let is-open_call : i.top.levels.items ≡ [] → ⊥ = λ e.
     (let some = c.if-not-is_empty.true in
     let none : c.is_empty.result ≡ true = rw (c.as_slice.ensures.value, e) at c.is_empty.ensures in
     absurd (cc)) in
     keeps-made plan i c.join_scope.new.self c.join_scope.result s.fine s.passed
-    (λ passed. subst (λ (x : InstanceParts). IsKept plan i x) (sym passed) (join-kept plan i c.requires.instance is-open c.if-self.false c.requires.none))
+    (λ passed. subst (λ (x : InstanceParts). IsKept plan i x) (sym passed) (join-kept plan i c.requires.instance is-open_call c.if-self.false c.requires.none))
 
 pub returns-then-not-is_empty-clause-child : goal.returns-then-not-is_empty-clause-child
 returns-then-not-is_empty-clause-child c = c.join_scope.ensures.child c.args.plan.now

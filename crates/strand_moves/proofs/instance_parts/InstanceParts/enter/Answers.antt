@@ -19,14 +19,14 @@ use Rattle.strand_moves.proofs.instance_parts.InstanceParts.enter.Goals as goal
 pub unreachable-requires : goal.unreachable-requires
 unreachable-requires c = own-names-there c.args.plan.now c.args.number c.args.function.now c.requires.there c.in_default.ensures
 
-pub called-requires-clause-params : goal.called-requires-clause-params
-called-requires-clause-params c =
+pub called_with-requires-clause-params : goal.called_with-requires-clause-params
+called_with-requires-clause-params c =
     let plan = c.args.plan.now in
     let f = c.args.function.now in
     rw (c.as_slice-params.ensures, own-names plan c.args.number f c.requires.there c.in-Some.names.now c.in-Some.ensures) (params-stand plan c.args.number f c.requires.there c.args.places.now c.requires.places)
 
-pub called-requires-clause-args : goal.called-requires-clause-args
-called-requires-clause-args c = rw c.as_slice-args.ensures c.requires.args
+pub called_with-requires-clause-args : goal.called_with-requires-clause-args
+called_with-requires-clause-args c = rw c.as_slice-args.ensures c.requires.args
 
 pub returns-in_err-env-clause-shows : goal.returns-in_err-env-clause-shows
 returns-in_err-env-clause-shows c = λ st.
@@ -63,8 +63,8 @@ returns-clause-shows c = λ st.
     let known = called-by names f.params text.args i.top.env.variables c.in_ok-env.env (rw (c.as_slice-params.ensures, c.as_slice-args.ensures) at c.in_ok-env.ensures) in
     let vs = known.0 in
     let room = is_below (length (machine_of plan i).below) 256 (omega (arith, calls-open plan i)) in
-    let opened = c.in_ok-open.ensures in
-    let new = c.open.new.self in
+    let opened = c.in_ok-open_call.ensures in
+    let new = c.open_call.new.self in
     let begun = subst (λ (env : EnvironmentView). IsCallee number env to new.top) {y = record { names = names; variables = bound f.params vs }} known.1.1 opened.top in
     call plan (present_of i) (machine_of plan i) st to text vs f known.1.0 room (ap (λ (n : ℕ). function_at (functions_of plan) n) (sym same) ∙ c.requires.there)
     ∙ ap (λ (n : ℕ). let m = machine_of plan i in went [] (record m { top = callee to n f vs; below = m.top ∷ m.below })) (sym same)
@@ -72,8 +72,8 @@ returns-clause-shows c = λ st.
 
 pub returns-clause-stays : goal.returns-clause-stays
 returns-clause-stays c =
-    let opened = c.in_ok-open.ensures in
-    begun-stays c.args.number c.in_ok-env.env (option_copied c.args.target) c.args.self.now c.open.new.self opened.top opened.below opened.trail opened.leaving
+    let opened = c.in_ok-open_call.ensures in
+    begun-stays c.args.number c.in_ok-env.env (option_copied c.args.target) c.args.self.now c.open_call.new.self opened.top opened.below opened.trail opened.leaving
 
 pub returns-in_err-env-clause-stays : goal.returns-in_err-env-clause-stays
 returns-in_err-env-clause-stays c = let i = c.args.self.now in stands-quiet i i c.from_residual.result (record { trail = refl; scopes = refl; leaving = refl })
@@ -85,9 +85,9 @@ returns-clause-named c =
     let f = c.args.function.now in
     let names = c.in-Some.names.now in
     let known = called-by names f.params c.args.call.now.args i.top.env.variables c.in_ok-env.env (rw (c.as_slice-params.ensures, c.as_slice-args.ensures) at c.in_ok-env.ensures) in
-    let opened = c.in_ok-open.ensures in
+    let opened = c.in_ok-open_call.ensures in
     let top = opened.top in
-    named-begun plan i c.open.new.self opened.below
+    named-begun plan i c.open_call.new.self opened.below
     (record {
       function = f;
       of_plan = ap (λ (n : ℕ). function_at (functions_of plan) n) top.function ∙ c.requires.there;
@@ -95,5 +95,5 @@ returns-clause-named c =
     })
     (subst (IsNamedIn plan i.top) (sym top.target) (target-named plan c.args.places.now i.top (option_copied c.args.target) c.requires.places c.requires.target))
 
-pub returns-in_err-open-clause-named : goal.returns-in_err-open-clause-named
-returns-in_err-open-clause-named c = there-named c.args.plan.now c.args.self.now c.open.new.self c.in_err-open.ensures.err
+pub returns-in_err-open_call-clause-named : goal.returns-in_err-open_call-clause-named
+returns-in_err-open_call-clause-named c = there-named c.args.plan.now c.args.self.now c.open_call.new.self c.in_err-open_call.ensures.err

@@ -8,33 +8,33 @@ use Rattle.strand_moves.proofs.instance_parts.InstanceParts.make_move.Goals as g
 pub make-requires-clause-sound : goal.make-requires-clause-sound
 make-requires-clause-sound c =
     let passes = rw c.statements-text.ensures at c.in-Some.ensures in
-    passed-sound c.args.plan.now c.args.self.now c.pass.new.self (Some c.in-Some.statement.now) c.requires passes
+    passed-sound c.args.plan.now c.args.self.now c.pass_next.new.self (Some c.in-Some.statement.now) c.requires passes
 
 pub make-requires-clause-passed : goal.make-requires-clause-passed
 make-requires-clause-passed c =
     let passes = rw c.statements-text.ensures at c.in-Some.ensures in
-    passed-has c.args.plan.now c.args.self.now c.pass.new.self (Some c.in-Some.statement.now) c.requires passes
+    passed-has c.args.plan.now c.args.self.now c.pass_next.new.self (Some c.in-Some.statement.now) c.requires passes
 
 pub returns-in-Some-clause-moves : goal.returns-in-Some-clause-moves
 returns-in-Some-clause-moves c =
     let plan = c.args.plan.now in
     let i = c.args.self.now in
     let passes = rw c.statements-text.ensures at c.in-Some.ensures in
-    subst (λ (m : Machine). IfOk c.make.result (λ moved. move plan (path_of i) m ≡ run_of moved (machine_of plan c.make.new.self))) (passed-machine plan i c.pass.new.self (Some c.in-Some.statement.now) passes) c.make.ensures.moves
+    subst (λ (m : Machine). IfOk c.make.result (λ move_result. move plan (path_of i) m ≡ run_of move_result (machine_of plan c.make.new.self))) (passed-machine plan i c.pass_next.new.self (Some c.in-Some.statement.now) passes) c.make.ensures.moves
 
 pub make-requires-in-None-clause-sound : goal.make-requires-in-None-clause-sound
 make-requires-in-None-clause-sound c =
     let ended = rw c.statements-text.ensures at c.in-None.ensures in
-    passed-sound c.args.plan.now c.args.self.now c.pass.new.self None c.requires ended
+    passed-sound c.args.plan.now c.args.self.now c.pass_next.new.self None c.requires ended
 
 pub make-requires-in-None-clause-passed : goal.make-requires-in-None-clause-passed
 make-requires-in-None-clause-passed c =
     let ended = rw c.statements-text.ensures at c.in-None.ensures in
-    passed-has c.args.plan.now c.args.self.now c.pass.new.self None c.requires ended
+    passed-has c.args.plan.now c.args.self.now c.pass_next.new.self None c.requires ended
 
 pub returns-in-None-clause-moves : goal.returns-in-None-clause-moves
 returns-in-None-clause-moves c =
     let plan = c.args.plan.now in
     let i = c.args.self.now in
     let ended = rw c.statements-text.ensures at c.in-None.ensures in
-    subst (λ (m : Machine). IfOk c.make-in-None.result (λ moved. move plan (path_of i) m ≡ run_of moved (machine_of plan c.make-in-None.new.self))) (passed-machine plan i c.pass.new.self None ended) c.make-in-None.ensures.moves
+    subst (λ (m : Machine). IfOk c.make-in-None.result (λ move_result. move plan (path_of i) m ≡ run_of move_result (machine_of plan c.make-in-None.new.self))) (passed-machine plan i c.pass_next.new.self None ended) c.make-in-None.ensures.moves

@@ -63,10 +63,10 @@ returns-in_err-begin_loop-clause-shows c = λ st var.
     let known = rw c.as_slice.ensures at c.in_ok-rest.ensures in
     let first : SFits w64 c.number-first.result = search rules in
     let end : SFits w64 c.number-end.result = search rules in
-    let counted = rw (to_z-of_z w64 c.number-first.result first, to_z-of_z w64 c.number-end.result end, c.number-first.ensures, c.number-end.ensures) at c.iterations-count.ensures in
+    let counted = rw (to_z-of_z w64 c.number-first.result first, to_z-of_z w64 c.number-end.result end, c.number-first.ensures, c.number-end.ensures) at c.iteration_count-count.ensures in
     shows-fault (acted plan (present_of i) (machine_of plan i) st (act.Pfor var c.args.lo.now c.args.hi.now c.args.target.now c.args.call.now)) (present_pedigree (present_of i) (machine_of plan i)) _
     c.from_residual-in_err-begin_loop.result c.in_err-begin_loop.field-0.0 c.from_residual-in_err-begin_loop.ensures.1
-    (pfor-fault plan (present_of i) (machine_of plan i) st var c.args.lo.now c.args.hi.now c.args.target.now c.args.call.now c.in_ok-value.field-0 c.in_ok-value-2.field-0 c.in_ok-rest.rest c.iterations-count.result
+    (pfor-fault plan (present_of i) (machine_of plan i) st var c.args.lo.now c.args.hi.now c.args.target.now c.args.call.now c.in_ok-value.field-0 c.in_ok-value-2.field-0 c.in_ok-rest.rest c.iteration_count-count.result
     c.in_ok-value.ensures c.in_ok-value-2.ensures known counted c.in_err-begin_loop.field-0.0 (sym c.begin_loop.ensures.result ∙ c.in_err-begin_loop.was))
 
 pub returns-then-count-eq0-clause-shows : goal.returns-then-count-eq0-clause-shows
@@ -76,10 +76,10 @@ returns-then-count-eq0-clause-shows c = λ st var.
     let known = rw c.as_slice.ensures at c.in_ok-rest.ensures in
     let first : SFits w64 c.number-first.result = search rules in
     let end : SFits w64 c.number-end.result = search rules in
-    let counted = rw (to_z-of_z w64 c.number-first.result first, to_z-of_z w64 c.number-end.result end, c.number-first.ensures, c.number-end.ensures) at c.iterations-count.ensures in
-    looped-none plan i st var c.args.lo.now c.args.hi.now c.args.target.now c.args.call.now c.in_ok-value.field-0 c.in_ok-value-2.field-0 c.in_ok-rest.rest c.iterations-count.result
+    let counted = rw (to_z-of_z w64 c.number-first.result first, to_z-of_z w64 c.number-end.result end, c.number-first.ensures, c.number-end.ensures) at c.iteration_count-count.ensures in
+    looped-none plan i st var c.args.lo.now c.args.hi.now c.args.target.now c.args.call.now c.in_ok-value.field-0 c.in_ok-value-2.field-0 c.in_ok-rest.rest c.iteration_count-count.result
     c.begin_loop.new.self.steps c.begin_loop.new.self c.in_ok-value.ensures c.in_ok-value-2.ensures known counted (sym c.begin_loop.ensures.result ∙ c.in_ok-begin_loop.was)
-    c.in_ok-begin_loop.ensures.ok c.begin_loop.ensures.others c.if-count-eq0.true c.in_ok-pass_loop.field-0 c.pass_loop.new.self c.in_ok-pass_loop.ensures.shown c.in_ok-pass_loop.ensures.passed
+    c.in_ok-begin_loop.ensures.ok c.begin_loop.ensures.others c.if-count-eq0.true c.in_ok-pass_loop.field-0 c.pass_loop.new.self c.in_ok-pass_loop.ensures.effects c.in_ok-pass_loop.ensures.passed
 
 pub returns-clause-shows : goal.returns-clause-shows
 returns-clause-shows c = λ st var.
@@ -88,12 +88,12 @@ returns-clause-shows c = λ st var.
     let known = rw c.as_slice.ensures at c.in_ok-rest.ensures in
     let first : SFits w64 c.number-first.result = search rules in
     let end : SFits w64 c.number-end.result = search rules in
-    let counted = rw (to_z-of_z w64 c.number-first.result first, to_z-of_z w64 c.number-end.result end, c.number-first.ensures, c.number-end.ensures) at c.iterations-count.ensures in
+    let counted = rw (to_z-of_z w64 c.number-first.result first, to_z-of_z w64 c.number-end.result end, c.number-first.ensures, c.number-end.ensures) at c.iteration_count-count.ensures in
     let called = c.callee-function.ensures in
-    looped-some plan i st var c.args.lo.now c.args.hi.now c.args.target.now c.args.call.now c.in_ok-value.field-0 c.in_ok-value-2.field-0 c.in_ok-rest.rest c.iterations-count.result
+    looped-some plan i st var c.args.lo.now c.args.hi.now c.args.target.now c.args.call.now c.in_ok-value.field-0 c.in_ok-value-2.field-0 c.in_ok-rest.rest c.iteration_count-count.result
     c.begin_loop.new.self.steps c.begin_loop.new.self c.in_ok-value.ensures c.in_ok-value-2.ensures known counted (sym c.begin_loop.ensures.result ∙ c.in_ok-begin_loop.was)
     c.in_ok-begin_loop.ensures.ok c.begin_loop.ensures.others (omega arith) c.in_ok-hand_loop.field-0 c.hand_loop.new.self c.callee-function.result c.number-first.result c.in_ok-trail.path c.in_ok-trail.trail
-    called c.number-first.ensures (c.in_ok-trail.ensures.shared ∙ c.in_ok-trail.ensures.path) (rw (to_z-of_z w64 c.number-first.result first) at c.in_ok-hand_loop.ensures.shown) c.in_ok-hand_loop.ensures.passed
+    called c.number-first.ensures (c.in_ok-trail.ensures.shared ∙ c.in_ok-trail.ensures.path) (rw (to_z-of_z w64 c.number-first.result first) at c.in_ok-hand_loop.ensures.effects) c.in_ok-hand_loop.ensures.passed
 
 pub returns-in_err-begin_loop-clause-named : goal.returns-in_err-begin_loop-clause-named
 returns-in_err-begin_loop-clause-named c = λ plan.

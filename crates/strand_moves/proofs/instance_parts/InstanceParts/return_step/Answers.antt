@@ -30,7 +30,7 @@ returns-then-has_spawns-clause-shows c =
     let i = c.args.self.now in
     let s = c.sync.ensures in
     let function = ap (λ (x : InstanceParts). spawns_in (function_at (functions_of plan) x.top.function)) c.in_ok-pay.ensures.ok in
-    shows-made (return_move plan (path_of i) (machine_of plan i) false) (present_pedigree (present_of i) (machine_of plan i)) (machine_of plan c.sync.new.self) _ c.sync.result s.shown s.fine s.passed
+    shows-made (return_move plan (path_of i) (machine_of plan i) false) (present_pedigree (present_of i) (machine_of plan i)) (machine_of plan c.sync.new.self) _ c.sync.result s.effects s.fine s.passed
     (λ passed. return-joined plan i c.requires.here c.pay.new.self c.pay.new.self.steps c.in_ok-pay.ensures.ok c.in_ok-pay.ensures.paid c.sync.new.self (sym function ∙ sym c.has_spawns.ensures ∙ c.if-has_spawns.true) passed)
 
 pub returns-then-has_spawns-clause-child : goal.returns-then-has_spawns-clause-child

@@ -57,8 +57,8 @@ returns-in-Spawn-clause-shows c =
     let p = c.pay.new.self in
     let st = c.args.statement.now in
     let is = act-is (act.Spawn c.in-Spawn.c) st.act (variant.Spawn c.in-Spawn.c) c.in-Spawn.is (variant.rolls-Spawn c.in-Spawn.c) in
-    statement-paid plan c.args.self.now p p.steps c.in_ok-pay.ensures.ok c.in_ok-pay.ensures.paid (here-is plan c.args.self.now c.requires.instance) st (act.Spawn c.in-Spawn.c) c.spawn.new.self c.handed.result is
-    (handed-acts plan st (act.Spawn c.in-Spawn.c) p c.spawn.new.self c.spawn.result c.handed.result c.handed.ensures (c.spawn.ensures.shows st))
+    statement-paid plan c.args.self.now p p.steps c.in_ok-pay.ensures.ok c.in_ok-pay.ensures.paid (here-is plan c.args.self.now c.requires.instance) st (act.Spawn c.in-Spawn.c) c.spawn.new.self c.spawn_as_move.result is
+    (handed-acts plan st (act.Spawn c.in-Spawn.c) p c.spawn.new.self c.spawn.result c.spawn_as_move.result c.spawn_as_move.ensures (c.spawn.ensures.shows st))
 
 pub returns-in-Call-clause-shows : goal.returns-in-Call-clause-shows
 returns-in-Call-clause-shows c =
@@ -152,7 +152,7 @@ returns-in-Store-clause-keeps c =
 
 pub returns-in-Spawn-clause-keeps : goal.returns-in-Spawn-clause-keeps
 returns-in-Spawn-clause-keeps c =
-    keeps-paid c.args.plan.now c.args.self.now c.pay.new.self c.pay.new.self.steps c.requires.instance c.requires.goes_on c.in_ok-pay.ensures.ok c.in_ok-pay.ensures.paid c.spawn.new.self (c.spawn.ensures.named c.args.plan.now) c.spawn.ensures.stays c.spawn.ensures.few c.handed.result
+    keeps-paid c.args.plan.now c.args.self.now c.pay.new.self c.pay.new.self.steps c.requires.instance c.requires.goes_on c.in_ok-pay.ensures.ok c.in_ok-pay.ensures.paid c.spawn.new.self (c.spawn.ensures.named c.args.plan.now) c.spawn.ensures.stays c.spawn.ensures.few c.spawn_as_move.result
 
 pub returns-in-Call-clause-keeps : goal.returns-in-Call-clause-keeps
 returns-in-Call-clause-keeps c =
@@ -208,7 +208,7 @@ returns-in_err-pay-clause-shows c =
     (statement-unpaid plan i c.args.statement.now m.top.left unpaid.1 (here-is plan i c.requires.instance) ∙ ap (λ (kind : FaultKind). faults kind (present_of i ++ i.rank ∷ [])) (sym unpaid.2))
 
 pub returns-in-Spawn-clause-child : goal.returns-in-Spawn-clause-child
-returns-in-Spawn-clause-child c = handed-child c.args.plan.now c.spawn.result c.handed.result c.handed.ensures c.spawn.ensures.child
+returns-in-Spawn-clause-child c = handed-child c.args.plan.now c.spawn.result c.spawn_as_move.result c.spawn_as_move.ensures c.spawn.ensures.child
 
 pub assign-requires-clause-name : goal.assign-requires-clause-name
 assign-requires-clause-name c =

@@ -14,7 +14,7 @@ returns-clause-shows c = λ plan st.
     let i = c.args.self.now in
     let s = c.sync.ensures in
     let effects = Emitted (event.Sync (present_of i ++ i.rank ∷ [])) ∷ sync_effects i.top.spawned in
-    shows-made (acted plan (present_of i) (machine_of plan i) st act.Sync) (present_pedigree (present_of i) (machine_of plan i)) (machine_of plan c.sync.new.self) effects c.sync.result s.shown s.fine s.passed
+    shows-made (acted plan (present_of i) (machine_of plan i) st act.Sync) (present_pedigree (present_of i) (machine_of plan i)) (machine_of plan c.sync.new.self) effects c.sync.result s.effects s.fine s.passed
     (λ passed. sync plan (present_of i) (machine_of plan i) st ∙ ap (λ (x : InstanceParts). went effects (machine_of plan x)) (sym passed))
 
 pub returns-clause-named : goal.returns-clause-named

@@ -1,6 +1,0 @@
-use Rattle.strand_machine.specs.Made.{made}
-use Rattle.strand_machine.proofs.Moves.Arms.{work-once}
-use Rattle.strand_machine.proofs.observe.work_observed.Goals as goal
-
-pub returns-in_default-clause-step : goal.returns-in_default-clause-step
-returns-in_default-clause-step c = work-once (made c.pass_with.new.parts) c.args.parts.now.body c.args.work c.pass_with.result c.in_default.not-Runs c.pass_with.ensures.step

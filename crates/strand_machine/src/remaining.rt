@@ -1,0 +1,161 @@
+// What remains of a task.
+ghost use Rattle.std.specs.Prelude.{◌≡◌, ◌∷◌, ◌++◌, ◌<◌, [], IfNone, IfOk, IfSome, length, pos, ◌+ℤ◌};
+ghost use Rattle.dotmix.specs.Trails.{FitsGamma};
+ghost use Rattle.serial_meaning.specs.declared.origin.Origin.{Origin};
+ghost use Rattle.serial_meaning.specs.declared.value.Value.TheVariants.{Int};
+ghost use Rattle.serial_meaning.specs.Laws.{IsOriginOf};
+ghost use Rattle.serial_meaning.specs.Plan.{functions_of};
+ghost use Rattle.strand_meaning.specs.Machine.{function_begun};
+ghost use Rattle.strand_meaning.specs.Task.{begun_stage, begun_remaining, begins_last};
+ghost use Rattle.strand_moves.specs.Moves.{IsTrailOf};
+ghost use Rattle.strand_machine.specs.Tasks.{stage_of, remaining_of, StandsAt, RemainsAt};
+ghost use Rattle.strand_machine.specs.declared.remaining.Stage.TheVariants as stage;
+ghost use Rattle.strand_machine.specs.declared.remaining.Remaining.TheVariants as remaining;
+
+use crate::memory::Memory;
+use dotmix::Trail;
+use loop_range::IterRange;
+use serial_meaning::{Fault, Origin, Outcome, Plan, Value};
+use std::alloc::Global;
+use std::mem;
+use strand_family::iteration_args;
+use strand_meaning::laws;
+use strand_moves::Instance;
+
+/// Where an instance stands.
+#[derive(Drop)]
+pub(crate) enum Stage {
+    /// It goes on.
+    Running(Instance),
+    /// It waits after a sync.
+    AtSync(Instance),
+    /// It waits after a loop.
+    AtLoop(Instance),
+    /// It has ended by a value.
+    Returned(Value),
+    /// It has ended by a fault of its own.
+    Faulted(Fault),
+    /// It has ended by the fault of a child for which it waited.
+    ChildFaulted(Fault),
+}
+
+/// The iterations of a loop that nobody has begun, and the trail of the loop's strand.
+#[derive(Drop)]
+pub(crate) struct Left {
+    pub range: IterRange,
+    pub trail: Trail,
+}
+
+/// What remains of a task.
+#[derive(Drop)]
+pub(crate) enum Remaining {
+    /// Iterations of a loop that nobody has begun.
+    Splits(Left),
+    /// An instance: the task's own, or the loop's last iteration.
+    Runs(Stage),
+    /// Nothing of a loop whose last iteration gave this value. It is known whether the task has gone on from the wait at its end.
+    Finished(Value, bool),
+    /// Nothing of a task that has ended, or that took a cut for an answer. It ends so.
+    Ends(Outcome),
+}
+
+impl Remaining {
+    /// What stands in a task's parts while what remains is taken out of them.
+    pub fn nothing() -> Remaining {
+        Remaining::Finished(Value::Int(0), true)
+    }
+
+    /// Takes out an instance that goes on, where one remains.
+    #[inline(always)]
+    pub fn take_running(&mut self) -> Option<Instance>
+        ensures some { IfSome result (λ i. self.old ≡ remaining.Runs (stage.Running i)) }
+        ensures none { IfNone result (self.new ≡ self.old) }
+    {
+        if !matches!(self, Remaining::Runs(Stage::Running(_))) {
+            return None;
+        }
+        match mem::replace(self, Remaining::nothing()) {
+            Remaining::Runs(Stage::Running(instance)) => Some(instance),
+            _ => unreachable!(),
+        }
+    }
+}
+
+/// What remains of an origin of which nothing is done.
+#[inline(always)]
+pub(crate) fn begun_remaining(
+    alloc: Global,
+    plan: &Plan,
+    origin: &Origin,
+    trail: Trail,
+) -> Result<Remaining, Memory>
+    requires known { IsOriginOf plan.now origin.now }
+    requires trail { IsTrailOf plan.now origin.now trail }
+    ensures begun { IfOk result (λ remaining. remaining_of plan.now remaining ≡ begun_remaining plan.now origin.now) }
+    ensures of_plan { IfOk result (RemainsAt plan.now origin.now) }
+{
+    laws::origins_fit();
+    // Read for the proof: a plan has as many coefficients as its depth.
+    let _depth = plan.limits.depth;
+    Ok(match origin {
+        Origin::Instance { function, args, .. } => {
+            Remaining::Runs(begun_instance(alloc, plan, *function, args.as_slice(), trail)?)
+        }
+        Origin::Loop { range, .. } => Remaining::Splits(Left {
+            range: *range,
+            trail,
+        }),
+    })
+}
+
+/// What remains of a loop of which the last iteration alone is left.
+pub(crate) fn begun_last(
+    alloc: Global,
+    plan: &Plan,
+    origin: &Origin,
+    trail: Trail,
+) -> Result<Remaining, Memory>
+    requires known { IsOriginOf plan.now origin.now }
+    requires trail { IsTrailOf plan.now origin.now trail }
+    ensures begun { IfOk result (λ remaining. remaining_of plan.now remaining ≡ begins_last plan.now origin.now) }
+    ensures of_plan { IfOk result (RemainsAt plan.now origin.now) }
+{
+    laws::origins_fit();
+    // Read for the proof: a plan has as many coefficients as its depth.
+    let _depth = plan.limits.depth;
+    match origin {
+        Origin::Instance { .. } => begun_remaining(alloc, plan, origin, trail),
+        Origin::Loop {
+            function,
+            rest,
+            first,
+            range,
+            ..
+        } => {
+            let k = range.hi.saturating_sub(1);
+            let args = iteration_args(alloc, *first, rest.as_slice(), k)?;
+            let trail = trail.child(alloc, &plan.gamma, k)?;
+            Ok(Remaining::Runs(begun_instance(alloc, plan, *function, args.as_slice(), trail)?))
+        }
+    }
+}
+
+/// An instance before its first move. One of no function has the value 0.
+#[inline(always)]
+fn begun_instance(
+    alloc: Global,
+    plan: &Plan,
+    function: u32,
+    args: &[Value],
+    trail: Trail,
+) -> Result<Stage, Memory>
+    requires fits { FitsGamma plan.now.gamma trail }
+    requires within { length trail.path < plan.now.limits.depth }
+    ensures begun { IfOk result (λ stage. stage_of plan.now stage ≡ begun_stage (function_begun plan.now function args.now)) }
+    ensures stands { IfOk result (StandsAt plan.now trail.path) }
+{
+    if function as usize >= plan.functions().len() {
+        return Ok(Stage::Returned(Value::Int(0)));
+    }
+    Ok(Stage::Running(Instance::new(alloc, plan, function, args, trail)?))
+}

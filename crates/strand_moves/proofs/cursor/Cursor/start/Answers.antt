@@ -1,9 +1,0 @@
-use Rattle.std.proofs.Common.{◌∙◌, ap}
-use Rattle.std.proofs.lemmas.List.{append-nil}
-use Rattle.strand_moves.specs.Cursors.{left_of}
-use Rattle.strand_moves.proofs.Cursors.CursorLemmas.{rest_of}
-use Rattle.strand_moves.proofs.cursor.Cursor.start.Goals as goal
-
-pub returns : goal.returns
-unfolding left_of
-returns c = λ body. ap (λ es. rest_of body es 0) c.new.ensures.items ∙ append-nil body

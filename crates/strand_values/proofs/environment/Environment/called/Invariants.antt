@@ -1,5 +1,0 @@
-use Rattle.strand_values.proofs.BoundLemmas.{IsCalled}
-use Rattle.strand_values.proofs.environment.Environment.called.Given as goal
-
-abbrev pub invariant-loop-i : goal.invariant-loop-i
-invariant-loop-i l = IsCalled l.names l.self.variables l.params l.args l.i l.env
