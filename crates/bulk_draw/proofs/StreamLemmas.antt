@@ -10,14 +10,14 @@ use Rattle.std.proofs.Math.Nat.{mod-add-mod}
 use borrow.Rule.Slice.PartMut.{put_mid}
 use Rattle.dotmix.specs.Draws.{coefficient, dot, dotmix, mix, modulus, IsResidue}
 use Rattle.dotmix.proofs.ProductLemmas.{dot-append}
-use Rattle.bulk_draw.specs.Streams.{dots, last_rank, later, path, stream}
+use Rattle.bulk_draw.specs.Streams.{dots, last_rank, later, path_of_pedigree, stream}
 
 -- ---- the path and the rank of a pedigree
 
 before_last : (p : List ℕ) (r : ℕ) → length (p ++ r ∷ []) - 1 ≡ length p
 before_last p r = simp length-append (omega arith)
 
-pub path-after : (p : List ℕ) (r : ℕ) → path (p ++ r ∷ []) ≡ p
+pub path-after : (p : List ℕ) (r : ℕ) → path_of_pedigree (p ++ r ∷ []) ≡ p
 path-after p r = rw (before_last p r) (take_at p (r ∷ []) (length p) refl)
 
 pub last_rank-after : (p : List ℕ) (r : ℕ) → last_rank (p ++ r ∷ []) ≡ r

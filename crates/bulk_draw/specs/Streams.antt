@@ -4,15 +4,15 @@ use Rattle.std.specs.List.{range_with_len}
 use Rattle.dotmix.specs.Draws.{dotmix, modulus}
 
 -- a pedigree's path: its ranks but the last one
-abbrev pub path : List ℕ → List ℕ
-path j = take (length j - 1) j
+abbrev pub path_of_pedigree : List ℕ → List ℕ
+path_of_pedigree j = take (length j - 1) j
 
 abbrev pub last_rank : List ℕ → ℕ
 last_rank j = slice_index j (length j - 1)
 
 -- the pedigree that stands so many ranks later on the same path
 abbrev pub later : List ℕ → ℕ → List ℕ
-later j i = path j ++ (last_rank j + i) ∷ []
+later j i = path_of_pedigree j ++ (last_rank j + i) ∷ []
 
 -- the draws of so many consecutive ranks, from this pedigree's own on
 abbrev pub stream : List ℕ → List ℕ → ℕ → ℕ → List ℕ

@@ -4,7 +4,7 @@ use Rattle.strand_machine.specs.Tasks.{TaskView}
 use Rattle.crew.specs.Hands.{HandView, IsTurnedOver, ResumesFirst, TakesUp, Looks, LooksNewest}
 use Rattle.crew.specs.declared.hand.Looked.TheVariants as looked
 use Rattle.crew.specs.declared.steps.TakeUp.{TakeUp}
-use Rattle.crew.specs.declared.steps.TakeUp.TheVariants.{Missing, Waits, Resumes}
+use Rattle.crew.specs.declared.steps.TakeUp.TheVariants.{NoneThere, Waits, Resumes}
 
 -- the middle hand lacks the task alone
 abbrev ChangesStalledAlone : HandView → HandView → Type 0
@@ -22,7 +22,7 @@ with_current old mid new t lacks is =
 
 pub looks : (old mid : HandView) (t : TaskView) (found : TakeUp) (new : HandView) → old.stalled ≡ t ∷ mid.stalled → ChangesStalledAlone old mid → TakesUp t mid found new →
     Looks old found new
-looks old mid t Missing new front lacks h = absurd h
+looks old mid t NoneThere new front lacks h = absurd h
 looks old mid t Waits new front lacks h = (
   subst (λ (l : List TaskView). IsTurnedOver l new.stalled) (sym front) (h.0, h.1, ap (λ (x : HandView). x.stalled) h.2),
   with_stalled old mid new _ lacks h.2,

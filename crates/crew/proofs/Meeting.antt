@@ -162,8 +162,8 @@ module _ (own : ℕ) (decks : List DeckId) (hands front rest one back front' bac
           absurd (omega (arith, lt, ap length m.are ∙ length-append P (unmet own m.back) ∙ ap (λ l. length P + length (unmet own l)) e, long))
       by_back (b ∷ bs) e = from b bs e
 
-pub all-meet : (own : ℕ) (decks : List DeckId) (hands : List HandView) → IsMeeting decks own hands → length hands ≤ own → hands ≡ idle_hands [] decks
-all-meet own decks hands m full = by_back m.back refl
+pub all-exchange_thieves : (own : ℕ) (decks : List DeckId) (hands : List HandView) → IsMeeting decks own hands → length hands ≤ own → hands ≡ idle_hands [] decks
+all-exchange_thieves own decks hands m full = by_back m.back refl
   where
     by_back : (l : List DeckId) → m.back ≡ l → hands ≡ idle_hands [] decks
     by_back [] e =

@@ -24,7 +24,7 @@ use Rattle.strand_machine.specs.declared.stop.Paused.TheVariants as paused
 use Rattle.strand_machine.specs.declared.stop.Stop.TheVariants as stop
 use Rattle.strand_machine.specs.declared.stop.Resumed.TheVariants as resumed
 use Rattle.strand_machine.proofs.NextStops.Pausing.{ends-so}
-use Rattle.crew.specs.Hands.{HandView, HasPut, IsAnswered, AdvancesCurrent}
+use Rattle.crew.specs.Hands.{HandView, HasPut, TurnAnswers, AdvancesCurrent}
 use Rattle.crew.specs.declared.hand.Turn.{Turn}
 use Rattle.crew.specs.declared.hand.Turn.TheVariants.{Ran, Answered, Ended as EndedRoot, Popped, Resumed, Waiting, Stole, Idle}
 
@@ -142,15 +142,15 @@ ends_by_its_plans t answer give at = let g = gives t answer give at in subst (λ
 
 -- What was put
 
-pub has_put : (t : TaskView) (answer : AnswerView) (give : AnswerTag) (turn : Turn) → Advances t (stop.Done answer give) → IsAnswered give turn → HasPut t turn
-has_put t answer give turn at put = ((answer, give, at), subst (λ (g : AnswerTag). IsAnswered g turn) (gives t answer give at).given put)
+pub has_put : (t : TaskView) (answer : AnswerView) (give : AnswerTag) (turn : Turn) → Advances t (stop.Done answer give) → TurnAnswers give turn → HasPut t turn
+has_put t answer give turn at put = ((answer, give, at), subst (λ (g : AnswerTag). TurnAnswers g turn) (gives t answer give at).given put)
 
 -- what is left of a task that has ended answers for it
 put-for : (t rest : TaskView) (turn : Turn) → t.cut ≡ None → Pauses t (paused.Ended rest) → HasPut rest turn → HasPut t turn
 put-for t rest turn goes h put =
     let a = put.0 in (
       (a.0, a.1, ends-so t (paused.Ended rest) h rest (stop.Done a.0 a.1) goes refl a.2),
-      subst (λ (o : Origin). IsAnswered (tag t.task.plan o) turn) h.stop.keeps.1 (subst (λ (p : PlanView). IsAnswered (tag p rest.task.origin) turn) h.stop.keeps.0 put.1),
+      subst (λ (o : Origin). TurnAnswers (tag t.task.plan o) turn) h.stop.keeps.1 (subst (λ (p : PlanView). TurnAnswers (tag p rest.task.origin) turn) h.stop.keeps.0 put.1),
     )
 
 module _ (t : TaskView) (old new : HandView) (none : old.current ≡ None) (same : new ≡ old) where

@@ -3,7 +3,7 @@ use Rattle.std.proofs.Common.{◌≡◌, ◌⊎◌, inl, inr, ℕ, zero, suc, �
 use Rattle.std.proofs.lemmas.List.{map-append, length-append}
 use Rattle.serial_meaning.specs.Answer.{AnswerView, AnswerTag}
 use Rattle.serial_meaning.specs.declared.answer.Outcome.{Outcome}
-use Rattle.strand_meaning.proofs.NextStops.Stops.{stops_keep_origins}
+use Rattle.strand_meaning.proofs.NextStops.OneSoundStop.{stops_keep_origins}
 use Rattle.strand_meaning.specs.Task.{Task, start, Stop, Spawn, Wait, End}
 use Rattle.sched_meaning.specs.Core.{Worker}
 use Rattle.sched_meaning.specs.Steps.{WorkerRuns, WorkerPops, WorkerPasses}
@@ -14,7 +14,7 @@ use Rattle.strand_machine.specs.Tasks.{TaskView}
 use Rattle.strand_machine.specs.declared.stop.Stop.{Stop as Stops}
 use Rattle.strand_machine.specs.declared.stop.Stop.TheVariants as stop
 use Rattle.strand_machine.specs.declared.stop.Resumed.TheVariants as resumed
-use Rattle.crew.specs.Hands.{HandView, IsPut, Runs, EndsTask, AdvancesCurrent, IsNewest, IsTurnedOver, ResumesFirst, Seeks, IsTurn, IsTurnFrom, StaysLast, LastGoesOn, LooksNewest}
+use Rattle.crew.specs.Hands.{HandView, IsPut, RunsOnward, EndsTask, AdvancesCurrent, IsNewest, IsTurnedOver, ResumesFirst, Seeks, IsTurn, IsTurnFrom, StaysLast, LastGoesOn, LooksNewest}
 use Rattle.crew.specs.Ties.{tasks, worker_of, OwnerLeaves, IsEnd, IsNoEnd, RunsTo, EndsByCut, TakesLast, ResumesAt, PassesAt, LooksBefore, IsTied, IsTiedLook}
 use Rattle.crew.specs.declared.hand.Looked.{Looked}
 use Rattle.crew.specs.declared.hand.Looked.TheVariants as looked
@@ -50,7 +50,7 @@ module _ (t : TaskView) (old new : HandView) (now : old.current ≡ Some t) wher
   current-was : task-of old.current ≡ Some t.task
   current-was = ap task-of now
 
-  ran-to-spawn : (child rest : TaskView) → IsStop t (stop.Spawn child rest) → Runs (stop.Spawn child rest) old new → RunsTo IsNoEnd old new
+  ran-to-spawn : (child rest : TaskView) → IsStop t (stop.Spawn child rest) → RunsOnward (stop.Spawn child rest) old new → RunsTo IsNoEnd old new
   ran-to-spawn child rest at h = (t.task, at-child, (λ (no : ⊥). no), λ left. by left h.0)
     where
       at-child : Stop
@@ -88,7 +88,7 @@ module _ (t : TaskView) (old new : HandView) (now : old.current ≡ Some t) wher
         },
       )
 
-  ran-to-wait : (rest : TaskView) → IsStop t (stop.Wait rest) → Runs (stop.Wait rest) old new → RunsTo IsNoEnd old new
+  ran-to-wait : (rest : TaskView) → IsStop t (stop.Wait rest) → RunsOnward (stop.Wait rest) old new → RunsTo IsNoEnd old new
   ran-to-wait rest at h = (
     t.task,
     Wait rest.task,
@@ -125,7 +125,7 @@ module _ (t : TaskView) (old new : HandView) (now : old.current ≡ Some t) wher
   )
 
   -- Only its end comes of a task that took a cut.
-  ran : (c : Option Outcome) (s : Stops) → advances c t s → Runs s old new → RunsTo IsNoEnd old new
+  ran : (c : Option Outcome) (s : Stops) → advances c t s → RunsOnward s old new → RunsTo IsNoEnd old new
   ran None (stop.Spawn child rest) at h = ran-to-spawn child rest at h
   ran None (stop.Wait rest) at h = ran-to-wait rest at h
   ran None (stop.Done answer give) at h = absurd h

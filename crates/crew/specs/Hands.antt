@@ -47,40 +47,40 @@ abbrev pub KeepsLate : HandView → HandView → Type 0
 KeepsLate old new = IsLate old.overflow old.deck → IsLate new.overflow new.deck
 
 -- A stop that is no end: the rest goes after the others and the child becomes current, or the task goes to the end of the stalled tasks.
-abbrev pub Runs : Stop → HandView → HandView → Type 0
-Runs (stop.Spawn child rest) old new =
+abbrev pub RunsOnward : Stop → HandView → HandView → Type 0
+RunsOnward (stop.Spawn child rest) old new =
     IsPut rest old.overflow old.deck new.overflow new.deck × (new ≡ record old { current = Some child; overflow = new.overflow; deck = new.deck })
-Runs (stop.Wait rest) old new = new ≡ record old { current = None; stalled = old.stalled ++ rest ∷ [] }
-Runs (stop.Done answer give) old new = ⊥
+RunsOnward (stop.Wait rest) old new = new ≡ record old { current = None; stalled = old.stalled ++ rest ∷ [] }
+RunsOnward (stop.Done answer give) old new = ⊥
 
 -- It is a root's tag: main's of its plan. All other origins of a plan are children of others.
 abbrev pub IsRoots : AnswerTag → Type 0
 IsRoots asked = asked.origin ≡ main_origin asked.plan
 
 -- The answer for this tag was put, a root's or another's.
-abbrev pub IsAnswered : AnswerTag → Turn → Type 0
-IsAnswered asked (Answered arrived) = (arrived ≡ asked) × (IsRoots asked → ⊥)
-IsAnswered asked (Ended arrived) = (arrived ≡ asked) × IsRoots asked
-IsAnswered asked _ = ⊥
+abbrev pub TurnAnswers : AnswerTag → Turn → Type 0
+TurnAnswers asked (Answered arrived) = (arrived ≡ asked) × (IsRoots asked → ⊥)
+TurnAnswers asked (Ended arrived) = (arrived ≡ asked) × IsRoots asked
+TurnAnswers asked _ = ⊥
 
 -- The task came to its end.
-abbrev pub HasEnded : TaskView → Type 0
-HasEnded t = (answer : AnswerView) × (give : AnswerTag) × AdvancesTo t (stop.Done answer give)
+abbrev pub ComesToEnd : TaskView → Type 0
+ComesToEnd t = (answer : AnswerView) × (give : AnswerTag) × AdvancesTo t (stop.Done answer give)
 
 -- It did, and its answer was put.
 abbrev pub HasPut : TaskView → Turn → Type 0
-HasPut t turn = HasEnded t × IsAnswered (tag t.task.plan t.task.origin) turn
+HasPut t turn = ComesToEnd t × TurnAnswers (tag t.task.plan t.task.origin) turn
 
 -- The task is cut, and nothing of it was done: a fault of its plan stands before all that its origin answers for.
 abbrev pub MayBeCut : TaskView → Type 0
 MayBeCut t = (by : Fault) × (t.task.advanced ≡ false) × IsCut t.task.plan t.task.origin by
 
 abbrev pub EndsTask : TaskView → HandView → Turn → HandView → Type 0
-EndsTask t old turn new = (HasEnded t ⊎ MayBeCut t) × IsAnswered (tag t.task.plan t.task.origin) turn × (new ≡ record old { current = None })
+EndsTask t old turn new = (ComesToEnd t ⊎ MayBeCut t) × TurnAnswers (tag t.task.plan t.task.origin) turn × (new ≡ record old { current = None })
 
 -- What a turn does with the current task. One that took a cut for an answer comes to no other stop than its end.
 abbrev pub AdvancesCurrent : TaskView → HandView → Turn → HandView → Type 0
-AdvancesCurrent t old Ran new = (stop : Stop) × AdvancesTo t stop × Runs stop old new
+AdvancesCurrent t old Ran new = (stop : Stop) × AdvancesTo t stop × RunsOnward stop old new
 AdvancesCurrent t old turn new = EndsTask t old turn new
 
 -- The task is the last of the private list, or else the newest of the deck.
@@ -105,13 +105,13 @@ ResumesFirst (t ∷ ts) next after = IsResumed t (resumed.On next) × (after ≡
 
 -- What a look at a task that was stalled made of the hand.
 abbrev pub TakesUp : TaskView → HandView → TakeUp → HandView → Type 0
-TakesUp t old found.Missing new = ⊥
+TakesUp t old found.NoneThere new = ⊥
 TakesUp t old found.Waits new = (same : TaskView) × IsResumed t (resumed.NotYet same) × (new ≡ record old { stalled = old.stalled ++ same ∷ [] })
 TakesUp t old found.Resumes new = (next : TaskView) × IsResumed t (resumed.On next) × (new ≡ record old { current = Some next })
 
 -- What a look at the front of the stalled tasks found.
 abbrev pub Looks : HandView → TakeUp → HandView → Type 0
-Looks old found.Missing new = (old.stalled ≡ []) × (new ≡ old)
+Looks old found.NoneThere new = (old.stalled ≡ []) × (new ≡ old)
 Looks old found.Waits new = IsTurnedOver old.stalled new.stalled × (new ≡ record old { stalled = new.stalled })
 Looks old found.Resumes new = (t : TaskView) × ResumesFirst old.stalled t new.stalled × (new ≡ record old { current = Some t; stalled = new.stalled })
 

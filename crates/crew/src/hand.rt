@@ -34,10 +34,10 @@ pub enum Turn {
     Idle,
 }
 
-/// What a look at the newest waiting task of a hand found.
+/// What a look at the newest stalled task of a hand found.
 #[derive(Drop)]
 pub enum Looked {
-    /// The hand has a current task, or none that waits.
+    /// The hand has a current task, or none that is stalled.
     Nothing,
     /// The task still waits.
     Waits,
@@ -175,7 +175,7 @@ impl Hand {
     /// Looks once at the task at the end of the stalled tasks, where the hand has no current one. It becomes current where all of its children have
     /// answered, and else stays there.
     ///
-    /// This is no turn, and none is owed. After a turn that left a task waiting or answered one, the newest waiting task so goes on before
+    /// This is no turn, and none is owed. After a turn that left a task waiting or answered one, the newest stalled task so goes on before
     /// one of the deck is taken up. It doesn't wait for another thread. On `Memory` the task is dropped, and the run has failed.
     #[tactic(auto, using(crate::proofs::Tying::tied_look))]
     pub fn look_newest(&mut self, alloc: Global) -> Result<Looked, Memory>

@@ -108,7 +108,7 @@ fn introduce(
 }
 
 /// Gives each hand its thieves of the others' decks.
-fn meet(alloc: Global, hands: &mut [Hand]) -> Result<(), Memory>
+fn exchange_thieves(alloc: Global, hands: &mut [Hand]) -> Result<(), Memory>
     ensures count { length hands.new ≡ length hands.old }
     ensures met { OnOk result (HaveMet hands.old hands.new) }
 {
@@ -126,7 +126,7 @@ fn hire(alloc: Global, workers: u32) -> Result<Vec<Hand>, Memory>
     ensures count { IfOk result (λ hands. length hands.items ≡ workers) }
 {
     let mut hands = new_hands(alloc, workers)?;
-    meet(alloc, hands.as_mut_slice())?;
+    exchange_thieves(alloc, hands.as_mut_slice())?;
     Ok(hands)
 }
 

@@ -25,13 +25,13 @@ use std::alloc::Global;
 use std::sync::{Arc, Wait};
 use std::thread::Threads;
 
-/// Looks at the newest waiting task, since its last child may have answered in the turn before.
+/// Looks at the newest stalled task, since its last child may have answered in the turn before.
 #[inline(always)]
-fn look_on(alloc: Global, signals: &Signals, hand: &mut Hand) -> Option<Looked> {
+fn look_newest_on(alloc: Global, signals: &Signals, hand: &mut Hand) -> Option<Looked> {
     match hand.look_newest(alloc) {
         Ok(looked) => Some(looked),
         Err(_) => {
-            signals.end_all();
+            signals.end_turns();
             None
         }
     }
@@ -48,15 +48,15 @@ fn keep_turning<R: Wait>(
     hand: &mut Hand,
     cuts: bool,
 ) {
-    match look_on(alloc, signals, hand) {
-        Some(Looked::Waits) if cuts => naps.wait(rt, signals, 0),
+    match look_newest_on(alloc, signals, hand) {
+        Some(Looked::Waits) if cuts => naps.nap_stalled(rt, signals, 0),
         Some(Looked::Nothing) if !cuts => signals.wake_one(),
         _ => {}
     }
 }
 
 /// Makes turns until the hands have ended all roots, or one has failed for want of memory. After a turn that left a task waiting or answered one, all
-/// children of the newest waiting task may have answered: then it is the next one, and else it stays stalled.
+/// children of the newest stalled task may have answered: then it is the next one, and else it stays stalled.
 ///
 /// Where all tasks that a hand begins are cut, it sleeps after each that it leaves waiting, and neither its pushes nor its steals wake
 /// anyone: the hands from which it steals come to the ends of their tasks faster by themselves.
@@ -84,14 +84,14 @@ fn take_turns<R: Wait, G: Gate>(
                 keep_turning(rt, alloc, &mut naps, signals, hand, cuts);
             }
             Ok(Turn::Answered(_)) => {
-                look_on(alloc, signals, hand);
+                look_newest_on(alloc, signals, hand);
             }
-            Ok(Turn::Waiting) => naps.wait(rt, signals, hand.stalled_count()),
-            Ok(Turn::Idle) => naps.idle(rt, signals),
+            Ok(Turn::Waiting) => naps.nap_stalled(rt, signals, hand.stalled_count()),
+            Ok(Turn::Idle) => naps.nap_idle(rt, signals),
             Ok(Turn::Stole) if !cuts => signals.wake_one(),
             Ok(Turn::Ended(_)) => signals.root_ended(),
             Ok(_) => {}
-            Err(_) => signals.end_all(),
+            Err(_) => signals.end_turns(),
         }
     }
 }

@@ -43,7 +43,7 @@ impl Signals {
     }
 
     /// No hand takes another turn.
-    pub fn end_all(&self) {
+    pub fn end_turns(&self) {
         let stop: &AtomicU64 = &self.stop;
         stop.store(1, Ordering::SeqCst);
         stop.wake_all();
@@ -59,7 +59,7 @@ impl Signals {
         let ended: &AtomicU64 = &self.ended;
         let before = ended.fetch_add(1, Ordering::SeqCst);
         if before.saturating_add(1) >= self.roots {
-            self.end_all();
+            self.end_turns();
         }
     }
 
@@ -147,13 +147,13 @@ impl Naps {
     }
 
     /// The hand found nothing to do and has no task.
-    pub fn idle<R: Wait>(&mut self, rt: &R, signals: &Signals) {
+    pub fn nap_idle<R: Wait>(&mut self, rt: &R, signals: &Signals) {
         self.nap(rt, signals, 0, self.longest_idle);
     }
 
     /// The hand found nothing to do, and so many of its tasks wait. A turn looks at one of them alone, so that it sleeps only once it
     /// has looked at each.
-    pub fn wait<R: Wait>(&mut self, rt: &R, signals: &Signals, stalled: usize) {
+    pub fn nap_stalled<R: Wait>(&mut self, rt: &R, signals: &Signals, stalled: usize) {
         let longest = (self.longest_idle / 2).min(LONGEST_WAIT);
         self.nap(rt, signals, stalled, longest);
     }

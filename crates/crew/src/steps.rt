@@ -6,7 +6,7 @@ ghost use Rattle.strand_machine.specs.Family.{tag};
 ghost use Rattle.strand_machine.specs.Tasks.{is_cut_short};
 ghost use Rattle.strand_machine.specs.declared.stop.Stop.TheVariants as stop;
 ghost use Rattle.steal_deck.specs.Ends.{FindsNone};
-ghost use Rattle.crew.specs.Hands.{view_of, IsPut, Runs, IsAnswered, HasPut, AdvancesCurrent, IsNewest, FindsNoTask, TakesUp, Looks, LooksNewest, AllMiss, FirstSteals, StealsOr, Seeks, IsTurn, IsLate, KeepsLate};
+ghost use Rattle.crew.specs.Hands.{view_of, IsPut, RunsOnward, TurnAnswers, HasPut, AdvancesCurrent, IsNewest, FindsNoTask, TakesUp, Looks, LooksNewest, AllMiss, FirstSteals, StealsOr, Seeks, IsTurn, IsLate, KeepsLate};
 
 use crate::faults::Faults;
 use crate::gate::Gate;
@@ -26,7 +26,7 @@ use strand_machine::{Paused, Resumed, Task, share_origin};
 #[derive(Drop)]
 pub(crate) enum TakeUp {
     /// There is no task.
-    Missing,
+    NoneThere,
     /// It still waits, and is at the end of the stalled tasks.
     Waits,
     /// It is the current one.
@@ -80,7 +80,7 @@ pub(crate) fn put_all(
 #[inline(always)]
 fn hand_out(held: &mut Held, child: Task, rest: Task) -> Result<(), Memory>
     requires { held.old.current ≡ None }
-    ensures ok { OnOk result (Runs (stop.Spawn child rest) (view_of held.old) (view_of held.new)) }
+    ensures ok { OnOk result (RunsOnward (stop.Spawn child rest) (view_of held.old) (view_of held.new)) }
     ensures err { OnErr result (held.new.current ≡ None) }
     ensures late { KeepsLate (view_of held.old) (view_of held.new) }
 {
@@ -103,7 +103,7 @@ fn stall(stalled: &mut VecDeque<Stalled>, task: Task) -> Result<(), Memory>
 #[inline(never)]
 fn put_answer(answer: Answer, give: Give<Answer>) -> Turn
     requires { give ≡ tag answer.plan answer.origin }
-    ensures { IsAnswered give result }
+    ensures { TurnAnswers give result }
 {
     let is_roots = answer.plan.is_main_origin(&answer.origin);
     let arrived = give.put(answer);
@@ -132,7 +132,7 @@ fn end<G: Gate>(held: &mut Held, task: Task, alloc: Global, gate: &G) -> Result<
     ensures put { IfOk result (HasPut task) }
     ensures held { view_of held.new ≡ view_of held.old }
 {
-    let (answer, give) = task.finish();
+    let (answer, give) = task.into_answer();
     publish_fault(alloc, &mut held.faults, &answer);
     if !gate.hears_ends() {
         return Ok(put_answer(answer, give));
@@ -194,8 +194,8 @@ fn run<G: Gate>(held: &mut Held, task: Task, alloc: Global, gate: &G) -> Result<
     advance(held, task, alloc, gate)
 }
 
-/// The newest of the hand's own tasks.
-fn newest_stalled(deck: &mut Deck<Task>, overflow: &mut Vec<Task>) -> Option<Task>
+/// The newest of a hand's tasks that are ready: of its private list, or else of its deque.
+fn newest_ready(deck: &mut Deck<Task>, overflow: &mut Vec<Task>) -> Option<Task>
     ensures some { IfSome result (λ task. IsNewest task overflow.old.items deck.old overflow.new.items deck.new) }
     ensures none { IfNone result ((overflow.old.items ≡ []) × (overflow.new.items ≡ []) × FindsNone deck.old deck.new) }
     ensures late { IsLate overflow.old.items deck.old → IsLate overflow.new.items deck.new }
@@ -215,7 +215,7 @@ fn pop(held: &mut Held) -> Option<Turn>
     ensures none { IfNone result (FindsNoTask (view_of held.old) (view_of held.new) × (view_of held.new ≡ record (view_of held.old) { deck = held.new.deck })) }
     ensures late { KeepsLate (view_of held.old) (view_of held.new) }
 {
-    held.current = newest_stalled(&mut held.deck, &mut held.overflow);
+    held.current = newest_ready(&mut held.deck, &mut held.overflow);
     match &held.current {
         Some(_) => Some(Turn::Popped),
         None => None,
@@ -269,7 +269,7 @@ fn look(held: &mut Held, alloc: Global) -> Result<TakeUp, Memory>
     ensures late { KeepsLate (view_of held.old) (view_of held.new) }
 {
     let Some(stalled) = held.stalled.pop_front() else {
-        return Ok(TakeUp::Missing);
+        return Ok(TakeUp::NoneThere);
     };
     let Stalled { task } = stalled;
     take_up(held, task, alloc)
@@ -329,7 +329,7 @@ fn seek(held: &mut Held, alloc: Global) -> Result<Turn, Memory>
     match look(held, alloc)? {
         TakeUp::Resumes => Ok(Turn::Resumed),
         TakeUp::Waits => Ok(steal_or(held, alloc, Turn::Waiting)),
-        TakeUp::Missing => Ok(steal_or(held, alloc, Turn::Idle)),
+        TakeUp::NoneThere => Ok(steal_or(held, alloc, Turn::Idle)),
     }
 }
 
@@ -362,6 +362,6 @@ pub(crate) fn look_newest(held: &mut Held, alloc: Global) -> Result<Looked, Memo
     match take_up(held, task, alloc)? {
         TakeUp::Resumes => Ok(Looked::Resumes),
         TakeUp::Waits => Ok(Looked::Waits),
-        TakeUp::Missing => Ok(Looked::Nothing),
+        TakeUp::NoneThere => Ok(Looked::Nothing),
     }
 }

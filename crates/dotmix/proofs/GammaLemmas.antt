@@ -11,7 +11,7 @@ use Rattle.std.specs.Prelude.{Bool, true, false, cond, not, nat_le, nat_lt, Some
 use Rattle.rand_xoshiro.specs.SplitMix64.{mix_u64, next_state}
 use Rattle.dotmix.specs.Draws.{modulus, IsResidue}
 use Rattle.dotmix.specs.GammaState.{IsGamma, is_too_big, padded}
-use Rattle.dotmix.specs.Words.{word, output, coefficients}
+use Rattle.dotmix.specs.Words.{seed_word, split_mix, coefficients}
 
 -- the state after i words
 abbrev pub state_after : ℕ → ℕ → ℕ
@@ -24,20 +24,20 @@ next_state-after seed i =
 pub state_after_word : (seed i x s new : ℕ) → (x, new) ≡ mix_u64 s → s ≡ state_after seed i → new ≡ state_after seed (i + 1)
 state_after_word seed i x s new e h = ap (λ (p : ℕ × ℕ). p.1) e ∙ ap next_state h ∙ next_state-after seed i
 
-word_given : (seed i x s new : ℕ) → (x, new) ≡ mix_u64 s → s ≡ state_after seed i → x ≡ word seed (i + 1)
-word_given seed i x s new e h = ap (λ (p : ℕ × ℕ). p.0) e ∙ ap output (ap next_state h ∙ next_state-after seed i)
+word_given : (seed i x s new : ℕ) → (x, new) ≡ mix_u64 s → s ≡ state_after seed i → x ≡ seed_word seed (i + 1)
+word_given seed i x s new e h = ap (λ (p : ℕ × ℕ). p.0) e ∙ ap split_mix (ap next_state h ∙ next_state-after seed i)
 
 pub coefficients_after_word : (seed i x s new : ℕ) (xs ys : List ℕ) → (x, new) ≡ mix_u64 s → s ≡ state_after seed i → xs ≡ coefficients seed i → ys ≡ xs ++ x % modulus ∷ [] → ys ≡ coefficients seed (i + 1)
 coefficients_after_word seed i x s new xs ys e h k f =
-    f ∙ rw (word_given seed i x s new e h, k) (sym (map-range_with_len_more (λ j. word seed j % modulus) 1 i (i + 1) (omega arith)))
+    f ∙ rw (word_given seed i x s new e h, k) (sym (map-range_with_len_more (λ j. seed_word seed j % modulus) 1 i (i + 1) (omega arith)))
 
 mod-IsResidue : (n : ℕ) → IsResidue (n % modulus)
 mod-IsResidue n = omega arith
 
 pub coefficients-IsGamma : (seed depth : ℕ) → depth < 2 ^ 32 → IsGamma (coefficients seed depth)
 coefficients-IsGamma seed depth h = record {
-  few = rw (length-map-range_with_len (λ i. word seed i % modulus) 1 depth) h;
-  small = All-map IsResidue (λ i. word seed i % modulus) (range_with_len 1 depth) (λ k d h. mod-IsResidue (word seed (slice_index_or (range_with_len 1 depth) k d)));
+  few = rw (length-map-range_with_len (λ i. seed_word seed i % modulus) 1 depth) h;
+  small = All-map IsResidue (λ i. seed_word seed i % modulus) (range_with_len 1 depth) (λ k d h. mod-IsResidue (seed_word seed (slice_index_or (range_with_len 1 depth) k d)));
 }
 
 -- ---- from a list

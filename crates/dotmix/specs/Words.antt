@@ -8,14 +8,14 @@ abbrev pub stirred : ℕ → ℕ → ℕ → ℕ
 stirred z shift factor = bit_xor z (z / 2 ^ shift) * factor % 2 ^ 64
 
 -- what SplitMix64 gives at this state
-abbrev pub output : ℕ → ℕ
-output state =
+abbrev pub split_mix : ℕ → ℕ
+split_mix state =
     let z = stirred (stirred state 30 0xBF58476D1CE4E5B9) 27 0x94D049BB133111EB in bit_xor z (z / 2 ^ 31)
 
 -- word i of a seed, from 1
-abbrev pub word : ℕ → ℕ → ℕ
-word seed i = output ((seed + i * 0x9E3779B97F4A7C15) % 2 ^ 64)
+abbrev pub seed_word : ℕ → ℕ → ℕ
+seed_word seed i = split_mix ((seed + i * 0x9E3779B97F4A7C15) % 2 ^ 64)
 
 -- the first words of a seed, each modulo p
 abbrev pub coefficients : ℕ → ℕ → List ℕ
-coefficients seed depth = map (λ i. word seed i % modulus) (range_with_len 1 depth)
+coefficients seed depth = map (λ i. seed_word seed i % modulus) (range_with_len 1 depth)

@@ -6,14 +6,14 @@ use Rattle.std.proofs.Math.Seq.{take-append-add}
 use Rattle.std.proofs.lemmas.Grind.{flat_map-append}
 use Rattle.std.proofs.lemmas.List.{length-take, map-append, take-append-le}
 use Rattle.dotmix.specs.Draws.{dotmix}
-use Rattle.bulk_draw.specs.Streams.{last_rank, later, path, stream}
+use Rattle.bulk_draw.specs.Streams.{last_rank, later, path_of_pedigree, stream}
 use Rattle.bulk_draw.proofs.StreamLemmas.{last_rank-after, later-after, path-after, range-split}
 use Rattle.ped_io.specs.Streams.{Appends, AppendsFront}
 use Rattle.draw_lines.specs.Lines.{CanDraw, later_stream, lines_of, number_line, each_modulo}
 use Rattle.draw_lines.specs.declared.stream.Stream.{Stream}
 
 later-later : (j : List ℕ) (m i : ℕ) → later (later j m) i ≡ later j (m + i)
-later-later j m i = later-after (path j) (last_rank j + m) i ∙ ap (λ n. path j ++ n ∷ []) (omega arith)
+later-later j m i = later-after (path_of_pedigree j) (last_rank j + m) i ∙ ap (λ n. path_of_pedigree j ++ n ∷ []) (omega arith)
 
 stream-append : (gamma j : List ℕ) (m n rounds : ℕ) → stream gamma j (m + n) rounds ≡ stream gamma j m rounds ++ stream gamma (later j m) n rounds
 stream-append gamma j m n rounds =
@@ -30,9 +30,9 @@ lines-append s m n =
 
 can_go_on : (s : Stream) (m n : ℕ) → CanDraw s (m + n) → CanDraw (later_stream s m) n
 can_go_on s m n can =
-    let long : length (later s.at m) ≡ length (path s.at) + 1 = length-append (path s.at) ((last_rank s.at + m) ∷ []) in
-    let short : length (path s.at) ≤ length s.at - 1 = rw (length-take (length s.at - 1) s.at) (omega arith) in
-    let rank = last_rank-after (path s.at) (last_rank s.at + m) in
+    let long : length (later s.at m) ≡ length (path_of_pedigree s.at) + 1 = length-append (path_of_pedigree s.at) ((last_rank s.at + m) ∷ []) in
+    let short : length (path_of_pedigree s.at) ≤ length s.at - 1 = rw (length-take (length s.at - 1) s.at) (omega arith) in
+    let rank = last_rank-after (path_of_pedigree s.at) (last_rank s.at + m) in
     let enough = can.ranks in
     let before = can.within in
     record { within = omega (arith, long, short, before); rounds = can.rounds; ranks = omega (arith, rank, enough); below = can.below }

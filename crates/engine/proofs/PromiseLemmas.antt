@@ -13,7 +13,7 @@ use Rattle.engine.specs.declared.status.Status.TheVariants.{Done, Faulted, Words
 use Rattle.engine.specs.Batches.{batch_ending, is_faulted, plan_under}
 use Rattle.engine.specs.Commands.{AcceptsScript, Reports, takes_script}
 use Rattle.engine.specs.Report.{Report, report_end_of, plan_of, run_report, status_of}
-use Rattle.engine.specs.Promise.{Watched, Failed, ReadWhole, HasNoScript, HasReport, StatusMeans, HasOutput, Refuses, TellsNone, KeepsPromise, most_bytes}
+use Rattle.engine.specs.Promise.{Watched, HasFailed, ReadWhole, HasNoScript, HasReport, StatusMeans, HasOutput, Refuses, TellsNone, KeepsPromise, most_bytes}
 use Rattle.engine.specs.Clauses.{RefusesWords, IsBad, RefusesScript, WroteReport, WritesReport, IsReplay, FindsNoStrand, TellsNoStrand, IsComplete, Completes}
 use Rattle.engine.specs.declared.report.ReportEnd.{ReportEnd}
 use Rattle.engine.specs.declared.report.ReportEnd.TheVariants as E
@@ -135,11 +135,11 @@ module _ (err : Watched) where
 
 -- the parts, whatever the words give
 module _ (source out err : Watched) where
-  pub read_cause : (given : Result Command WordError) (status : Status) → KeepsPromise given source out err status → status ≡ Read → Failed source
+  pub read_cause : (given : Result Command WordError) (status : Status) → KeepsPromise given source out err status → status ≡ Read → HasFailed source
   read_cause (Ok command) status a h = (answer_at source out err command status Read a h).1
   read_cause (Err error) status r h = absurd (refused_other err error status Read r (λ e. absurd (cc)) (λ e. absurd (cc)) h)
 
-  pub write_cause : (given : Result Command WordError) (status : Status) → KeepsPromise given source out err status → status ≡ Write → Failed out
+  pub write_cause : (given : Result Command WordError) (status : Status) → KeepsPromise given source out err status → status ≡ Write → HasFailed out
   write_cause (Ok command) status a h = (answer_at source out err command status Write a h).0.3.failed
   write_cause (Err error) status r h = absurd (refused_other err error status Write r (λ e. absurd (cc)) (λ e. absurd (cc)) h)
 
@@ -249,7 +249,7 @@ module _ (source out err : Watched) where
       λ h. (let b = answer_at source out err command status NoStrand a h in replay_tells command b.1.0 b.0 b.1.2 b.2)
   strand_told (Err error) status r told e = refused_other err error status NoStrand r (λ e. absurd (cc)) (λ e. absurd (cc))
 
-  module _ (command : Command) (bytes : List ℕ) (told : source.before ≡ Some bytes) (good : IsTrue (takes_script command) → IsBad command bytes → ⊥) (reads : Failed source → ⊥) (writes : Failed out → ⊥) where
+  module _ (command : Command) (bytes : List ℕ) (told : source.before ≡ Some bytes) (good : IsTrue (takes_script command) → IsBad command bytes → ⊥) (reads : HasFailed source → ⊥) (writes : HasFailed out → ⊥) where
     complete_of : (status : Status) → StatusMeans command source out err status → IsComplete command status
     complete_of Done a = inl refl
     complete_of Faulted a = inr (inl refl)

@@ -18,7 +18,7 @@ use Rattle.engine.specs.declared.status.Status.{Status}
 use Rattle.engine.specs.declared.status.Status.TheVariants.{Done, Faulted, Words, Script, Read, Write, Memory, NoStrand}
 use Rattle.engine.specs.Commands.{AcceptsScript, Reports, takes_script}
 use Rattle.engine.specs.Report.{Report, plan_of, status_of}
-use Rattle.engine.specs.Promise.{KeepsPromise, ReadsNone, Watched, Failed, has_line, has_output, most_bytes, watched}
+use Rattle.engine.specs.Promise.{KeepsPromise, ReadsNone, Watched, HasFailed, has_line, has_output, most_bytes, watched}
 
 -- the words give no command
 abbrev pub SaysNothing : Result Command WordError → Type 0
@@ -85,7 +85,7 @@ IsComplete command status = (status ≡ Done) ⊎ ((status ≡ Faulted) ⊎ ((st
 -- Where the words give a command, the bytes that the source tells aren't bad for it, and neither a read nor a write of the output failed, the
 -- answer is complete.
 abbrev pub Completes : Result Command WordError → Watched → Option (List ℕ) → Watched → Status → Type 0
-Completes (Ok command) source (Some bytes) out status = (IsTrue (takes_script command) → IsBad command bytes → ⊥) → (Failed source → ⊥) → (Failed out → ⊥) → IsComplete command status
+Completes (Ok command) source (Some bytes) out status = (IsTrue (takes_script command) → IsBad command bytes → ⊥) → (HasFailed source → ⊥) → (HasFailed out → ⊥) → IsComplete command status
 Completes given source told out status = ⊤
 
 -- What holds of a plan's run: the pedigrees of its events but printing rise strictly, so that no two are the same; each draw is DotMix of
@@ -120,8 +120,8 @@ pub record IsTopCall {S K E : Type 0} (given : Result Command WordError) (source
   pub script : RefusesScript given (watched_change source).before status
   pub report : WritesReport given (watched_change source) (watched_change source).before (watched_change out) status
   pub no_strand : TellsNoStrand given (watched_change source).before status
-  pub read : status ≡ Read → Failed (watched_change source)
-  pub write : status ≡ Write → Failed (watched_change out)
+  pub read : status ≡ Read → HasFailed (watched_change source)
+  pub write : status ≡ Write → HasFailed (watched_change out)
   pub complete : Completes given (watched_change source) (watched_change source).before (watched_change out) status
   -- What holds of each run that is written.
   pub events : (settings : Settings) (tree : Tree) → FollowsPedigrees (plan_of settings tree)

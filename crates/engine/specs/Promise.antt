@@ -25,15 +25,15 @@ most_bytes = 1048576
 pub record Watched : Type 0 where
   pub before : Option (List ℕ)
   pub after : Option (List ℕ)
-  pub faults_before : ℕ
-  pub faults_after : ℕ
+  pub failures_before : ℕ
+  pub failures_after : ℕ
 
 -- the same from an object's meanings, and its values before and after the call
 abbrev pub watched : {T : Type 0} → (T → Option (List ℕ)) → (T → ℕ) → T → T → Watched
-watched told faults old new = record { before = told old; after = told new; faults_before = faults old; faults_after = faults new }
+watched told faults old new = record { before = told old; after = told new; failures_before = faults old; failures_after = faults new }
 
-abbrev pub Failed : Watched → Type 0
-Failed object = Rose object.faults_before object.faults_after
+abbrev pub HasFailed : Watched → Type 0
+HasFailed object = Rose object.failures_before object.failures_after
 
 -- Bytes were written, whole.
 abbrev pub Wrote : Watched → List ℕ → Type 0
@@ -42,7 +42,7 @@ Wrote object bytes = Appends object.before object.after bytes
 -- A front of the bytes was written, since the object failed.
 pub record WroteFront (object : Watched) (bytes : List ℕ) : Type 0 where
   pub front : AppendsFront object.before object.after bytes
-  pub failed : Failed object
+  pub failed : HasFailed object
 
 -- A line was written whole, or a front of it where the object failed.
 abbrev pub WroteLine : Watched → List ℕ → Type 0
@@ -99,7 +99,7 @@ StatusMeans command source out err Done = IsReported command source E.Done (Wrot
 StatusMeans command source out err Faulted = IsReported command source E.Faulted (Wrote out)
 StatusMeans command source out err Words = ⊥
 StatusMeans command source out err BadScript = IsTrue (takes_script command) × HasNoScript command source err
-StatusMeans command source out err Read = IsTrue (takes_script command) × Failed source × WroteLine err (codes "read fault\n")
+StatusMeans command source out err Read = IsTrue (takes_script command) × HasFailed source × WroteLine err (codes "read fault\n")
 StatusMeans command source out err Write = ((report : Report) × HasReport command source report × HasOutput report.ending × WroteFront out report.output) × WroteLine err (codes "write fault\n")
 StatusMeans command source out err Memory = WroteLine err (codes "out of memory\n")
 StatusMeans command source out err NoStrand = (report : Report) × HasReport command source report × TellsNone err report.ending

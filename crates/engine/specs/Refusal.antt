@@ -10,7 +10,7 @@ use Rattle.engine.specs.declared.report.ReportEnd.{ReportEnd}
 use Rattle.engine.specs.declared.report.ReportEnd.TheVariants as E
 use Rattle.engine.specs.declared.status.Status.{Status}
 use Rattle.engine.specs.declared.status.Status.TheVariants as S
-use Rattle.engine.specs.Promise.{Watched, Failed, HasOutput, ReadWhole, IsUntaken, WroteLine, TellsNone, Wrote, WroteFront, most_bytes}
+use Rattle.engine.specs.Promise.{Watched, HasFailed, HasOutput, ReadWhole, IsUntaken, WroteLine, TellsNone, Wrote, WroteFront, most_bytes}
 
 -- What a refusal means, by what it is that the source is too long, that this line tells why its text isn't taken, and that it wasn't read. Memory
 -- may be wanting anywhere.
@@ -34,7 +34,7 @@ IsLong source = ConsumesJust source.before source.after (most_bytes + 1)
 
 -- Why the bytes of the source weren't had.
 abbrev pub IsFetchRefusal : Watched → Refusal → Type 0
-IsFetchRefusal source = Means (IsLong source) (λ line. ⊥) (Failed source)
+IsFetchRefusal source = Means (IsLong source) (λ line. ⊥) (HasFailed source)
 
 -- The bytes of the source are the text of no script that the command takes, and this line tells why.
 abbrev pub HasUntaken : Command → Watched → List ℕ → Type 0
@@ -43,7 +43,7 @@ HasUntaken command source line = (bytes : List ℕ) × ReadWhole source bytes ×
 -- Why a command has no report: only one that takes a script is refused for another reason than memory.
 abbrev pub IsCause : Command → Watched → Refusal → Type 0
 IsCause command source =
-    let takes = IsTrue (takes_script command) in Means (takes × IsLong source) (λ line. takes × HasUntaken command source line) (takes × Failed source)
+    let takes = IsTrue (takes_script command) in Means (takes × IsLong source) (λ line. takes × HasUntaken command source line) (takes × HasFailed source)
 
 -- A report was delivered: its output was written and this is its status, or the sink failed; or a line told that there is no strand, unless
 -- memory was wanting for it.

@@ -135,7 +135,7 @@ pub fn write_memory_line<E: Sink>(err: &mut E) -> Status
     Status::Memory
 }
 
-// Tells by this line that there is no strand.
+// Writes this line, that there is no strand.
 fn write_no_strand<E: Sink>(line: &[u8], err: &mut E) -> Status
     ensures status { result ≡ Status.NoStrand }
     ensures told { WroteLine (watched E.written E.faults err.old err.new) line.now }

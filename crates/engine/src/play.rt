@@ -198,7 +198,7 @@ fn span_lines(alloc: Global, measured: Span) -> Result<Vec<u8>, AllocError>
     Ok(lines.into_bytes())
 }
 
-fn outcome_of(answer: Answer) -> Outcome
+fn into_outcome(answer: Answer) -> Outcome
     ensures { result ≡ answer.outcome }
 {
     answer.outcome
@@ -213,7 +213,7 @@ fn measure_report(alloc: Global, answer: Answer) -> Result<Report, Memory>
     laws::whole_answers_are_evals();
     let measured = span(alloc, &answer);
     let ending = ending_for(&answer.outcome);
-    let end = end_line(alloc, outcome_of(answer));
+    let end = end_line(alloc, into_outcome(answer));
     let measured = measured?;
     let mut output = span_lines(alloc, measured)?;
     let end = end?;

@@ -4,12 +4,12 @@ use Rattle.ped_gen.specs.declared.shape.Shape.{Shape}
 use Rattle.ped_gen.specs.declared.shape.Shape.TheVariants.{Fib, Tree, Loop}
 
 -- the lines with a line feed after each
-abbrev pub joined : List (List ℕ) → List ℕ
-joined lines = flat_map (λ line. line ++ codes "\n") lines
+abbrev pub with_line_feeds : List (List ℕ) → List ℕ
+with_line_feeds lines = flat_map (λ line. line ++ codes "\n") lines
 
 abbrev pub fib_text : List ℕ → List ℕ
 fib_text size =
-    joined (
+    with_line_feeds (
     codes "fn fib(n) {" ∷
     codes "  let a = n;" ∷
     codes "  let b = 0;" ∷
@@ -29,7 +29,7 @@ fib_text size =
 
 abbrev pub tree_text : List ℕ → List ℕ
 tree_text size =
-    joined (
+    with_line_feeds (
     codes "fn tree(n) {" ∷
     codes "  let a = 0;" ∷
     codes "  let b = 0;" ∷
@@ -52,7 +52,7 @@ tree_text size =
 
 abbrev pub loop_text : List ℕ → List ℕ
 loop_text size =
-    joined (
+    with_line_feeds (
     codes "fn cell(i) {" ∷
     codes "  let x = draw;" ∷
     codes "  return i * i + x % 10;" ∷

@@ -11,9 +11,9 @@ pub record HasCause {T E : Type 0} (before now : ℕ) (result : Result T E) : Ty
   pub failed : OnErr result (Rose before now)
 
 -- A counter goes up by one, and stays at its last value, 18446744073709551615.
-abbrev pub next : ℕ → ℕ
-next n = min (n + 1) (2 ^ 64 - 1)
+abbrev pub next_count : ℕ → ℕ
+next_count n = min (n + 1) (2 ^ 64 - 1)
 
 -- The count goes up by one where the call fails, and else stays.
 abbrev pub Counts : {T E : Type 0} → ℕ → ℕ → Result T E → Type 0
-Counts before now result = MatchResult result (λ _. now ≡ before) (λ _. now ≡ next before)
+Counts before now result = MatchResult result (λ _. now ≡ before) (λ _. now ≡ next_count before)

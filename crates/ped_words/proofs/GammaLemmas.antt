@@ -6,7 +6,7 @@ use Rattle.std.proofs.lemmas.Bool.Decides.{nat_tests}
 use Rattle.std.proofs.lemmas.List.{length-replicate}
 use Rattle.std.proofs.lemmas.List.FromFn.{length-map-range_with_len}
 use Rattle.dotmix.specs.Draws.{modulus}
-use Rattle.dotmix.specs.Words.{coefficients, word}
+use Rattle.dotmix.specs.Words.{coefficients, seed_word}
 use Rattle.dotmix.specs.GammaState.{is_too_big, padded, IsFirstTooBig}
 use Rattle.dotmix.specs.declared.gamma.GammaError.{GammaError}
 use Rattle.dotmix.specs.declared.gamma.GammaError.TheVariants.{TooMany, TooBig, Memory}
@@ -15,7 +15,7 @@ use Rattle.serial_meaning.specs.declared.plan.Limits.{Limits}
 use Rattle.ped_words.specs.Commands.{IsBatch}
 use Rattle.ped_words.specs.Numbers.{are_few}
 use Rattle.ped_words.specs.Table.{value_type_of, most_seeds}
-use Rattle.ped_words.specs.Making.{gamma_error, gamma_fits, gamma_from, gamma_of, holds_for, is_gamma, unfit}
+use Rattle.ped_words.specs.Making.{gamma_error, gamma_fits, gamma_from, command_gamma, holds_for, is_gamma, unfit}
 use Rattle.ped_words.specs.Rules.{breaks, IsRefusal}
 use Rattle.ped_words.specs.Given.{HasCount, IsPlacedList}
 use Rattle.ped_words.specs.Values.{IsInRange, OptionValues, number_value}
@@ -63,7 +63,7 @@ module _ (values : OptionValues) (given : List ℕ) (at depth : ℕ) (placed : I
   fits_by : (b : Bool) → is_gamma given depth ≡ b → gamma_fits values depth ≡ b
   fits_by b fits = ap (holds_for (λ g. is_gamma g depth)) placed.0 ∙ fits
 
-  pub gamma_ok : (gamma : List ℕ) → Judged given depth (Ok gamma) → gamma ≡ padded given depth → (gamma ≡ gamma_of values depth) × (gamma_fits values depth ≡ true)
+  pub gamma_ok : (gamma : List ℕ) → Judged given depth (Ok gamma) → gamma ≡ padded given depth → (gamma ≡ command_gamma values depth) × (gamma_fits values depth ≡ true)
   gamma_ok gamma j made = (made ∙ sym (ap (λ g. gamma_from g (unwrap_or (number_value values name.Seed) 0) depth) placed.0), fits_by true (is_gamma_ok given gamma depth j))
 
   pub gamma_err : (error : GammaError) (e : WordError) → Judged given depth (Err error) → e ≡ gamma_error error at → IsRefusal (unfit values name.Gamma (gamma_fits values depth)) e
@@ -78,7 +78,7 @@ module _ (values : OptionValues) (given : List ℕ) (at depth : ℕ) (placed : I
       at_error Memory j = tt
 
 -- Without a list the seed's coefficients fit.
-pub seed_ok : (values : OptionValues) (depth seed : ℕ) (gamma : List ℕ) → IsPlacedList values name.Gamma None → seed ≡ unwrap_or (number_value values name.Seed) 0 → gamma ≡ coefficients seed depth → (gamma ≡ gamma_of values depth) × (gamma_fits values depth ≡ true)
+pub seed_ok : (values : OptionValues) (depth seed : ℕ) (gamma : List ℕ) → IsPlacedList values name.Gamma None → seed ≡ unwrap_or (number_value values name.Seed) 0 → gamma ≡ coefficients seed depth → (gamma ≡ command_gamma values depth) × (gamma_fits values depth ≡ true)
 seed_ok values depth seed gamma none is made =
     (made ∙ ap (λ s. coefficients s depth) is ∙ sym (ap (λ g. gamma_from g (unwrap_or (number_value values name.Seed) 0) depth) none), ap (holds_for (λ g. is_gamma g depth)) none)
 
@@ -90,7 +90,7 @@ gamma_long list gamma depth j made =
     in ap length made ∙ long ∙ omega (arith, few)
 
 pub seed_long : (seed depth : ℕ) → length (coefficients seed depth) ≡ depth
-seed_long seed depth = length-map-range_with_len (λ i. word seed i % modulus) 1 depth
+seed_long seed depth = length-map-range_with_len (λ i. seed_word seed i % modulus) 1 depth
 
 -- Each seed gives coefficients for a plan.
 seeds_plan : (limits : Limits) (rounds : ℕ) → IsInRange (value_type_of name.Depth) limits.depth → IsInRange (value_type_of name.Budget) limits.budget → IsInRange (value_type_of name.Rounds) rounds → (seed : ℕ) → IsPlan (coefficients seed limits.depth) limits rounds

@@ -3,7 +3,7 @@ use Rattle.std.proofs.Common.{◌≡◌, ℕ, ◌+◌, ◌^◌, Bool, true, fals
 use Rattle.std.specs.Prelude.{unwrap_or, option_and_then, is_some, nat_le}
 use Rattle.std.specs.Option.{option_map, option_or}
 use Rattle.std.proofs.lemmas.Option.{none-some}
-use Rattle.ped_words.specs.Making.{budget_of, command_of, count_fits, default_depth, depth_for, depth_of, first_late, gamma_fits, gamma_from, gamma_of, hash_depth, holds_for, is_gamma, is_size, late_rules, limits_of, made_command, made_of, rounds_of, settings_of, size_fits, unfit, workers_of}
+use Rattle.ped_words.specs.Making.{budget_of, command_of, count_fits, default_depth, depth_for, depth_of, first_late, gamma_fits, gamma_from, command_gamma, hash_depth, holds_for, is_gamma, is_size, late_rules, limits_of, made_command, made_of, rounds_of, settings_of, size_fits, unfit, workers_of}
 use Rattle.ped_words.specs.Pedigrees.{last_rank}
 use Rattle.ped_words.specs.Rules.{breaks}
 use Rattle.ped_words.specs.Table.{value_type_of, show_of, shape_of, takes_option}
@@ -92,17 +92,17 @@ module _ (values others : OptionValues) (same : (n : OptionName) → word_of oth
   limits-same : limits_of others ≡ limits_of values
   limits-same = ap (λ d. record { depth = d; budget = budget_of others }) depth-same ∙ ap (λ b. record { depth = depth_of values; budget = b }) budget-same
 
-  gamma-same : (depth : ℕ) → gamma_of others depth ≡ gamma_of values depth
+  gamma-same : (depth : ℕ) → command_gamma others depth ≡ command_gamma values depth
   gamma-same depth =
       ap (λ o. gamma_from o (unwrap_or (number_value others name.Seed) 0) depth) (list-same name.Gamma)
       ∙ ap (λ o. gamma_from (list values name.Gamma) (unwrap_or o 0) depth) (number-same name.Seed)
 
   settings-same : settings_of others ≡ settings_of values
   settings-same =
-      ap (λ z. settings_with z (limits_of others) (shown others) (rounds_of others)) (gamma-same (depth_of others) ∙ ap (gamma_of values) depth-same)
-      ∙ ap (λ z. settings_with (gamma_of values (depth_of values)) z (shown others) (rounds_of others)) limits-same
-      ∙ ap (λ z. settings_with (gamma_of values (depth_of values)) (limits_of values) (unwrap_or z Plain) (rounds_of others)) show-same
-      ∙ ap (λ z. settings_with (gamma_of values (depth_of values)) (limits_of values) (shown values) z) rounds-same
+      ap (λ z. settings_with z (limits_of others) (shown others) (rounds_of others)) (gamma-same (depth_of others) ∙ ap (command_gamma values) depth-same)
+      ∙ ap (λ z. settings_with (command_gamma values (depth_of values)) z (shown others) (rounds_of others)) limits-same
+      ∙ ap (λ z. settings_with (command_gamma values (depth_of values)) (limits_of values) (unwrap_or z Plain) (rounds_of others)) show-same
+      ∙ ap (λ z. settings_with (command_gamma values (depth_of values)) (limits_of values) (shown values) z) rounds-same
 
   command-same : (v : Verb) → command_of v others ≡ command_of v values
   command-same verb.Run = ap (λ z. Some (command.Run z (workers_of others))) settings-same ∙ ap (λ z. Some (command.Run (settings_of values) z)) workers-same
@@ -115,8 +115,8 @@ module _ (values others : OptionValues) (same : (n : OptionName) → word_of oth
       ap (λ z. option_map (λ j. command.Replay z j) (pedigree others)) settings-same ∙ ap (λ z. option_map (λ j. command.Replay (settings_of values) j) z) pedigree-same
   command-same verb.Hash =
       ap (λ z. option_map (λ j. command.Hash z j (rounds_of others)) (pedigree others)) (gamma-same hash_depth)
-      ∙ ap (λ z. option_map (λ j. command.Hash (gamma_of values hash_depth) j z) (pedigree others)) rounds-same
-      ∙ ap (λ z. option_map (λ j. command.Hash (gamma_of values hash_depth) j (rounds_of values)) z) pedigree-same
+      ∙ ap (λ z. option_map (λ j. command.Hash (command_gamma values hash_depth) j z) (pedigree others)) rounds-same
+      ∙ ap (λ z. option_map (λ j. command.Hash (command_gamma values hash_depth) j (rounds_of values)) z) pedigree-same
   command-same verb.Check = refl
   command-same verb.Fmt = refl
   command-same verb.Gen =
@@ -124,10 +124,10 @@ module _ (values others : OptionValues) (same : (n : OptionName) → word_of oth
       ∙ ap (λ z. option_and_then (λ s. option_map (λ n. command.Gen s n) (number_value values name.Size)) z) shape-same
   command-same verb.Stream =
       ap (λ z. option_and_then (λ j. option_map (λ n. command.Stream z j n (rounds_of others) (number_value others name.Below)) (number_value others name.Count)) (pedigree others)) (gamma-same hash_depth)
-      ∙ ap (λ z. option_and_then (λ j. option_map (λ n. command.Stream (gamma_of values hash_depth) j n z (number_value others name.Below)) (number_value others name.Count)) (pedigree others)) rounds-same
-      ∙ ap (λ z. option_and_then (λ j. option_map (λ n. command.Stream (gamma_of values hash_depth) j n (rounds_of values) z) (number_value others name.Count)) (pedigree others)) (number-same name.Below)
-      ∙ ap (λ z. option_and_then (λ j. option_map (λ n. command.Stream (gamma_of values hash_depth) j n (rounds_of values) (number_value values name.Below)) z) (pedigree others)) (number-same name.Count)
-      ∙ ap (λ z. option_and_then (λ j. option_map (λ n. command.Stream (gamma_of values hash_depth) j n (rounds_of values) (number_value values name.Below)) (number_value values name.Count)) z) pedigree-same
+      ∙ ap (λ z. option_and_then (λ j. option_map (λ n. command.Stream (command_gamma values hash_depth) j n z (number_value others name.Below)) (number_value others name.Count)) (pedigree others)) rounds-same
+      ∙ ap (λ z. option_and_then (λ j. option_map (λ n. command.Stream (command_gamma values hash_depth) j n (rounds_of values) z) (number_value others name.Count)) (pedigree others)) (number-same name.Below)
+      ∙ ap (λ z. option_and_then (λ j. option_map (λ n. command.Stream (command_gamma values hash_depth) j n (rounds_of values) (number_value values name.Below)) z) (pedigree others)) (number-same name.Count)
+      ∙ ap (λ z. option_and_then (λ j. option_map (λ n. command.Stream (command_gamma values hash_depth) j n (rounds_of values) (number_value values name.Below)) (number_value values name.Count)) z) pedigree-same
   command-same verb.Span = ap (λ z. Some (command.Span z)) settings-same
   command-same verb.Batch =
       ap (λ z. option_map (λ s. command.Batch s z (shown others) (rounds_of others) (workers_of others)) (list others name.Seeds)) limits-same

@@ -3,7 +3,7 @@
 use Rattle.std.specs.Prelude.{◌≡◌, ℕ, ◌+◌, ◌^◌, ◌<◌, ◌≤◌, Bool, true, if◌then◌else◌, is_some, Option, Some, None, List, [], ◌∷◌, length}
 use Rattle.ped_words.specs.Numbers.{are_few}
 use Rattle.ped_words.specs.Table.{value_type_of}
-use Rattle.ped_words.specs.Values.{OptionValues, IsInRange, index, list, number_value, option_values, word_at}
+use Rattle.ped_words.specs.Values.{OptionValues, IsInRange, value_index, list, number_value, option_values, word_at}
 use Rattle.ped_words.specs.declared.table.ValueType.{ValueType}
 use Rattle.ped_words.specs.declared.table.ValueType.TheVariants as value_type
 use Rattle.ped_words.specs.declared.table.OptionName.{OptionName}
@@ -30,12 +30,12 @@ IsSmall _ = ⊥
 -- This is the number that an option gives, and the index of its word.
 abbrev pub IsPlaced : OptionValues → OptionName → Option (ℕ × ℕ) → Type 0
 IsPlaced values n None = number_value values n ≡ None
-IsPlaced values n (Some placed) = (number_value values n ≡ Some placed.0) × (index values n ≡ Some placed.1) × IsInRange (value_type_of n) placed.0
+IsPlaced values n (Some placed) = (number_value values n ≡ Some placed.0) × (value_index values n ≡ Some placed.1) × IsInRange (value_type_of n) placed.0
 
 -- This is the list that an option gives, and the index of its word.
 abbrev pub IsPlacedList : OptionValues → OptionName → Option (List ℕ × ℕ) → Type 0
 IsPlacedList values n None = list values n ≡ None
-IsPlacedList values n (Some placed) = (list values n ≡ Some placed.0) × (index values n ≡ Some placed.1)
+IsPlacedList values n (Some placed) = (list values n ≡ Some placed.0) × (value_index values n ≡ Some placed.1)
 
 -- The type takes so many numbers.
 abbrev pub HasCount : ValueType → ℕ → Type 0

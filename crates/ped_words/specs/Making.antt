@@ -12,7 +12,7 @@ use Rattle.serial_meaning.specs.declared.plan.Show.TheVariants.{Plain}
 use Rattle.ped_words.specs.Pedigrees.{last_rank}
 use Rattle.ped_words.specs.Rules.{breaks, unless_error}
 use Rattle.ped_words.specs.Table.{takes_option}
-use Rattle.ped_words.specs.Values.{OptionValues, index, list, number_value, pedigree, shape, show}
+use Rattle.ped_words.specs.Values.{OptionValues, value_index, list, number_value, pedigree, shape, show}
 use Rattle.ped_words.specs.declared.command.Command.{Command}
 use Rattle.ped_words.specs.declared.command.Command.TheVariants as command
 use Rattle.ped_words.specs.declared.command.Settings.{Settings}
@@ -53,12 +53,12 @@ gamma_from None seed depth = coefficients seed depth
 gamma_from (Some given) seed depth = padded given depth
 
 -- by default the coefficients of seed 0
-abbrev pub gamma_of : OptionValues → ℕ → List ℕ
-gamma_of values depth = gamma_from (list values name.Gamma) (unwrap_or (number_value values name.Seed) 0) depth
+abbrev pub command_gamma : OptionValues → ℕ → List ℕ
+command_gamma values depth = gamma_from (list values name.Gamma) (unwrap_or (number_value values name.Seed) 0) depth
 
 abbrev pub settings_of : OptionValues → Settings
 settings_of values = record {
-  gamma = gamma_of values (depth_of values);
+  gamma = command_gamma values (depth_of values);
   limits = limits_of values;
   show = unwrap_or (show values) Plain;
   rounds = rounds_of values;
@@ -70,12 +70,12 @@ command_of verb.Run values = Some (command.Run (settings_of values) (workers_of 
 command_of verb.Serial values = Some (command.Serial (settings_of values))
 command_of verb.Sim values = option_map (λ n. command.Sim (settings_of values) (workers_of values) n) (number_value values name.Number)
 command_of verb.Replay values = option_map (λ j. command.Replay (settings_of values) j) (pedigree values)
-command_of verb.Hash values = option_map (λ j. command.Hash (gamma_of values hash_depth) j (rounds_of values)) (pedigree values)
+command_of verb.Hash values = option_map (λ j. command.Hash (command_gamma values hash_depth) j (rounds_of values)) (pedigree values)
 command_of verb.Check values = Some command.Check
 command_of verb.Fmt values = Some command.Fmt
 command_of verb.Gen values = option_and_then (λ s. option_map (λ n. command.Gen s n) (number_value values name.Size)) (shape values)
 command_of verb.Stream values =
-    option_and_then (λ j. option_map (λ n. command.Stream (gamma_of values hash_depth) j n (rounds_of values) (number_value values name.Below)) (number_value values name.Count)) (pedigree values)
+    option_and_then (λ j. option_map (λ n. command.Stream (command_gamma values hash_depth) j n (rounds_of values) (number_value values name.Below)) (number_value values name.Count)) (pedigree values)
 command_of verb.Span values = Some (command.Span (settings_of values))
 command_of verb.Batch values =
     option_map (λ s. command.Batch s (limits_of values) (unwrap_or (show values) Plain) (rounds_of values) (workers_of values)) (list values name.Seeds)
@@ -122,7 +122,7 @@ late_rules verb values = (name.Gamma, gamma_fits values (depth_for verb values))
 
 -- out of range at the word that gives this option, unless its value fits
 abbrev pub unfit : OptionValues → OptionName → Bool → Option WordError
-unfit values n fits = if fits then None else option_map (λ i. breaks rule.OutOfRange i) (index values n)
+unfit values n fits = if fits then None else option_map (λ i. breaks rule.OutOfRange i) (value_index values n)
 
 -- the first of these rules that is broken, of the options that the command has
 abbrev pub first_late : Verb → OptionValues → List (OptionName × Bool) → Option WordError

@@ -36,8 +36,8 @@ option_values words zero n = None
 option_values words (suc k) n = if is_option (name_of (name_word words k)) n then Some (value_word words k, 2 * k + 2) else option_values words k n
 
 -- the index of the word that gives an option
-abbrev pub index : OptionValues → OptionName → Option ℕ
-index values n = option_map (λ w. w.1) (values n)
+abbrev pub value_index : OptionValues → OptionName → Option ℕ
+value_index values n = option_map (λ w. w.1) (values n)
 
 -- Whether an option was given. A seed and coefficients exclude each other, so either counts as the other.
 abbrev pub has : OptionValues → OptionName → Bool

@@ -44,7 +44,7 @@ pub(crate) fn text_at(words: &[String], index: usize) -> &str
 }
 
 /// Whether a word names this option.
-fn is_name(word: &str, name: OptionName) -> bool
+fn names_option(word: &str, name: OptionName) -> bool
     ensures { result ≡ is_option (name_of word.now) name }
 {
     match OptionName::of_word(word) {
@@ -73,7 +73,7 @@ fn next_index(words: &[String], pair: u32, name: OptionName, before: Option<u32>
     requires before { IsValueIndex (map string_bytes words.now) pair name before }
     ensures { IsValueIndex (map string_bytes words.now) (pair + 1) name result }
 {
-    if is_name(text_at(words, 2 * pair as usize + 1), name) {
+    if names_option(text_at(words, 2 * pair as usize + 1), name) {
         Some(2 * pair + 2)
     } else {
         before

@@ -2,7 +2,7 @@
 
 ghost use Rattle.std.specs.Prelude.{◌≡◌, ◌<◌, ◌^◌, IfErr, IfOk, None, length, true};
 ghost use Rattle.ped_words.specs.Commands.{AreLawful, IsLawful, IsWorkers};
-ghost use Rattle.ped_words.specs.Making.{budget_of, depth_of, gamma_error, gamma_fits, gamma_of, limits_of, made_command, rounds_of, settings_of, unfit, workers_of};
+ghost use Rattle.ped_words.specs.Making.{budget_of, depth_of, gamma_error, gamma_fits, command_gamma, limits_of, made_command, rounds_of, settings_of, unfit, workers_of};
 ghost use Rattle.ped_words.specs.Rules.{IsRefusal, IsUnlessMemory, breaks};
 ghost use Rattle.ped_words.specs.Table.{value_type_of};
 ghost use Rattle.ped_words.specs.Given.{values_in};
@@ -228,7 +228,7 @@ impl<'a> Given<'a> {
 
     /// The coefficients of this depth, of the list that is given or else of the seed.
     fn coefficients(&self, alloc: Global, depth: u32) -> Result<Gamma, WordError>
-        ensures ok { IfOk result (λ gamma. gamma ≡ gamma_of (values_in self.now) depth) }
+        ensures ok { IfOk result (λ gamma. gamma ≡ command_gamma (values_in self.now) depth) }
         ensures fits { IfOk result (λ gamma. gamma_fits (values_in self.now) depth ≡ true) }
         ensures err { IfErr result (IsRefusal (unfit (values_in self.now) OptionName.Gamma (gamma_fits (values_in self.now) depth))) }
         ensures long { IfOk result (λ gamma. length gamma ≡ depth) }

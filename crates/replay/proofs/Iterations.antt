@@ -13,7 +13,7 @@ use Rattle.strand_meaning.specs.Rest.{children_of}
 use Rattle.strand_meaning.specs.Strands.{child_on_way, entered_child}
 use Rattle.strand_meaning.proofs.ElisionsStrands.ElisionStrands.{OnWay, on-way, enters-turn}
 use Rattle.strand_meaning.proofs.ElisionsStrands.ItemsRise.{items-rise}
-use Rattle.strand_meaning.proofs.SoundSteps.Loops.{contains-turn}
+use Rattle.strand_meaning.proofs.SoundSteps.HalvesMakeLoops.{contains-turn}
 use Rattle.serial_runner.specs.Nodes.{IsBelow}
 use Rattle.serial_runner.proofs.Below.{below-of}
 use Rattle.replay.specs.Descents.{IsOnWayTo}

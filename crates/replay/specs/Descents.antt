@@ -4,7 +4,7 @@ use Rattle.serial_meaning.specs.Eval.{path_of}
 use Rattle.serial_meaning.specs.Laws.{IsOriginOf}
 use Rattle.serial_meaning.specs.Plan.{PlanView}
 use Rattle.serial_meaning.specs.declared.origin.Origin.{Origin}
-use Rattle.strand_meaning.specs.Observation.{IsInstance}
+use Rattle.strand_meaning.specs.Observation.{IsInstanceOrigin}
 use Rattle.strand_meaning.specs.Strands.{Found, FoundStrand, Missing, Blocked, walk_in}
 use Rattle.serial_runner.specs.Nodes.{IsBelow}
 use Rattle.replay.specs.declared.descent.Way.{Way}
@@ -20,7 +20,7 @@ seen_from plan o j = walk_in plan (length j - length (path_of o)) j o
 -- an instance of the plan that the way down to a pedigree passes
 pub record IsOnWayTo (plan : PlanView) (j : List ℕ) (o : Origin) : Type 0 where
   pub known : IsOriginOf plan o
-  pub instance : IsInstance o
+  pub instance : IsInstanceOrigin o
   pub below : IsBelow (path_of o) j
 
 -- The way leads further down, to where the same stands; or what stands there is known.

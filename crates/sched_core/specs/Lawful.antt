@@ -5,7 +5,7 @@ use Rattle.sched_meaning.specs.Simulation.{has_task, is_free, may_give, may_run}
 use Rattle.sched_meaning.specs.declared.event.CoreEvent.{CoreEvent}
 use Rattle.sched_meaning.specs.declared.event.CoreEvent.TheVariants.{Run, Pop, Steal, Look, Idle}
 
--- whether a task waits at this place
+-- whether a task is stalled at this place
 abbrev pub has_stalled : ℕ → Option Worker → Bool
 has_stalled place None = false
 has_stalled place (Some w) = nat_lt place (length w.stalled)

@@ -12,7 +12,7 @@ use std::alloc::Global;
 use strand_machine::Memory;
 
 /// The event stands after these, where it goes on with the work.
-fn add_if(events: &mut Vec<CoreEvent>, goes_on: bool, event: CoreEvent) -> Result<(), Memory>
+fn add_choice_if(events: &mut Vec<CoreEvent>, goes_on: bool, event: CoreEvent) -> Result<(), Memory>
     ensures { OnOk result (events.new.items ≡ events.old.items ++ cond goes_on (event ∷ []) []) }
 {
     if goes_on {
@@ -36,7 +36,7 @@ impl CoreState {
         ensures { let c = core_of false self.now in OnOk result (events.new.items ≡ events.old.items ++ chosen.runs c (chosen.numbers c)) }
     {
         for w in 0..self.count() {
-            add_if(events, self.may_run(w), CoreEvent::Run(w))?;
+            add_choice_if(events, self.may_run(w), CoreEvent::Run(w))?;
         }
         Ok(())
     }
@@ -47,7 +47,7 @@ impl CoreState {
         ensures { let c = core_of false self.now in OnOk result (events.new.items ≡ events.old.items ++ chosen.pops c (chosen.numbers c)) }
     {
         for w in 0..self.count() {
-            add_if(events, self.may_pop(w), CoreEvent::Pop(w))?;
+            add_choice_if(events, self.may_pop(w), CoreEvent::Pop(w))?;
         }
         Ok(())
     }
@@ -58,7 +58,7 @@ impl CoreState {
         ensures { OnOk result (events.new.items ≡ events.old.items ++ chosen.steals_by (core_of false self.now) thief) }
     {
         for victim in 0..self.count() {
-            add_if(
+            add_choice_if(
                 events,
                 self.may_steal(thief, victim),
                 CoreEvent::Steal { thief, victim },
@@ -78,7 +78,7 @@ impl CoreState {
         Ok(())
     }
 
-    /// Whether all children of the task have answered that waits at this place of a worker.
+    /// Whether all children of the task have answered that is stalled at this place of a worker.
     fn is_ready(&self, w: u32, place: u32) -> bool
         requires consistent { IsConsistent self.now }
         ensures { result ≡ may_resume (core_of false self.now) place (slice_get (map worker_of self.now.workers.items) w) }
@@ -116,7 +116,7 @@ impl CoreState {
         ensures { OnOk result (events.new.items ≡ events.old.items ++ chosen.looks_by (core_of false self.now) worker) }
     {
         for place in 0..self.stalled_count(worker) {
-            add_if(
+            add_choice_if(
                 events,
                 self.may_resume(worker, place),
                 CoreEvent::Look { worker, place },

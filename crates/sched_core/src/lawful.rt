@@ -53,7 +53,7 @@ impl CoreState {
         thief != victim && self.is_free(thief) && self.may_give(victim)
     }
 
-    /// Whether a task of the worker waits at this place.
+    /// Whether a task of the worker is stalled at this place.
     fn has_stalled(&self, w: u32, place: u32) -> bool
         ensures { result ≡ has_stalled place (slice_get (map worker_of self.now.workers.items) w) }
     {

@@ -25,7 +25,7 @@ fn run(state: &mut CoreState, alloc: Global, w: u32) -> Result<(), Memory>
         return Err(Memory);
     }
     let runs = state.runs + 1;
-    let Job { task, number } = state.workers[w as usize].let_go();
+    let Job { task, number } = state.workers[w as usize].take_current();
     let stopped = task.advance(alloc)?;
     stop(state, alloc, w as usize, number, stopped)?;
     state.runs = runs;
@@ -39,7 +39,7 @@ fn pop(state: &mut CoreState, w: u32)
     requires lawful { may_happen (core_of false state.old) (event.Pop w) ≡ true }
     ensures { StepsTo (event.Pop w) state.old state.new }
 {
-    let job = state.workers[w as usize].take_back();
+    let job = state.workers[w as usize].pop_back();
     state.workers[w as usize].set_current(job);
 }
 
@@ -50,7 +50,7 @@ fn steal(state: &mut CoreState, thief: u32, victim: u32)
     requires lawful { may_happen (core_of false state.old) (event.Steal thief victim) ≡ true }
     ensures { StepsTo (event.Steal thief victim) state.old state.new }
 {
-    let job = state.workers[victim as usize].take_front();
+    let job = state.workers[victim as usize].pop_front();
     state.workers[thief as usize].set_current(job);
 }
 

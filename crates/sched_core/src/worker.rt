@@ -100,7 +100,7 @@ impl Worker {
     }
 
     /// The current task leaves.
-    pub fn let_go(&mut self) -> Job
+    pub fn take_current(&mut self) -> Job
         requires { self.old.current ≢ None }
         ensures { Lets result self.old self.new }
     {
@@ -111,7 +111,7 @@ impl Worker {
     }
 
     /// The task at the deque's back leaves.
-    pub fn take_back(&mut self) -> Job
+    pub fn pop_back(&mut self) -> Job
         requires { self.old.deque ≢ [] }
         ensures { BacksJob result self.old self.new }
     {
@@ -122,7 +122,7 @@ impl Worker {
     }
 
     /// The task at the deque's front leaves.
-    pub fn take_front(&mut self) -> Job
+    pub fn pop_front(&mut self) -> Job
         requires { self.old.deque ≢ [] }
         ensures { GivesJob result self.old self.new }
     {

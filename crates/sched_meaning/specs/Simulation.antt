@@ -1,7 +1,7 @@
 -- The simulation: the words of a seed pick among the events that go on with the work.
 use Rattle.std.specs.Prelude.{◌≡◌, ℕ, zero, suc, ◌+◌, ◌%◌, Bool, true, false, ◌&&◌, not, nat_eq, List, [], ◌∷◌, ◌++◌, Option, Some, None, MatchOption, length, map, filter, flat_map, is_some, slice_get}
 use Rattle.std.specs.List.{list_any, list_all, range_with_len}
-use Rattle.dotmix.specs.Words.{word}
+use Rattle.dotmix.specs.Words.{seed_word}
 use Rattle.serial_meaning.specs.Plan.{PlanView}
 use Rattle.serial_meaning.specs.Eval.{main_origin}
 use Rattle.serial_meaning.specs.declared.origin.Origin.{Origin}
@@ -81,7 +81,7 @@ picked c word = picked_of (choices c) word
 
 -- step i, from 1: what word i of the seed picks happens, or nothing where there is no choice
 abbrev pub PlaysWord : ℕ → ℕ → Core → Core → Type 0
-PlaysWord number i c next = MatchOption (picked c (word number i)) (next ≡ c) (λ e. Step e c next)
+PlaysWord number i c next = MatchOption (picked c (seed_word number i)) (next ≡ c) (λ e. Step e c next)
 
 -- so many steps lead from a new core to this one
 abbrev pub Simulates : PlanView → ℕ → ℕ → ℕ → Core → Type 0
@@ -95,6 +95,6 @@ pub record IsSimWorker (plan : PlanView) (workers number w : ℕ) : Type 0 where
   pub after : Core
   pub so_far : Simulates plan workers number steps before
   pub unanswered : IsRootAnswered before → ⊥
-  pub picks : picked before (word number (steps + 1)) ≡ Some (Run w)
+  pub picks : picked before (seed_word number (steps + 1)) ≡ Some (Run w)
   pub step : Step (Run w) before after
   pub answers : IsRootAnswered after

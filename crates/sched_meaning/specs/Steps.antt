@@ -67,7 +67,8 @@ recorded t (Wait rest) c = record c { runs = c.runs + 1 }
 recorded t (End out ended) c =
     record c { answers = c.answers ++ record { plan = t.plan; origin = t.origin; out = out; outcome = ended } ∷ []; runs = c.runs + 1 }
 
-pub record Runs (w : ℕ) (c next : Core) : Type 0 where
+-- A worker runs its task to the next stop. The core is `moved` before the stop is on record.
+pub record ReachesStop (w : ℕ) (c next : Core) : Type 0 where
   pub task : Task
   pub stop : Stop
   pub moved : Core
@@ -101,7 +102,7 @@ pub record Idles (w : ℕ) (c next : Core) : Type 0 where
   pub next_is : next ≡ c
 
 abbrev pub Happens : CoreEvent → Core → Core → Type 0
-Happens (Run w) c next = Runs w c next
+Happens (Run w) c next = ReachesStop w c next
 Happens (Pop w) c next = Pops w c next
 Happens (Steal thief victim) c next = Steals thief victim c next
 Happens (Look w place) c next = Resumes w place c next ⊎ StaysStalled w place c next

@@ -47,10 +47,10 @@ pub(crate) fn judge_call(
 {
     let name = &c.name;
     let args = c.args.as_slice();
-    match functions.named(name.bytes.as_slice()) {
+    match functions.function_named(name.bytes.as_slice()) {
         Some(f) => {
             let params = f.params.as_slice();
-            found.add_if(
+            found.add_violation_if(
                 params.len() != args.len(),
                 Condition::WrongNumberOfArguments,
                 name.at,
@@ -59,7 +59,7 @@ pub(crate) fn judge_call(
             Some(f.answer)
         }
         None => {
-            found.add_if(true, Condition::UnknownFunction, name.at);
+            found.add_violation_if(true, Condition::UnknownFunction, name.at);
             judge_arguments(symbols, found, &[], args);
             None
         }
@@ -86,10 +86,10 @@ pub(crate) fn judge_loop_call(
     ensures { found.new ≡ earliest found.old (loop_call_of (function_named functions.now c.now.name.bytes) has_target c.now (known_in symbols.now) (pending_in symbols.now)) }
 {
     let name = &c.name;
-    match functions.named(name.bytes.as_slice()) {
+    match functions.function_named(name.bytes.as_slice()) {
         Some(f) => judge_iterations(symbols, found, f, has_target, c),
         None => {
-            found.add_if(true, Condition::UnknownFunction, name.at);
+            found.add_violation_if(true, Condition::UnknownFunction, name.at);
             judge_arguments(symbols, found, &[], c.args.as_slice());
         }
     }
@@ -108,19 +108,19 @@ fn judge_iterations(
     let at = c.name.at;
     let params = f.params.as_slice();
     let args = c.args.as_slice();
-    found.add_if(has_target && f.answer == Kind::Id, Condition::WrongKind, at);
+    found.add_violation_if(has_target && f.answer == Kind::Id, Condition::WrongKind, at);
     match params.split_first() {
         Some((number, others)) => {
-            found.add_if(
+            found.add_violation_if(
                 others.len() != args.len(),
                 Condition::WrongNumberOfArguments,
                 at,
             );
-            found.add_if(number.kind == Kind::Id, Condition::WrongKind, at);
+            found.add_violation_if(number.kind == Kind::Id, Condition::WrongKind, at);
             judge_arguments(symbols, found, others, args);
         }
         None => {
-            found.add_if(true, Condition::WrongNumberOfArguments, at);
+            found.add_violation_if(true, Condition::WrongNumberOfArguments, at);
             judge_arguments(symbols, found, &[], args);
         }
     }

@@ -14,7 +14,7 @@ use crate::callees::callees;
 use crate::error::CheckError;
 use crate::findings::{Findings, Violation};
 use crate::function::{judge_function, judge_main};
-use crate::functions::{Functions, index};
+use crate::functions::{Functions, index_functions};
 use crate::memory::Memory;
 use crate::names::NameTable;
 use crate::places::places;
@@ -73,7 +73,7 @@ pub fn check(alloc: Global, script: Script) -> Result<Checked, CheckError>
     ensures bad { (number at : ℕ) → result ≡ Err (CheckError.Bad number at) → CheckFault script number at }
 {
     let mut found = Findings::new();
-    let first = index(alloc, &mut found, script.functions.as_slice())?;
+    let first = index_functions(alloc, &mut found, script.functions.as_slice())?;
     judge_script(alloc, &mut found, &script, &first)?;
     match found.least() {
         None => Ok(keep_valid(alloc, script, first)?),

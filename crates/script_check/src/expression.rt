@@ -36,7 +36,7 @@ impl Seen {
     pub(crate) fn want(self, found: &mut Findings, kind: Kind)
         ensures { found.new ≡ earliest found.old (wrong_kind kind self.kind self.at) }
     {
-        found.add_if(
+        found.add_violation_if(
             is_other_kind(kind, self.kind),
             Condition::WrongKind,
             self.at,
@@ -61,16 +61,16 @@ pub(crate) fn use_scalar(symbols: &SymbolTable, found: &mut Findings, x: &Name) 
 {
     match symbols.variable(x) {
         Some(Variable::Scalar(kind)) => {
-            found.add_if(symbols.is_pending(x), Condition::PendingVariable, x.at);
+            found.add_violation_if(symbols.is_pending(x), Condition::PendingVariable, x.at);
             Some(kind)
         }
         Some(Variable::Array) => {
-            found.add_if(true, Condition::WrongKind, x.at);
-            found.add_if(symbols.is_pending(x), Condition::PendingVariable, x.at);
+            found.add_violation_if(true, Condition::WrongKind, x.at);
+            found.add_violation_if(symbols.is_pending(x), Condition::PendingVariable, x.at);
             None
         }
         None => {
-            found.add_if(true, Condition::UnknownVariable, x.at);
+            found.add_violation_if(true, Condition::UnknownVariable, x.at);
             None
         }
     }
@@ -82,15 +82,15 @@ pub(crate) fn use_array(symbols: &SymbolTable, found: &mut Findings, x: &Name)
 {
     match symbols.variable(x) {
         Some(Variable::Scalar(_)) => {
-            found.add_if(true, Condition::WrongKind, x.at);
-            found.add_if(symbols.is_pending(x), Condition::PendingVariable, x.at);
+            found.add_violation_if(true, Condition::WrongKind, x.at);
+            found.add_violation_if(symbols.is_pending(x), Condition::PendingVariable, x.at);
         }
-        Some(Variable::Array) => found.add_if(
+        Some(Variable::Array) => found.add_violation_if(
             symbols.is_pending(x),
             Condition::PendingVariable,
             x.at,
         ),
-        None => found.add_if(true, Condition::UnknownVariable, x.at),
+        None => found.add_violation_if(true, Condition::UnknownVariable, x.at),
     }
 }
 

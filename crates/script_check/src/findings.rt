@@ -40,7 +40,7 @@ impl Findings {
     }
 
     /// Adds a condition's violation at this place, if it is broken there.
-    pub(crate) fn add_if(&mut self, is_broken: bool, condition: Condition, at: u32)
+    pub(crate) fn add_violation_if(&mut self, is_broken: bool, condition: Condition, at: u32)
         ensures { self.new ≡ earliest self.old (violation_if is_broken (number_of condition) at) }
     {
         let number = condition.number();

@@ -21,13 +21,13 @@ use std::alloc::Global;
 pub(crate) fn judge_main(functions: &Functions, found: &mut Findings)
     ensures { found.new ≡ earliest found.old (main_violations (function_named functions.now main_name)) }
 {
-    match functions.named(b"main") {
+    match functions.function_named(b"main") {
         Some(f) => {
             if let Some(param) = f.params.as_slice().first() {
-                found.add_if(true, Condition::MainHasParameters, param.name.at);
+                found.add_violation_if(true, Condition::MainHasParameters, param.name.at);
             }
         }
-        None => found.add_if(true, Condition::NoMain, 0),
+        None => found.add_violation_if(true, Condition::NoMain, 0),
     }
 }
 

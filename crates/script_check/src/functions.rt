@@ -49,7 +49,7 @@ impl<'s> Functions<'s> {
     }
 
     /// The first function of this name.
-    pub(crate) fn named(&self, name: &[u8]) -> Option<&Function>
+    pub(crate) fn function_named(&self, name: &[u8]) -> Option<&Function>
         ensures { option_copied result ≡ function_named self.now name.now }
     {
         match self.first.get(name) {
@@ -61,7 +61,7 @@ impl<'s> Functions<'s> {
 
 /// The index of the first function of each name. A function whose name stands before is a finding. The answer is `Memory` also where
 /// there are more than 2^32 functions, which no text has.
-pub(crate) fn index(
+pub(crate) fn index_functions(
     alloc: Global,
     found: &mut Findings,
     list: &[Function],
@@ -72,7 +72,7 @@ pub(crate) fn index(
     let mut first = NameTable::new(alloc);
     for (i, f) in list.iter().enumerate() {
         let name = f.name.bytes.as_slice();
-        found.add_if(
+        found.add_violation_if(
             first.get(name).is_some(),
             Condition::FunctionTwice,
             f.name.at,

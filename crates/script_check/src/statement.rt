@@ -95,7 +95,7 @@ fn judge_array(
     ensures found { OnOk result (found.new ≡ earliest found.old (declaration (known_in symbols.old) x.now ++ array_length n.now)) }
 {
     symbols.declare(alloc, found, x, Variable::Array)?;
-    found.add_if(n.value < 1 || 4096 < n.value, Condition::ArrayLength, n.at);
+    found.add_violation_if(n.value < 1 || 4096 < n.value, Condition::ArrayLength, n.at);
     Ok(())
 }
 
@@ -269,11 +269,11 @@ fn judge(
 {
     match &statement.act {
         Act::Let(x, right) => {
-            found.add_if(in_block, Condition::LetInABlock, statement.at);
+            found.add_violation_if(in_block, Condition::LetInABlock, statement.at);
             judge_let(alloc, functions, symbols, found, x, right)?;
         }
         Act::Array(x, n) => {
-            found.add_if(in_block, Condition::LetInABlock, statement.at);
+            found.add_violation_if(in_block, Condition::LetInABlock, statement.at);
             judge_array(alloc, symbols, found, x, n)?;
         }
         Act::Set(x, right) => judge_set(alloc, functions, symbols, found, x, right)?,

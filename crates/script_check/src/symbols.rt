@@ -86,8 +86,8 @@ impl SymbolTable {
     {
         let bytes = name.bytes.as_slice();
         let is_known = self.known.get(bytes).is_some();
-        found.add_if(is_known, Condition::VariableTwice, name.at);
-        found.add_if(
+        found.add_violation_if(is_known, Condition::VariableTwice, name.at);
+        found.add_violation_if(
             !is_known && self.known.len() == MOST_VARIABLES,
             Condition::TooManyVariables,
             name.at,

@@ -9,4 +9,4 @@ mod position;
 
 pub use advice::follower;
 pub use lines::{add_shown, excerpt};
-pub use position::{Position, place_of};
+pub use position::{Position, position_of};

@@ -5,7 +5,7 @@ ghost use Rattle.script_excerpt.specs.Excerpts.{IsAdvice, IsExcerpt, IsWindow, c
 
 use crate::advice::follower;
 use crate::bytes::extended;
-use crate::position::{Position, line_start, place_of};
+use crate::position::{Position, line_start, position_of};
 use std::alloc::{AllocError, Global};
 
 /// How many bytes of the line are shown before the caret at most, and from it on.
@@ -163,7 +163,7 @@ pub fn excerpt(alloc: Global, text: &[u8], at: usize, message: &str) -> Result<V
     requires { at ≤ length text.now }
     ensures { IfOk result (λ lines. IsExcerpt text.now at message.now lines.items) }
 {
-    let place = place_of(text, at);
+    let place = position_of(text, at);
     let (from, to) = window(text, at);
     let lines = place_line(alloc, place)?;
     let lines = with_text_lines(lines, text, from, at, to)?;

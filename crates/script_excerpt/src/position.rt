@@ -38,7 +38,7 @@ fn line_number(text: &[u8], at: usize) -> usize
 }
 
 /// The place of byte `at` of a text, or of its end. A line ends with its line feed.
-pub fn place_of(text: &[u8], at: usize) -> Position
+pub fn position_of(text: &[u8], at: usize) -> Position
     requires { at ≤ length text.now }
     ensures line { result.line ≡ line_of text.now at }
     ensures column { IsColumn text.now at result.column }

@@ -75,7 +75,7 @@ impl NameText {
     pub fn same(&self, other: &NameText) -> bool
         ensures { result ≡ bytes_eq self.now other.now }
     {
-        if front(&self.room) != front(&other.room) || self.length != other.length {
+        if front_number(&self.room) != front_number(&other.room) || self.length != other.length {
             return false;
         }
         if self.length <= COMPARED_FIRST {
@@ -103,7 +103,7 @@ fn same_bytes(left: &[u8], right: &[u8]) -> bool
 
 /// The first bytes as a number.
 #[inline(always)]
-fn front(room: &[u8; 32]) -> u64
+fn front_number(room: &[u8; 32]) -> u64
     ensures number { result ≡ from_le_bytes w64 (take 8 room.now) }
     ensures bytes { take 8 room.now ≡ to_le_bytes w64 result }
 {

@@ -24,7 +24,7 @@ use Rattle.script_print.proofs.Computing.{printed-number, printed-variable, prin
 use Rattle.script_print.proofs.Placing.{same_item, same_number, same_variable, same_negation, same_same, same_older, same_comparison, same_sum_part, same_product_part, same_sum, same_product, cons_same}
 use Rattle.script_print.proofs.Cutting.{IsModest, starts}
 use Rattle.script_print.proofs.Forms.{Forms, Then, and_then, IsToken, a_token, IsNothing, nothing, then_, weaken, before, empty, any, anything, calm, no_arrow, calmly, symbol, word_before}
-use Rattle.script_print.proofs.Pieces.{in_each, spaced_word, word_space, minus, name_form, number_read, number_form, number_starts, name_starts, nothing_after, nothing_in_front}
+use Rattle.script_print.proofs.Pieces.{in_each, spaced_word, word_space, minus, name_form, number_read, number_form, number_starts, name_starts, nothing_after, nothing_before}
 use Rattle.script_print.proofs.Eats.{Eats, eaten, one, factor_eats, term_eats, factors_eats, sum_eats, terms_eats, expr_eats}
 use Rattle.script_tokens.specs.declared.version.Version.{Version}
 

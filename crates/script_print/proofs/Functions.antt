@@ -16,7 +16,7 @@ use Rattle.script_print.specs.Unplaced.{unplaced_name, unplaced_expr, unplaced_s
 use Rattle.script_print.proofs.Placing.{cons_same}
 use Rattle.script_print.proofs.Cutting.{starts}
 use Rattle.script_print.proofs.Forms.{Forms, Then, and_then, IsToken, a_token, IsNothing, nothing, then_, weaken, empty, any, anything, calm, calmly, symbol, a_blank}
-use Rattle.script_print.proofs.Pieces.{in_each, spaced_word, word_space, keyword, name_form, nothing_after, nothing_in_front}
+use Rattle.script_print.proofs.Pieces.{in_each, spaced_word, word_space, keyword, name_form, nothing_after, nothing_before}
 use Rattle.script_print.proofs.Eats.{Eats, also, one, expr_eats, stmts_eats, param_eats, more_params_eats, params_eats, answer_eats, function_eats}
 use Rattle.script_print.proofs.Expressions.{Low, low_append, low_front, low_back, IsSound, Sound, sound_after, ExprOf, Tail, opened, closed, comma, expr_shown}
 use Rattle.script_print.proofs.Statements.{StmtsOf, semicolon, open_block, close_block, two_spaces, stmts_shown}
@@ -174,10 +174,10 @@ head_form : {version : Version} (t : List ℕ) (ps : List Param) (k : Kind) (n :
 head_form {version = version} t ps k n name params answer =
     then_ (then_ (then_ (then_ (then_ (then_ (word_space word.Fn (codes "fn") refl (in_each version word.Fn (codes "fn") refl refl) refl) name (λ r h. anything (t ++ r))) opened (λ r h. refl)) params (λ r h. anything (listed param_text ps ++ r)))
     closed (λ r h. refl)) answer.form (λ r h. anything (answer_kind_text k ++ r)))
-    (weaken (then_ (a_blank 32 refl) open_block (λ r h. refl)) nothing_in_front) (λ r h. refl)
+    (weaken (then_ (a_blank 32 refl) open_block (λ r h. refl)) nothing_before) (λ r h. refl)
 
 return_word : {version : Version} → Forms version (codes "  return ") any (IsToken word.Return (codes "return"))
-return_word {version = version} = weaken (then_ two_spaces (word_space word.Return (codes "return") refl (in_each version word.Return (codes "return") refl refl) refl) (λ r h. refl)) nothing_in_front
+return_word {version = version} = weaken (then_ two_spaces (word_space word.Return (codes "return") refl (in_each version word.Return (codes "return") refl refl) refl) (λ r h. refl)) nothing_before
 
 end_form : {version : Version} → Forms version (codes ";\n}\n") any EndOf
 end_form =

@@ -22,8 +22,8 @@ use Rattle.script_tokens.specs.declared.version.Version.TheVariants.{One, Two}
 pub nothing_after : {D : List Terminal → List Terminal → Type 0} (us ts : List Terminal) → Then D IsNothing us ts → D us ts
 nothing_after us ts (and_then d nothing) = d
 
-pub nothing_in_front : {D : List Terminal → List Terminal → Type 0} (us ts : List Terminal) → Then IsNothing D us ts → D us ts
-nothing_in_front us ts (and_then nothing d) = d
+pub nothing_before : {D : List Terminal → List Terminal → Type 0} (us ts : List Terminal) → Then IsNothing D us ts → D us ts
+nothing_before us ts (and_then nothing d) = d
 
 -- A fixed word of both versions is one of each. (The keywords of a version are known once the version is.)
 pub in_each : (version : Version) (w : Word) (text : List ℕ) → word_of One text ≡ Some w → word_of Two text ≡ Some w → word_of version text ≡ Some w
@@ -36,7 +36,7 @@ word_space w text h e none = weaken (then_ (word_before 32 w text h e none) (a_b
 
 -- a space, a word, and a space
 pub spaced_word : {version : Version} (w : Word) (text : List ℕ) → is_fixed w ≡ true → word_of version text ≡ Some w → word_of version (text ++ 32 ∷ []) ≡ None → Forms version ((32 ∷ []) ++ text ++ (32 ∷ [])) any (IsToken w text)
-spaced_word w text h e none = weaken (then_ (weaken (then_ (a_blank 32 refl) (word_before 32 w text h e none) (λ r s. anything (text ++ r))) nothing_in_front) (a_blank 32 refl) (λ r s. refl)) nothing_after
+spaced_word w text h e none = weaken (then_ (weaken (then_ (a_blank 32 refl) (word_before 32 w text h e none) (λ r s. anything (text ++ r))) nothing_before) (a_blank 32 refl) (λ r s. refl)) nothing_after
 
 -- Minuses.
 

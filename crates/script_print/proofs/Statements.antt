@@ -22,7 +22,7 @@ use Rattle.script_print.proofs.Computing.{act_text-let, act_text-array, act_text
 use Rattle.script_print.proofs.Placing.{cons_same, same_stmt, same_let, same_set, same_array, same_store, same_spawn, same_call, same_print, same_if, same_while, same_pfor, same_scope}
 use Rattle.script_print.proofs.Cutting.{IsModest, starts}
 use Rattle.script_print.proofs.Forms.{Forms, Then, and_then, IsToken, a_token, IsNothing, nothing, then_, weaken, before, empty, any, anything, calm, calmly, symbol, word_before, a_blank}
-use Rattle.script_print.proofs.Pieces.{in_each, spaced_word, word_space, keyword, name_form, number_read, number_form, nothing_after, nothing_in_front}
+use Rattle.script_print.proofs.Pieces.{in_each, spaced_word, word_space, keyword, name_form, number_read, number_form, nothing_after, nothing_before}
 use Rattle.script_print.proofs.Eats.{expr_eats, more_args_eats, args_eats, call_eats, right_eats, into_eats, stmt_eats, stmts_eats, block_eats}
 use Rattle.script_print.proofs.Expressions.{Low, low_append, low_front, low_back, IsSound, Sound, sound_after, ExprOf, Shown, Tail, opened, closed, comma, open_item, close_item, expr_shown}
 use Rattle.script_tokens.specs.declared.version.Version.{Version}

@@ -72,7 +72,7 @@ fn long_symbol_at(first: u8, rest: &[u8]) -> Option<Word>
 }
 
 // The longest token of a version at the front, and its length.
-pub(crate) fn front(version: Version, bytes: &[u8]) -> Option<(Word, usize)>
+pub(crate) fn front_token(version: Version, bytes: &[u8]) -> Option<(Word, usize)>
     ensures { Fronts version bytes.now result }
 {
     let (first, rest) = bytes.split_first()?;

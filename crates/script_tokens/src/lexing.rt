@@ -3,7 +3,7 @@
 ghost use Rattle.std.specs.Prelude.{◌≡◌, ◌≤◌, ◌+◌, length, drop, IfOk};
 ghost use Rattle.script_tokens.specs.Lexing.{Comes, IsLexed, LexemeAt, NextToken};
 
-use crate::front::{front, gap_length};
+use crate::front::{front_token, gap_length};
 use crate::memory::Memory;
 use crate::token::{Lexeme, Token, TokenKind};
 use crate::version::Version;
@@ -55,7 +55,7 @@ fn lexeme_at(version: Version, at: u32, rest: &[u8]) -> Result<Lexeme, LexEnd>
     if !first.is_ascii() {
         return Err(LexEnd::NotAscii(at));
     }
-    match front(version, rest) {
+    match front_token(version, rest) {
         Some((word, length)) => Ok(Lexeme {
             word,
             start: at,

@@ -9,7 +9,7 @@ use Rattle.script_grammar.specs.declared.tree.Stmt.{Stmt}
 use Rattle.script_grammar.specs.declared.tree.ProductSign.TheVariants as sign
 use Rattle.script_grammar.specs.declared.tree.Right.TheVariants as right
 use Rattle.script_grammar.specs.declared.tree.Act.TheVariants as act
-use Rattle.serial_meaning.specs.Trees.{named, number, variable, product, sum, applied, call, spawn, stated, int_param, function}
+use Rattle.serial_meaning.specs.Trees.{name_node, number, variable, product, sum, applied, call, spawn, stated, int_param, function}
 use Rattle.serial_meaning.specs.Plan.{PlanView, functions_of}
 use Rattle.serial_meaning.specs.Eval.{main_origin, elision}
 use Rattle.serial_meaning.specs.Open.{node_of, strand_pedigrees, faults}
@@ -61,8 +61,8 @@ abbrev pub empty_loop : List Function
 empty_loop =
     function (codes "f") (int_param (codes "i") ∷ []) [] (variable (codes "i"))
     ∷ function (codes "main") []
-    (stated (act.Pfor (named (codes "i")) (number 3) (number 3) None (applied (codes "f") []))
-    ∷ stated (act.Let (named (codes "x")) (right.Draw 0))
+    (stated (act.Pfor (name_node (codes "i")) (number 3) (number 3) None (applied (codes "f") []))
+    ∷ stated (act.Let (name_node (codes "x")) (right.Draw 0))
     ∷ stated (act.Print (variable (codes "x")))
     ∷ [])
     (number 0)
@@ -76,16 +76,16 @@ EmptyLoopRaisesTheRank =
 -- prints the five items
 abbrev pub printing_items : List Stmt
 printing_items =
-    stated (act.Let (named (codes "k")) (right.Value (number 0)))
-    ∷ stated (act.While (expr.Compare (variable (codes "k")) compares.Lt (number 5)) (stated (act.Print (expr.Item (named (codes "a")) (variable (codes "k")))) ∷ stated (act.Set (named (codes "k")) (right.Value (sum (variable (codes "k")) (number 1)))) ∷ []))
+    stated (act.Let (name_node (codes "k")) (right.Value (number 0)))
+    ∷ stated (act.While (expr.Compare (variable (codes "k")) compares.Lt (number 5)) (stated (act.Print (expr.Item (name_node (codes "a")) (variable (codes "k")))) ∷ stated (act.Set (name_node (codes "k")) (right.Value (sum (variable (codes "k")) (number 1)))) ∷ []))
     ∷ []
 
 abbrev pub six_squares_into_five : List Function
 six_squares_into_five =
     function (codes "sq") (int_param (codes "i") ∷ []) [] (product (variable (codes "i")) sign.Times (variable (codes "i")))
     ∷ function (codes "main") []
-    (stated (act.Array (named (codes "a")) (record { at = 0; value = pos 5 }))
-    ∷ stated (act.Pfor (named (codes "i")) (number 0) (number 6) (Some (named (codes "a"))) (applied (codes "sq") []))
+    (stated (act.Array (name_node (codes "a")) (record { at = 0; value = pos 5 }))
+    ∷ stated (act.Pfor (name_node (codes "i")) (number 0) (number 6) (Some (name_node (codes "a"))) (applied (codes "sq") []))
     ∷ printing_items)
     (number 0)
     ∷ []
@@ -96,10 +96,10 @@ TargetMustHaveRoom = (n : ℕ) → elision (plan_of six_squares_into_five (twent
 
 abbrev pub two_calls : List Function
 two_calls =
-    function (codes "f") [] (stated (act.Let (named (codes "x")) (right.Draw 0)) ∷ []) (variable (codes "x"))
+    function (codes "f") [] (stated (act.Let (name_node (codes "x")) (right.Draw 0)) ∷ []) (variable (codes "x"))
     ∷ function (codes "main") []
-    (stated (act.Let (named (codes "a")) (call (codes "f") []))
-    ∷ stated (act.Let (named (codes "b")) (call (codes "f") []))
+    (stated (act.Let (name_node (codes "a")) (call (codes "f") []))
+    ∷ stated (act.Let (name_node (codes "b")) (call (codes "f") []))
     ∷ stated (act.Print (variable (codes "a")))
     ∷ stated (act.Print (variable (codes "b")))
     ∷ [])
@@ -117,7 +117,7 @@ spawn_in_a_callee =
     ∷ function (codes "g") [] (stated (act.Spawn (applied (codes "h") [])) ∷ []) (number 0)
     ∷ function (codes "main") []
     (stated (act.Call (applied (codes "g") []))
-    ∷ stated (act.Let (named (codes "x")) (right.Draw 0))
+    ∷ stated (act.Let (name_node (codes "x")) (right.Draw 0))
     ∷ stated (act.Print (variable (codes "x")))
     ∷ [])
     (number 0)
@@ -139,22 +139,22 @@ abbrev pub CallsEndAt256 : Type 0
 CallsEndAt256 = elision (plan_of endless_calls 300) ≡ record { items = []; ending = Err (record { kind = fault.Calls; at = 0 ∷ [] }) }
 
 abbrev pub bad : Function
-bad = function (codes "bad") [] (stated (act.Let (named (codes "z")) (right.Value (number 0))) ∷ []) (product (number 1) sign.Over (variable (codes "z")))
+bad = function (codes "bad") [] (stated (act.Let (name_node (codes "z")) (right.Value (number 0))) ∷ []) (product (number 1) sign.Over (variable (codes "z")))
 
 abbrev pub never_reached : List Stmt
 never_reached = stated act.Sync ∷ stated (act.Print (variable (codes "a"))) ∷ []
 
 abbrev pub endless_body : List Stmt
 endless_body =
-    stated (act.While (expr.Compare (variable (codes "i")) compares.Eq (number 0)) (stated (act.Set (named (codes "i")) (right.Value (number 0))) ∷ []))
+    stated (act.While (expr.Compare (variable (codes "i")) compares.Eq (number 0)) (stated (act.Set (name_node (codes "i")) (right.Value (number 0))) ∷ []))
     ∷ never_reached
 
 abbrev pub endless_main : Function
 endless_main =
     function (codes "main") []
     (stated (act.Print (number 7))
-    ∷ stated (act.Let (named (codes "a")) (spawn (codes "bad") []))
-    ∷ stated (act.Let (named (codes "i")) (right.Value (number 0)))
+    ∷ stated (act.Let (name_node (codes "a")) (spawn (codes "bad") []))
+    ∷ stated (act.Let (name_node (codes "i")) (right.Value (number 0)))
     ∷ endless_body)
     (number 0)
 
@@ -200,7 +200,7 @@ abbrev pub print_and_draw : List Function
 print_and_draw =
     function (codes "main") []
     (stated (act.Scope (stated (act.Print (number 1)) ∷ []))
-    ∷ stated (act.Let (named (codes "x")) (right.Draw 0))
+    ∷ stated (act.Let (name_node (codes "x")) (right.Draw 0))
     ∷ stated (act.Print (variable (codes "x")))
     ∷ [])
     (number 0)
@@ -213,10 +213,10 @@ ScopeRaisesTheRank =
 
 abbrev pub child_of_a_scope : List Function
 child_of_a_scope =
-    function (codes "f") [] (stated (act.Let (named (codes "x")) (right.Draw 0)) ∷ []) (variable (codes "x"))
+    function (codes "f") [] (stated (act.Let (name_node (codes "x")) (right.Draw 0)) ∷ []) (variable (codes "x"))
     ∷ function (codes "main") []
-    (stated (act.Let (named (codes "a")) (right.Value (number 0)))
-    ∷ stated (act.Scope (stated (act.Set (named (codes "a")) (spawn (codes "f") [])) ∷ []))
+    (stated (act.Let (name_node (codes "a")) (right.Value (number 0)))
+    ∷ stated (act.Scope (stated (act.Set (name_node (codes "a")) (spawn (codes "f") [])) ∷ []))
     ∷ stated (act.Print (variable (codes "a")))
     ∷ [])
     (number 0)

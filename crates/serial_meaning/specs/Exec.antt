@@ -95,6 +95,11 @@ abbrev pub has_room : Option Name → ℕ → Env → Bool
 has_room None n env = true
 has_room (Some x) n env = nat_lt n (length (items_of (slot_of env x.bytes)) + 1)
 
+-- the pedigrees in the iterations of a loop, if there are any, are within the depth
+abbrev pub loop_fits : PlanView → List ℕ → ℕ → Bool
+loop_fits plan path zero = true
+loop_fits plan path (suc n) = nat_lt (length path + 2) plan.limits.depth
+
 -- the target's items replaced by the iterations' values
 abbrev pub with_loop_values : Option Name → List Value → Env → Env
 with_loop_values None vs env = env
@@ -230,17 +235,13 @@ module _ {I E K : Type 0} (how : Manner I E K) (plan : PlanView) (path : List �
       (unless_fault (value_of e s.env) s λ v.
       done (set_array s x (set_item xs (as_integer k) v)))
 
-  abbrev pub fits_depth : ℕ → Bool
-  fits_depth zero = true
-  fits_depth (suc n) = nat_lt (length path + 2) plan.limits.depth
-
   -- a loop of n iterations whose bounds and arguments are known: its steps, the target's room, the depth, the event, the iterations
   abbrev pub looped : ℤ → ℕ → List Value → Option Name → CallText → State K → Run I E (State K)
   looped lo n vs target c s =
       tested (nat_lt n (s.steps + 1)) Budget s
       (let s' : State K = record s { steps = s.steps - n } in
       tested (has_room target n s'.env) Index s'
-      (tested (fits_depth n) Depth s'
+      (tested (loop_fits plan path n) Depth s'
       (happens (how.event (event.Loop (strand path s'))) s' then λ s.
       how.loop (origin.Loop (function_number (functions_of plan) c.name.bytes) vs lo (strand path s) (record { lo = 0; hi = n })) then λ ws.
       done (record s { rank = s.rank + 1; env = with_loop_values target ws s.env }))))

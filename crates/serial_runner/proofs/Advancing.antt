@@ -15,10 +15,10 @@ use Rattle.strand_meaning.specs.Trace.{AwaitedChild, Trace, merged_answer_unless
 use Rattle.strand_meaning.specs.Rest.{evaluations}
 use Rattle.strand_meaning.specs.Sound.{IsTask}
 use Rattle.strand_meaning.specs.Task.{Task, start, Stop, Spawn, Wait, End}
-use Rattle.strand_meaning.proofs.SoundSteps.Ends.{tasks_begin}
-use Rattle.strand_meaning.proofs.NextStops.Fewer.{stops_fall}
+use Rattle.strand_meaning.proofs.SoundSteps.StepsKeepTasks.{tasks_begin}
+use Rattle.strand_meaning.proofs.NextStops.StopsLeaveFewer.{stops_fall}
 use Rattle.strand_meaning.proofs.TakenAnswers.AnswersKeepTasks.{answers_keep_tasks}
-use Rattle.strand_meaning.proofs.NextStops.Stops.{stops_are_sound, stops_keep_origins}
+use Rattle.strand_meaning.proofs.NextStops.OneSoundStop.{stops_are_sound, stops_keep_origins}
 use Rattle.strand_machine.specs.Family.{tag, tags}
 use Rattle.strand_machine.specs.Faults.{is_fault, EndsByFault}
 use Rattle.strand_machine.specs.AwaitedChildren.{awaited}

@@ -16,8 +16,8 @@ use Rattle.strand_meaning.specs.Trace.{AwaitedChild, Trace, after_last, emit, em
 use Rattle.strand_meaning.specs.Task.{Stage, Running, AtSync, AtLoop, Ended, Remaining, Splits, Runs, Finished, Task, own_instance, MoveOrStop, Passes, Stops, Stop, Spawn, Wait, End, IsNext, Now, Later, stage_after, child_in, stops_at, passing, step_result, ends_unless, faults_after, returned, stage_step, first_half, split_step, over_step, remaining_step, step}
 use Rattle.strand_meaning.specs.Sound.{IsEndOf, IsSoundRemaining, IsTask}
 use Rattle.strand_meaning.specs.Laws.{IsSameTask, IsSoundStep}
-use Rattle.strand_meaning.proofs.SoundSteps.Ends.{steps_are_sound}
-use Rattle.strand_meaning.proofs.NextStops.Stops.{KeepsStep, step-keeps}
+use Rattle.strand_meaning.proofs.SoundSteps.StepsKeepTasks.{steps_are_sound}
+use Rattle.strand_meaning.proofs.NextStops.OneSoundStop.{KeepsStep, step-keeps}
 use Rattle.strand_machine.specs.AwaitedChildren.{awaited}
 use Rattle.serial_runner.proofs.Shows.{children, IsDeeper, AtMostOne, MoveHands, move_hands}
 
@@ -95,25 +95,25 @@ module _ (t : Task) where
       let same : c ≡ o = cc in (h ∙ ap (λ d. handed t ++ d ∷ []) same, subst (λ d. IsSmaller t.plan t.origin d) same (deeper-smaller t.plan t.origin c k))
   hands-at (c ∷ d ∷ os) o next e h k = absurd k
 
-  hands-moved : (ts : List Effect) (e : Result Reached Fault) → MoveHands t.plan (path_of (own_instance t.origin)) (children ts) e → HandsStep t (step_result t ts e)
-  hands-moved ts (Ok (Stands m)) h = hands-at (children ts) (child_in ts) (passing t ts (Runs (stage_after ts m))) (child-first ts) (awaited-effects ts t.trace) h
-  hands-moved ts (Ok (Gives v)) h = awaited-effects ts t.trace ∙ ap (λ os. handed t ++ os) h ∙ append-nil (handed t)
-  hands-moved ts (Err f) h = awaited-effects ts t.trace ∙ ap (λ os. handed t ++ os) h ∙ append-nil (handed t)
+  hands-result : (ts : List Effect) (e : Result Reached Fault) → MoveHands t.plan (path_of (own_instance t.origin)) (children ts) e → HandsStep t (step_result t ts e)
+  hands-result ts (Ok (Stands m)) h = hands-at (children ts) (child_in ts) (passing t ts (Runs (stage_after ts m))) (child-first ts) (awaited-effects ts t.trace) h
+  hands-result ts (Ok (Gives v)) h = awaited-effects ts t.trace ∙ ap (λ os. handed t ++ os) h ∙ append-nil (handed t)
+  hands-result ts (Err f) h = awaited-effects ts t.trace ∙ ap (λ os. handed t ++ os) h ∙ append-nil (handed t)
 
   hands-faults : (ps : List AwaitedChild) (f : Fault) → HandsStep t (faults_after ps t f)
   hands-faults [] f = hands-ends t.trace.fault _
   hands-faults (p ∷ ps) f = refl
 
-  hands-gave : (o : Origin) (v : Value) → HandsStep t (returned t o v)
-  hands-gave (Instance function args path) v = hands-ends t.trace.fault _
-  hands-gave (Loop function rest first path range) v = refl
+  hands-returned : (o : Origin) (v : Value) → HandsStep t (returned t o v)
+  hands-returned (Instance function args path) v = hands-ends t.trace.fault _
+  hands-returned (Loop function rest first path range) v = refl
 
   hands-stage : (stage : Stage) → HandsStep t (stage_step t stage)
   hands-stage (Running m) =
-      let path = path_of (own_instance t.origin) in let r = move t.plan path m in hands-moved r.items r.ending (move_hands t.plan path m)
+      let path = path_of (own_instance t.origin) in let r = move t.plan path m in hands-result r.items r.ending (move_hands t.plan path m)
   hands-stage (AtSync m) = refl
   hands-stage (AtLoop m) = refl
-  hands-stage (Ended (Ok v)) = hands-gave t.origin v
+  hands-stage (Ended (Ok v)) = hands-returned t.origin v
   hands-stage (Ended (Err (Own f))) = hands-faults t.trace.handed f
   hands-stage (Ended (Err (ChildFaulted f))) = hands-ends t.trace.fault _
 

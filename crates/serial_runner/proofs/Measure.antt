@@ -11,10 +11,10 @@ use Rattle.strand_meaning.specs.Rest.{evaluations}
 use Rattle.strand_meaning.specs.Left.{stops_left}
 use Rattle.strand_meaning.specs.Sound.{IsTask}
 use Rattle.strand_meaning.specs.Laws.{IsSoundStop, KeepsOrigin, LeavesFewer}
-use Rattle.strand_meaning.proofs.NextStops.Comes.{stops_come}
-use Rattle.strand_meaning.proofs.SoundSteps.Ends.{tasks_begin}
-use Rattle.strand_meaning.proofs.NextStops.Fewer.{stops_fall, answers_leave_no_more}
-use Rattle.strand_meaning.proofs.NextStops.Stops.{stops_are_one, stops_are_sound, stops_keep_origins}
+use Rattle.strand_meaning.proofs.NextStops.TasksReachStops.{stops_come}
+use Rattle.strand_meaning.proofs.SoundSteps.StepsKeepTasks.{tasks_begin}
+use Rattle.strand_meaning.proofs.NextStops.StopsLeaveFewer.{stops_fall, answers_leave_no_more}
+use Rattle.strand_meaning.proofs.NextStops.OneSoundStop.{stops_are_one, stops_are_sound, stops_keep_origins}
 use Rattle.strand_meaning.proofs.TakenAnswers.AnswersKeepTasks.{answers_keep_tasks}
 use Rattle.serial_runner.specs.Stacks.{task_of, IsStack, tasks, tasks_after, StepsStack}
 use Rattle.serial_runner.specs.declared.stack.Stack.{Stack}

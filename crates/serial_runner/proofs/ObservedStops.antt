@@ -6,7 +6,7 @@ use Rattle.strand_machine.specs.declared.memory.Memory.{Memory}
 use Rattle.strand_machine.specs.declared.observe.ObservedStop.{ObservedStop}
 use Rattle.strand_machine.specs.declared.stop.Stop.{Stop}
 use Rattle.serial_runner.specs.Beside.{Beside}
-use Rattle.serial_runner.specs.Observed.{IsStopped, with_observation}
+use Rattle.serial_runner.specs.Observed.{ObservesStop, with_observation}
 use Rattle.serial_runner.specs.declared.observed.ObservedInstance.{ObservedInstance}
 use Rattle.serial_runner.specs.declared.walk.NodeWalk.{NodeWalk}
 
@@ -15,7 +15,7 @@ made P r b e h = subst (λ z. IfOk z P) e h
 
 -- what was observed, and is seen by then
 pub observation : (j : List ℕ) (w : NodeWalk) (observed : ObservedInstance) (n : ObservedStop) → observed ≡ w.observed → IsObserved w.task j w.observed.eye n → (r : Result ObservedInstance Memory) → IfOk r (λ s. s ≡ with_observation n.eye n.events n.fault n.child_fault observed)
-    → (result : Result (Stop × ObservedInstance) Memory) → Beside n.stop r result → IfOk result (λ p. IsStopped j w p.0 p.1)
+    → (result : Result (Stop × ObservedInstance) Memory) → Beside n.stop r result → IfOk result (λ p. ObservesStop j w p.0 p.1)
 observation j w observed n e is r h (Ok p) b = record {
   observed_stop = n;
   is_observed = is;

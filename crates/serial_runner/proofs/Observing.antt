@@ -10,7 +10,7 @@ use Rattle.serial_meaning.specs.declared.event.Fault.{Fault}
 use Rattle.serial_meaning.specs.declared.event.Event.{Event}
 use Rattle.serial_meaning.specs.declared.origin.Origin.{Origin}
 use Rattle.serial_meaning.specs.declared.origin.Origin.TheVariants.{Instance, Loop}
-use Rattle.strand_meaning.specs.Observation.{IsInstance, Observation, also, newest, own_fault_of, node_left, IsOnWay, IsAllObserved}
+use Rattle.strand_meaning.specs.Observation.{IsInstanceOrigin, Observation, also, newest, own_fault_of, node_left, IsOnWay, IsAllObserved}
 use Rattle.strand_meaning.specs.Task.{Task}
 use Rattle.strand_meaning.specs.Strands.{Strand, is_below, events_at, own_events, own_fault_at, fault_of_child, last_pedigree, ended_before, child_on_way, is_one_of, strand_of, blocking_fault}
 use Rattle.strand_meaning.proofs.NodesObserved.EventsOfPedigree.{events_at-append}
@@ -246,7 +246,7 @@ module _ (function : ℕ) (args : List Value) (path : List ℕ) (r : ℕ) (more 
 pub by-child : (j : List ℕ) (s : ObservedInstance) (c : Origin) → s.child ≡ Some c → node_seen j s ≡ record { strand = None; child = Some c; child_fault = None }
 by-child j s c e = ap (λ (d : Option Origin). node_by d (strand_seen j s) (child_fault_before s)) e
 
-module _ (plan : PlanView) (o : Origin) (j : List ℕ) (i : IsInstance o) (below : IsBelow (path_of o) j) where
+module _ (plan : PlanView) (o : Origin) (j : List ℕ) (i : IsInstanceOrigin o) (below : IsBelow (path_of o) j) where
   -- what is seen of the whole instance
   pub whole_seen : (observation : Observation) → IsAllObserved plan o observation → (s : ObservedInstance) → s ≡ observed_on (path_of o) j observation → IsSeen plan o j s
   whole_seen observation w s e = ap (node_seen j) (e ∙ same) ∙ from o i j below (node_of plan o)
@@ -260,7 +260,7 @@ module _ (plan : PlanView) (o : Origin) (j : List ℕ) (i : IsInstance o) (below
           ∙ ap (λ (f : Option Fault). an_observed (eye_after j (new_eye (path_of o) j) n.items) (events_at j (own_events n.items)) f (child_on_way j n.items) observation.child_fault) (sym w.fault)
           ∙ ap (λ (f : Option Fault). an_observed (eye_after j (new_eye (path_of o) j) n.items) (events_at j (own_events n.items)) (own_fault_of n.ending) (child_on_way j n.items) f) (sym w.child_fault)
 
-      from : (o : Origin) → IsInstance o → (j : List ℕ) → IsBelow (path_of o) j → (n : open_tree.Node) →
+      from : (o : Origin) → IsInstanceOrigin o → (j : List ℕ) → IsBelow (path_of o) j → (n : open_tree.Node) →
           node_seen j (an_observed (eye_after j (new_eye (path_of o) j) n.items) (events_at j (own_events n.items)) (own_fault_of n.ending) (child_on_way j n.items) (fault_of_child n.ending)) ≡ node_at o n j
       from (Instance function args path) i [] b n = absurd (let l = b.longer in omega (arith, l))
       from (Instance function args path) i (r ∷ more) b n = node-is function args path r more n
@@ -293,7 +293,7 @@ module _ (plan : PlanView) (o : Origin) (j : List ℕ) (i : IsInstance o) (below
           split true (Some f) k = absurd (cc)
           split false f k = absurd (cc)
 
-      from : (o : Origin) → IsInstance o → (j : List ℕ) → IsBelow (path_of o) j → (n : open_tree.Node) → NodeFollows (path_of o) n → n.items ≡ observation.items ++ (node_left u).items → (eye_after j (new_eye (path_of o) j) observation.items).came ≡ true →
+      from : (o : Origin) → IsInstanceOrigin o → (j : List ℕ) → IsBelow (path_of o) j → (n : open_tree.Node) → NodeFollows (path_of o) n → n.items ≡ observation.items ++ (node_left u).items → (eye_after j (new_eye (path_of o) j) observation.items).came ≡ true →
           s.eye ≡ eye_after j (new_eye (path_of o) j) observation.items → s.events ≡ events_at j (own_events observation.items) → s.fault ≡ None → s.child ≡ child_on_way j observation.items → s.child_fault ≡ None → node_seen j s ≡ node_at o n j
       from (Instance function args path) i [] b n follows p c eye events fault one child_fault = absurd (let l = b.longer in omega (arith, l))
       from (Instance function args path) i (r ∷ more) b n follows p c eye events fault one child_fault = over-is function args path r more n follows observation.items (node_left u).items p c s eye events fault one child_fault

@@ -15,7 +15,7 @@ use Rattle.serial_meaning.specs.declared.event.Event.{Event}
 use Rattle.serial_meaning.specs.declared.event.Event.TheVariants as event
 use Rattle.serial_meaning.specs.declared.origin.Origin.{Origin}
 use Rattle.serial_meaning.specs.declared.origin.Origin.TheVariants as origin
-use Rattle.strand_meaning.specs.Observation.{IsInstance}
+use Rattle.strand_meaning.specs.Observation.{IsInstanceOrigin}
 use Rattle.strand_meaning.specs.Strands.{pedigree_of}
 use Rattle.strand_machine.proofs.NodesObserved.Eyes.{risen-last}
 
@@ -248,7 +248,7 @@ mapped {A = A} path rank r f g h = from r.items r.ending h.follow h.ends
     from items (Err (ChildFaulted x)) k e = record { follow = k; ends = e }
 
 -- The node of an instance is such.
-pub node-follows : (plan : PlanView) (o : Origin) → IsInstance o → NodeFollows (path_of o) (node_of plan o)
+pub node-follows : (plan : PlanView) (o : Origin) → IsInstanceOrigin o → NodeFollows (path_of o) (node_of plan o)
 node-follows plan (origin.Instance function args path) i =
     let child : Origin → Evaluation = eval_below plan (depth_left plan (origin.Instance function args path)) in
     mapped path (pair_rank plan child) (frame (put_off_all plan child) plan path (exec (put_off_all plan child) plan) 0 (function_at (functions_of plan) function) args (start plan child)) (λ r. r.0) (λ v. v ∷ []) (frame-follows plan child path (function_at (functions_of plan) function) args)

@@ -9,13 +9,13 @@ use Rattle.serial_meaning.specs.declared.origin.Origin.{Origin}
 use Rattle.serial_meaning.specs.declared.origin.Origin.TheVariants.{Instance, Loop}
 use Rattle.serial_meaning.specs.declared.answer.Outcome.{Outcome}
 use Rattle.strand_meaning.specs.Machine.{Effect, Opens, Closes, Emitted, Handed, Syncs, Loops, Reached, Stands, Gives, move}
-use Rattle.strand_meaning.specs.Observation.{IsInstance, Observation, effect_items, remaining_observation, step_observation, Shows, Now, Later}
+use Rattle.strand_meaning.specs.Observation.{IsInstanceOrigin, Observation, effect_items, remaining_observation, step_observation, Shows, Now, Later}
 use Rattle.strand_meaning.specs.Trace.{AwaitedChild}
 use Rattle.strand_meaning.specs.Task.{Running, AtSync, AtLoop, Ended, Remaining, Splits, Runs, Finished, Task, own_instance, MoveOrStop, Passes, Stops, Stop, Spawn, Wait, End, stage_after, child_in, stops_at, passing, step_result, ends_unless, faults_after, returned, remaining_step}
 use Rattle.strand_meaning.specs.Sound.{IsEndOf, IsLoop, IsSoundRemaining, IsTask}
 use Rattle.strand_meaning.specs.Laws.{IsSoundStep}
-use Rattle.strand_meaning.proofs.SoundSteps.Ends.{steps_are_sound}
-use Rattle.strand_meaning.proofs.NextStops.Stops.{KeepsStep, step-keeps}
+use Rattle.strand_meaning.proofs.SoundSteps.StepsKeepTasks.{steps_are_sound}
+use Rattle.strand_meaning.proofs.NextStops.OneSoundStop.{KeepsStep, step-keeps}
 use Rattle.serial_runner.proofs.Shows.{children, AtMostOne, MoveHands, move_hands}
 use Rattle.serial_runner.proofs.Handed.{first, child-first}
 use Rattle.serial_runner.proofs.Observing.{item_children, children-append}
@@ -35,11 +35,11 @@ ShowsStep is (Stops (Spawn child rest)) = item_children is ≡ child ∷ []
 ShowsStep is (Stops (Wait rest)) = item_children is ≡ []
 ShowsStep is (Stops (End out ended)) = item_children is ≡ []
 
-pub no_end : (o : Origin) (left : Range) → IsInstance o → IsEndOf o left → ⊥
+pub no_end : (o : Origin) (left : Range) → IsInstanceOrigin o → IsEndOf o left → ⊥
 no_end (Instance function args path) left i e = e
 no_end (Loop function rest first path range) left i e = i
 
-pub no_loop : (o : Origin) → IsInstance o → IsLoop o → ⊥
+pub no_loop : (o : Origin) → IsInstanceOrigin o → IsLoop o → ⊥
 no_loop (Instance function args path) i e = e
 no_loop (Loop function rest first path range) i e = i
 
@@ -68,7 +68,7 @@ module _ (t : Task) where
   at-value (Instance function args path) v = at-end t.trace.fault _
   at-value (Loop function rest first path range) v = refl
 
-  at-remaining : (remaining : Remaining) → IsInstance t.origin → IsSoundRemaining t.plan t.origin t.trace.handed remaining → ShowsStep (remaining_observation t.plan (path_of (own_instance t.origin)) remaining).items (remaining_step t remaining)
+  at-remaining : (remaining : Remaining) → IsInstanceOrigin t.origin → IsSoundRemaining t.plan t.origin t.trace.handed remaining → ShowsStep (remaining_observation t.plan (path_of (own_instance t.origin)) remaining).items (remaining_step t remaining)
   at-remaining (Splits left) i is = absurd (no_end t.origin left i is.0)
   at-remaining (Runs (Running m)) i is =
       let path = path_of (own_instance t.origin) in let r = move t.plan path m in at-move r.items r.ending (move_hands t.plan path m)
@@ -88,7 +88,7 @@ shows-more is more (Spawn child rest) h k = children-append is more ∙ ap (λ l
 shows-more is more (Wait rest) h k = children-append is more ∙ ap (λ l. l ++ item_children more) h ∙ k
 shows-more is more (End out ended) h k = children-append is more ∙ ap (λ l. l ++ item_children more) h ∙ k
 
-pub stops_show : (t : Task) (observation : Observation) (stop : Stop) → IsTask t → IsInstance t.origin → Shows t observation stop → ShowsStop observation.items stop
+pub stops_show : (t : Task) (observation : Observation) (stop : Stop) → IsTask t → IsInstanceOrigin t.origin → Shows t observation stop → ShowsStop observation.items stop
 stops_show t observation stop is i (Now h e) =
     let k : ShowsStop (step_observation t).items stop = subst (ShowsStep (step_observation t).items) h (at-remaining t t.remaining i is.remaining) in
     subst (λ (l : List Item). ShowsStop l stop) (sym (ap (λ (m : Observation). m.items) e)) k
@@ -96,4 +96,4 @@ stops_show t observation stop is i (Later next later h n e) =
     let same : KeepsStep t (Passes next) = subst (KeepsStep t) h (step-keeps t) in
     let shown : ShowsStep (step_observation t).items (Passes next) = subst (ShowsStep (step_observation t).items) h (at-remaining t t.remaining i is.remaining) in
     subst (λ (l : List Item). ShowsStop l stop) (sym (ap (λ (m : Observation). m.items) e))
-    (shows-more (step_observation t).items later.items stop shown (stops_show next later stop (subst (IsSoundStep t) h (steps_are_sound t is)) (subst IsInstance (sym same.1) i) n))
+    (shows-more (step_observation t).items later.items stop shown (stops_show next later stop (subst (IsSoundStep t) h (steps_are_sound t is)) (subst IsInstanceOrigin (sym same.1) i) n))

@@ -10,14 +10,14 @@ use Rattle.serial_meaning.specs.declared.event.Fault.{Fault}
 use Rattle.serial_meaning.specs.declared.origin.Origin.{Origin}
 use Rattle.strand_meaning.specs.Laws.{IsSameTask, IsSoundStop, KeepsOrigin, LeavesFewer, ObservationBegins, ObservationGoesOn, AnswersShowNothing}
 use Rattle.strand_meaning.specs.Left.{stops_left}
-use Rattle.strand_meaning.specs.Observation.{IsInstance, no_observation, also, IsOnWay, OnWay, IsAllObserved}
+use Rattle.strand_meaning.specs.Observation.{IsInstanceOrigin, no_observation, also, IsOnWay, OnWay, IsAllObserved}
 use Rattle.strand_meaning.specs.Trace.{AwaitedChild}
 use Rattle.strand_meaning.specs.Sound.{AreSoundChildren, IsTask}
 use Rattle.strand_meaning.specs.Task.{Task, start}
 use Rattle.serial_meaning.proofs.OriginFaults.Origins.{cons-contained}
-use Rattle.strand_meaning.proofs.NextStops.Fewer.{stops_fall, answers_leave_no_more}
+use Rattle.strand_meaning.proofs.NextStops.StopsLeaveFewer.{stops_fall, answers_leave_no_more}
 use Rattle.strand_meaning.proofs.TakenAnswers.AnswersKeepTasks.{answers_keep_tasks}
-use Rattle.strand_meaning.proofs.NextStops.Stops.{stops_are_sound, stops_keep_origins}
+use Rattle.strand_meaning.proofs.NextStops.OneSoundStop.{stops_are_sound, stops_keep_origins}
 use Rattle.strand_machine.specs.Family.{tags}
 use Rattle.strand_machine.specs.Observed.{IsObserved}
 use Rattle.strand_machine.specs.AwaitedChildren.{awaited}
@@ -57,8 +57,8 @@ module _ (plan : PlanView) (o : Origin) (j : List ℕ) (w : NodeWalk) (is : IsWa
   pub walks_on_as : (next : Walked) → WalksOn plan (origin_of w) j w next → WalksOn plan o j w next
   walks_on_as next h = subst (λ (d : Origin). WalksOn plan d j w next) is.origin_is h
 
-  pub of_instance : IsInstance t.origin
-  of_instance = subst IsInstance (sym is.origin_is) is.instance
+  pub of_instance : IsInstanceOrigin t.origin
+  of_instance = subst IsInstanceOrigin (sym is.origin_is) is.instance
 
   module _ (s : stops.Stop) (eye : Eye) (events : List Event) (fault child_fault : Option Fault) (observed_stop : IsObserved w.task j w.observed.eye (record { stop = s; eye = eye; events = events; fault = fault; child_fault = child_fault })) where
     -- what is seen, but for a child that was handed out
@@ -203,7 +203,7 @@ module _ (plan : PlanView) (o : Origin) (j : List ℕ) (w : NodeWalk) (is : IsWa
           plan_is = kept.0 ∙ is.plan_is;
           origin_is = kept.1 ∙ is.origin_is;
           observation = also is.observation observed_wait.observation;
-          on = nothing rest.task (also is.observation observed_wait.observation) task (subst IsInstance (sym (kept.1 ∙ is.origin_is)) is.instance) on;
+          on = nothing rest.task (also is.observation observed_wait.observation) task (subst IsInstanceOrigin (sym (kept.1 ∙ is.origin_is)) is.instance) on;
           says = seen_none (path_of o) j is.observation observed_wait.observation observed shows (observation-seen at n.eye n.events n.fault n.child_fault observed_wait observed b);
         }
 
@@ -211,7 +211,7 @@ module _ (plan : PlanView) (o : Origin) (j : List ℕ) (w : NodeWalk) (is : IsWa
     pub over_by_wait : IsBelow (path_of o) j → ObservationGoesOn → AnswersShowNothing → (observed : ObservedInstance) → is_over observed ≡ true → observed ≡ with_observation n.eye n.events n.fault n.child_fault w.observed → WalksOn plan o j w (Ends observed)
     over_by_wait below go nothing observed over b =
         all-seen at n.eye n.events n.fault n.child_fault observed_wait below (with_evaluations rest) kept
-        (nothing rest.task (also is.observation observed_wait.observation) task (subst IsInstance (sym (kept.1 ∙ is.origin_is)) is.instance) on) observed over
+        (nothing rest.task (also is.observation observed_wait.observation) task (subst IsInstanceOrigin (sym (kept.1 ∙ is.origin_is)) is.instance) on) observed over
         (seen_none (path_of o) j is.observation observed_wait.observation observed shows (observation-seen at n.eye n.events n.fault n.child_fault observed_wait observed b))
       where
         task : IsSoundStop t (stop_of at)
@@ -248,7 +248,7 @@ module _ (plan : PlanView) (o : Origin) (j : List ℕ) (w : NodeWalk) (is : IsWa
         whole = goes-on end n.eye n.events n.fault n.child_fault observed_end go
 
 -- A walk begins with a task of which nothing is done.
-pub walk_begins : ObservationBegins → (plan : PlanView) (o : Origin) (j : List ℕ) → IsInstance o → IsTask (start plan o) → (w : NodeWalk) → w ≡ begun_walk plan o j → IsWalk plan o j w
+pub walk_begins : ObservationBegins → (plan : PlanView) (o : Origin) (j : List ℕ) → IsInstanceOrigin o → IsTask (start plan o) → (w : NodeWalk) → w ≡ begun_walk plan o j → IsWalk plan o j w
 walk_begins begin plan o j i is w e =
     subst (IsWalk plan o j) (sym e) (record {
       instance = i;

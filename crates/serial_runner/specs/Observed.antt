@@ -8,7 +8,7 @@ use Rattle.serial_meaning.specs.declared.event.Event.{Event}
 use Rattle.serial_meaning.specs.declared.event.Fault.{Fault}
 use Rattle.serial_meaning.specs.declared.origin.Origin.{Origin}
 use Rattle.strand_meaning.specs.Left.{stops_left}
-use Rattle.strand_meaning.specs.Observation.{Observation, newest, IsInstance, IsOnWay}
+use Rattle.strand_meaning.specs.Observation.{Observation, newest, IsInstanceOrigin, IsOnWay}
 use Rattle.strand_meaning.specs.Sound.{IsTask}
 use Rattle.strand_meaning.specs.Strands.{own_events, events_at, child_on_way}
 use Rattle.strand_machine.specs.Eyes.{new_eye, eye_after}
@@ -63,7 +63,7 @@ AreOriginsOf plan os = (o : Origin) → Contains os o → IsOriginOf plan o
 
 -- An instance of the plan that runs, and all that is to be seen of it.
 pub record IsWalk (plan : PlanView) (o : Origin) (j : List ℕ) (w : NodeWalk) : Type 0 where
-  pub instance : IsInstance o
+  pub instance : IsInstanceOrigin o
   pub task : IsTask w.task.task
   pub idle : w.task.task.waiting ≡ false
   pub goes_on : w.task.cut ≡ None
@@ -74,7 +74,7 @@ pub record IsWalk (plan : PlanView) (o : Origin) (j : List ℕ) (w : NodeWalk) :
   pub says : w.observed ≡ observed_on (path_of o) j observation
 
 -- The task of a walk has come to this stop, and this is what is seen then.
-pub record IsStopped (j : List ℕ) (w : NodeWalk) (stop : Stop) (observed : ObservedInstance) : Type 0 where
+pub record ObservesStop (j : List ℕ) (w : NodeWalk) (stop : Stop) (observed : ObservedInstance) : Type 0 where
   pub observed_stop : ObservedStop
   pub is_observed : IsObserved w.task j w.observed.eye observed_stop
   pub stops : stop ≡ observed_stop.stop

@@ -88,7 +88,7 @@ pub(crate) fn advance(stack: Stack, alloc: Global) -> Result<Advanced, Memory>
             Ok(Advanced::Continues(Stack { top, below }))
         }
         Paused::Ended { rest } => {
-            let (answer, give) = rest.finish();
+            let (answer, give) = rest.into_answer();
             drop(give);
             if is_fault(&answer) {
                 let last = end_all(alloc, answer, below)?;

@@ -3,7 +3,7 @@ ghost use Rattle.std.specs.Prelude.{◌≡◌, if◌then◌else◌, Some, None, 
 ghost use Rattle.std.specs.Arc.{arc_value};
 ghost use Rattle.serial_meaning.specs.Eval.{path_of};
 ghost use Rattle.serial_meaning.specs.Laws.{IsOriginOf};
-ghost use Rattle.strand_meaning.specs.Observation.{IsInstance};
+ghost use Rattle.strand_meaning.specs.Observation.{IsInstanceOrigin};
 ghost use Rattle.serial_runner.specs.Nodes.{IsBelow, fault_at, node_seen, node_toward};
 
 use crate::observed::ObservedInstance;
@@ -81,7 +81,7 @@ pub fn walk_node(
     at: &Pedigree,
 ) -> Result<Node, Memory>
     requires known { IsOriginOf (arc_value plan.now) origin }
-    requires instance { IsInstance origin }
+    requires instance { IsInstanceOrigin origin }
     requires below { IsBelow (path_of origin) at.now }
     ensures { IfOk result (λ node. node ≡ node_toward (arc_value plan.now) origin at.now) }
 {

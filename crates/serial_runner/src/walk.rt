@@ -3,13 +3,13 @@ ghost use Rattle.std.specs.Prelude.{◌≡◌, IfOk, None, false};
 ghost use Rattle.std.specs.Arc.{arc_value};
 ghost use Rattle.serial_meaning.specs.Eval.{path_of};
 ghost use Rattle.serial_meaning.specs.Laws.{IsOriginOf};
-ghost use Rattle.strand_meaning.specs.Observation.{IsInstance};
+ghost use Rattle.strand_meaning.specs.Observation.{IsInstanceOrigin};
 ghost use Rattle.strand_meaning.specs.Sound.{IsTask};
 ghost use Rattle.strand_meaning.specs.Task.{start};
 ghost use Rattle.strand_machine.specs.Family.{tags};
 ghost use Rattle.strand_machine.specs.Stops.{answer_tags, any_cut};
 ghost use Rattle.serial_runner.specs.Nodes.{IsBelow};
-ghost use Rattle.serial_runner.specs.Observed.{AreOriginsOf, IsSeen, IsStopped, IsWalk, WalksOn, begun_walk, origin_of};
+ghost use Rattle.serial_runner.specs.Observed.{AreOriginsOf, IsSeen, ObservesStop, IsWalk, WalksOn, begun_walk, origin_of};
 
 use crate::beside::beside;
 use crate::observed::ObservedInstance;
@@ -57,9 +57,9 @@ fn run_to_stop(
     alloc: Global,
     at: &Pedigree,
 ) -> Result<(Stop, ObservedInstance), Memory>
-    requires instance { IsInstance (origin_of walk) }
+    requires instance { IsInstanceOrigin (origin_of walk) }
     requires goes_on { walk.task.cut ≡ None }
-    ensures { IfOk result (λ p. IsStopped at.now walk p.0 p.1) }
+    ensures { IfOk result (λ p. ObservesStop at.now walk p.0 p.1) }
 {
     let NodeWalk { task, observed } = walk;
     let seen = observed.eye;
@@ -147,7 +147,7 @@ pub(crate) fn observe_instance(
     at: &Pedigree,
 ) -> Result<ObservedInstance, Memory>
     requires known { IsOriginOf (arc_value plan.now) origin }
-    requires instance { IsInstance origin }
+    requires instance { IsInstanceOrigin origin }
     requires below { IsBelow (path_of origin) at.now }
     ensures { IfOk result (IsSeen (arc_value plan.now) origin at.now) }
 {

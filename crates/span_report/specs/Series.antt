@@ -24,16 +24,16 @@ abbrev pub IsEvent : List Event → ℕ → Event → Type 0
 IsEvent events i e = slice_get events i ≡ Some e
 
 -- the path of main's instance, of a spawned child, or of a loop's iteration
-pub data IsInstance (events : List Event) : List ℕ → Type 0 where
-  Main : IsInstance events []
-  Child : (j : List ℕ) → Contains events (event.Spawn j) → IsInstance events j
-  Iteration : (j : List ℕ) (k : ℕ) → Contains events (event.Loop j) → IsInstance events (j ++ k ∷ [])
+pub data IsInstancePath (events : List Event) : List ℕ → Type 0 where
+  Main : IsInstancePath events []
+  Child : (j : List ℕ) → Contains events (event.Spawn j) → IsInstancePath events j
+  Iteration : (j : List ℕ) (k : ℕ) → Contains events (event.Loop j) → IsInstancePath events (j ++ k ∷ [])
 
 -- the instance that an event belongs to: the longest instance's path with which its pedigree properly begins
 pub record IsHome (events : List Event) (pedigree home : List ℕ) : Type 0 where
-  pub instance : IsInstance events home
+  pub instance : IsInstancePath events home
   pub begins : BeginsProperly home pedigree
-  pub longest : (other : List ℕ) → IsInstance events other → BeginsProperly other pedigree → length other ≤ length home
+  pub longest : (other : List ℕ) → IsInstancePath events other → BeginsProperly other pedigree → length other ≤ length home
 
 -- an event of this instance with this number
 pub record IsEventOf (events : List Event) (home : List ℕ) (i : ℕ) (e : Event) : Type 0 where
@@ -42,17 +42,17 @@ pub record IsEventOf (events : List Event) (home : List ℕ) (i : ℕ) (e : Even
 
 -- where two instances part: the longest instance's path with which both their paths begin
 pub record IsMeet (events : List Event) (a b meet : List ℕ) : Type 0 where
-  pub instance : IsInstance events meet
+  pub instance : IsInstancePath events meet
   pub first : Begins meet a
   pub second : Begins meet b
-  pub longest : (other : List ℕ) → IsInstance events other → Begins other a → Begins other b → length other ≤ length meet
+  pub longest : (other : List ℕ) → IsInstancePath events other → Begins other a → Begins other b → length other ≤ length meet
 
 -- An event of instance `a` comes before what instance `b` does from number i on, where they part at `meet`: it is an event of that instance
 -- itself; or it lies in a loop of that instance, and `b` doesn't; or it lies in a child that this instance spawned before a sync of its own.
 pub data PrecedesAtMeet (events : List Event) (i : ℕ) (a b meet : List ℕ) : Type 0 where
-  Own : a ≡ meet → PrecedesAtMeet events i a b meet
-  Looped : (c : ℕ) (j : List ℕ) → IsEventOf events meet c (event.Loop j) → BeginsProperly j a → (Begins j b → ⊥) → PrecedesAtMeet events i a b meet
-  Synced : (c s : ℕ) (j at : List ℕ) → IsEventOf events meet c (event.Spawn j) → Begins j a → IsEventOf events meet s (event.Sync at) → c < s → s < i → PrecedesAtMeet events i a b meet
+  OfMeet : a ≡ meet → PrecedesAtMeet events i a b meet
+  InLoop : (c : ℕ) (j : List ℕ) → IsEventOf events meet c (event.Loop j) → BeginsProperly j a → (Begins j b → ⊥) → PrecedesAtMeet events i a b meet
+  BeforeSync : (c s : ℕ) (j at : List ℕ) → IsEventOf events meet c (event.Spawn j) → Begins j a → IsEventOf events meet s (event.Sync at) → c < s → s < i → PrecedesAtMeet events i a b meet
 
 -- Event number i is in series before what an instance does from number n on.
 pub record PrecedesFrom (events : List Event) (i n : ℕ) (home : List ℕ) : Type 0 where

@@ -23,11 +23,11 @@ abbrev pub main_alone : OpenInstances
 main_alone = record { top = new_open_instance [] Spawned 0; under = [] }
 
 -- after the end of the instances that don't lead to a path
-abbrev pub left : List ℕ → OpenInstance → List OpenInstance → OpenInstances
-left path o [] = record { top = o; under = [] }
-left path o (p ∷ ps) = cond (is_path_below o path) (record { top = o; under = p ∷ ps }) (left path (after_child_end p o.begun o.within) ps)
+abbrev pub closed_to : List ℕ → OpenInstance → List OpenInstance → OpenInstances
+closed_to path o [] = record { top = o; under = [] }
+closed_to path o (p ∷ ps) = cond (is_path_below o path) (record { top = o; under = p ∷ ps }) (closed_to path (after_child_end p o.begun o.within) ps)
 
--- after the end of all but main
+-- main's open instance, once all above it have ended
 abbrev pub after_ends : OpenInstance → List OpenInstance → OpenInstance
 after_ends o [] = o
 after_ends o (p ∷ ps) = after_ends (after_child_end p o.begun o.within) ps
@@ -56,7 +56,7 @@ abbrev pub path_of : Event → List ℕ
 path_of e = take (length (pedigree_of e) - 1) (pedigree_of e)
 
 abbrev pub walked : OpenInstances → Event → OpenInstances
-walked w e = instances_after (opened_to (path_of e) (left (path_of e) w.top w.under)) e
+walked w e = instances_after (opened_to (path_of e) (closed_to (path_of e) w.top w.under)) e
 
 abbrev pub walked_all : OpenInstances → List Event → OpenInstances
 walked_all w [] = w

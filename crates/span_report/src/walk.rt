@@ -1,7 +1,7 @@
 ghost use Rattle.std.specs.Prelude.{◌≡◌, IfOk, OnOk, reverse};
 ghost use Rattle.span_report.specs.Series.{pedigree_of};
 ghost use Rattle.span_report.specs.Opens.{after_child_end};
-ghost use Rattle.span_report.specs.Walks.{after_ends, opened_to, left, open_instances, path_of, pushed, main_alone, walked};
+ghost use Rattle.span_report.specs.Walks.{after_ends, opened_to, closed_to, open_instances, path_of, pushed, main_alone, walked};
 
 use crate::instance::{Begun, OpenInstance};
 use ped_path::{Ped, Pedigree};
@@ -46,7 +46,7 @@ impl Walk {
 
     /// Ends the instances that this path's instance neither is nor stands below.
     fn leave(&mut self, path: &Ped)
-        ensures { open_instances self.new ≡ left path.now self.old.top (reverse self.old.below.items) }
+        ensures { open_instances self.new ≡ closed_to path.now self.old.top (reverse self.old.below.items) }
     {
         while !self.top.leads_to(path) {
             match self.below.pop() {

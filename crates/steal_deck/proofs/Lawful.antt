@@ -5,7 +5,7 @@ use lib.ListN.{get_elem?}
 use Rattle.crossbeam_deque.proofs.Lists.{at_last}
 use Rattle.steal_deck.specs.declared.rule.Party.{Party}
 use Rattle.steal_deck.specs.Accounts.{one_if, AreEntriesOf}
-use Rattle.steal_deck.specs.History.{DeckEvent, DeckState, push, pop, steal, make_thief, take_back, owner, thief, retired, with_push, with_entry, with_thief, with_back, Leads, IsHistory}
+use Rattle.steal_deck.specs.History.{DeckEvent, DeckState, push, pop, steal, make_thief, take_back, owner, thief, retired, with_push, with_entry, with_thief, with_back, LeadsBy, IsHistory}
 use Rattle.steal_deck.proofs.Weights.{weigh, Rising, IsLawful, Lawful}
 use Rattle.steal_deck.proofs.Entries.{below_more, weigh_more, weigh_both, named_longer, all_named_longer, named_more, named_both, named_front, rising_more, rising_front, taken_set, thieves_set, named_at, named_set, idle_set, taken_more, thieves_more, all_named_more, idle_more}
 
@@ -74,7 +74,7 @@ module _ {T : Type 0} where
     is_owner = d.is_owner;
   }
 
-  event_keeps : (e : DeckEvent T) (r s : DeckState T) → Leads e r s → Lawful r → Lawful s
+  event_keeps : (e : DeckEvent T) (r s : DeckState T) → LeadsBy e r s → Lawful r → Lawful s
   event_keeps (push x) r s q d = subst Lawful (sym q) (pushed_on r x d)
   event_keeps (pop e) r s q d = subst Lawful (sym q.1) (popped_off r s.left e q.0 d)
   event_keeps (steal k e) r s q d = subst Lawful (sym q.3) (stolen_off r s.left k e q.0 q.1.0 q.1.1 q.2 d)

@@ -52,17 +52,17 @@ module _ {T : Type 0} where
   IsThiefAt s k v = (get_elem? s.others k ≡ some v) × (v.is_thief ≡ true)
 
   -- what an event makes of a state: a push appends the next number, a pop removes the last entry left, and a steal the first
-  abbrev pub Leads : DeckEvent T → DeckState T → DeckState T → Type 0
-  Leads (push x) r s = s ≡ state (r.left ++ (length r.owner.pushed, x) ∷ []) (with_push r.owner x) r.others
-  Leads (pop e) r s = (r.left ≡ s.left ++ e ∷ []) × (s ≡ state s.left (with_entry r.owner e) r.others)
-  Leads (steal k e) r s = (v : Party T) × IsThiefAt r k v × (r.left ≡ e ∷ s.left) × (s ≡ state s.left r.owner (set r.others k (with_entry v e)))
-  Leads make_thief r s = s ≡ state r.left (with_thief r.owner) (r.others ++ thief [] ∷ [])
-  Leads (take_back k) r s = (v : Party T) × IsThiefAt r k v × (s ≡ state r.left (with_back r.owner v) (set r.others k retired))
+  abbrev pub LeadsBy : DeckEvent T → DeckState T → DeckState T → Type 0
+  LeadsBy (push x) r s = s ≡ state (r.left ++ (length r.owner.pushed, x) ∷ []) (with_push r.owner x) r.others
+  LeadsBy (pop e) r s = (r.left ≡ s.left ++ e ∷ []) × (s ≡ state s.left (with_entry r.owner e) r.others)
+  LeadsBy (steal k e) r s = (v : Party T) × IsThiefAt r k v × (r.left ≡ e ∷ s.left) × (s ≡ state s.left r.owner (set r.others k (with_entry v e)))
+  LeadsBy make_thief r s = s ≡ state r.left (with_thief r.owner) (r.others ++ thief [] ∷ [])
+  LeadsBy (take_back k) r s = (v : Party T) × IsThiefAt r k v × (s ≡ state r.left (with_back r.owner v) (set r.others k retired))
 
   -- these events, the newest first, lead from the new deck to this state
   abbrev pub IsHistory : List (DeckEvent T) → DeckState T → Type 0
   IsHistory [] s = s ≡ state [] (owner [] [] [] 0 0) []
-  IsHistory (e ∷ events) s = (r : DeckState T) × IsHistory events r × Leads e r s
+  IsHistory (e ∷ events) s = (r : DeckState T) × IsHistory events r × LeadsBy e r s
 
   -- the deck holds these tasks, and its parties know these things, in a state of a history
   abbrev pub HasHistory : List T → List (Party T) → Type 0
@@ -70,11 +70,11 @@ module _ {T : Type 0} where
 
   -- one event of the history, which made of what the owner knew, v, what it knows now, w
   abbrev pub OwnerDoes : DeckEvent T → Party T → Party T → Type 0
-  OwnerDoes e v w = (events : List (DeckEvent T)) × (r : DeckState T) × (s : DeckState T) × IsHistory events r × Leads e r s × (r.owner ≡ v) × (s.owner ≡ w)
+  OwnerDoes e v w = (events : List (DeckEvent T)) × (r : DeckState T) × (s : DeckState T) × IsHistory events r × LeadsBy e r s × (r.owner ≡ v) × (s.owner ≡ w)
 
   -- the same of a thief, which took the first entry left
   abbrev pub ThiefTakes : ℕ × T → Party T → Party T → Type 0
-  ThiefTakes e v w = (events : List (DeckEvent T)) × (r : DeckState T) × (s : DeckState T) × (k : ℕ) × IsHistory events r × Leads (steal k e) r s
+  ThiefTakes e v w = (events : List (DeckEvent T)) × (r : DeckState T) × (s : DeckState T) × (k : ℕ) × IsHistory events r × LeadsBy (steal k e) r s
       × (get_elem? r.others k ≡ some v) × (get_elem? s.others k ≡ some w)
 
   -- in a state of the history no entry was left, while the owner knew v

@@ -7,7 +7,7 @@ use Rattle.meet_block.specs.declared.join.Look.TheVariants.{Ready, NotYet}
 use Rattle.serial_meaning.specs.Answer.{AnswerTag}
 use Rattle.serial_meaning.specs.Plan.{PlanView}
 use Rattle.serial_meaning.specs.declared.origin.Origin.{Origin}
-use Rattle.strand_family.specs.Family.{FamilyView, Looked, tag, tags, origins}
+use Rattle.strand_family.specs.Family.{FamilyView, FamilyLooks, tag, tags, origins}
 
 pub origins_append : (ts us : List AnswerTag) → origins (ts ++ us) ≡ origins ts ++ origins us
 origins_append [] us = refl
@@ -45,6 +45,6 @@ plan_at plan ts i t h g = plan_of plan (origins ts) i t (ap (λ (l : List Answer
 abbrev seen : PlanView → Origin → Joined AnswerTag → FamilyView
 seen plan o j = record { plan = plan; origin = o; children = origins j.tags; taken = j.taken; ready = j.ready; loads = j.loads }
 
-pub looked : (plan : PlanView) (o : Origin) (before after : Joined AnswerTag) (result : Look) → LookAnswers before after result → Looked (seen plan o before) (seen plan o after) result
+pub looked : (plan : PlanView) (o : Origin) (before after : Joined AnswerTag) (result : Look) → LookAnswers before after result → FamilyLooks (seen plan o before) (seen plan o after) result
 looked plan o before after Ready h = ((h.0, ap (λ (j : Joined AnswerTag). j.loads) h.1), rw h.1 refl)
 looked plan o before after (NotYet n) h = ((h.2.0, n, h.0, ap (λ (j : Joined AnswerTag). j.loads) h.2.1), rw h.2.1 refl)

@@ -37,9 +37,9 @@ HasPassed before after = (passed : ℕ) × (after ≡ before ++ replicate passed
 abbrev pub HasStopped : List ℕ → List ℕ → Type 0
 HasStopped before after = (passed owing : ℕ) × (1 ≤ owing) × (after ≡ before ++ (replicate passed 0 ++ owing ∷ []))
 
-abbrev pub Looked : FamilyView → FamilyView → Look → Type 0
-Looked before after Ready = HasPassed before.loads after.loads × (after ≡ record before { ready = true; loads = after.loads })
-Looked before after (NotYet n) = HasStopped before.loads after.loads × (after ≡ record before { ready = false; loads = after.loads })
+abbrev pub FamilyLooks : FamilyView → FamilyView → Look → Type 0
+FamilyLooks before after Ready = HasPassed before.loads after.loads × (after ≡ record before { ready = true; loads = after.loads })
+FamilyLooks before after (NotYet n) = HasStopped before.loads after.loads × (after ≡ record before { ready = false; loads = after.loads })
 
 -- one more child
 abbrev pub family_with_child : FamilyView → Origin → FamilyView

@@ -4,6 +4,6 @@ use Rattle.serial_meaning.specs.declared.origin.Origin.{Origin}
 use Rattle.serial_meaning.specs.declared.origin.Origin.TheVariants.{Instance, Loop}
 
 -- these iterations alone
-abbrev pub only : Origin → Range → Origin
-only (Instance function args path) part = Instance function args path
-only (Loop function rest first path range) part = Loop function rest first path part
+abbrev pub loop_part : Origin → Range → Origin
+loop_part (Instance function args path) part = Instance function args path
+loop_part (Loop function rest first path range) part = Loop function rest first path part

@@ -1,7 +1,7 @@
 ghost use Rattle.std.specs.Prelude.{◌≡◌, ℕ, [], ◌∷◌, ◌++◌, IfOk, OnOk, OnErr, Some, None, true, false, length, slice_get, slice_set};
 ghost use Rattle.std.specs.Arc.{arc_value};
 ghost use Rattle.serial_meaning.specs.Answer.{IsAnswer};
-ghost use Rattle.strand_family.specs.Family.{tag, family_with_child, Looked};
+ghost use Rattle.strand_family.specs.Family.{tag, family_with_child, FamilyLooks};
 
 use crate::memory::Memory;
 use crate::start::stands_before;
@@ -137,7 +137,7 @@ impl Family {
 
     /// Whether all children have answered.
     pub fn look(&mut self) -> Look
-        ensures { Looked self.old self.new result }
+        ensures { FamilyLooks self.old self.new result }
     {
         self.join.look()
     }

@@ -3,7 +3,7 @@ ghost use Rattle.std.specs.Prelude.{◌≡◌, ◌∷◌, IfOk, pos};
 ghost use Rattle.std.specs.Int.{int_wrapping_add, w64};
 ghost use Rattle.serial_meaning.specs.declared.value.Value.TheVariants.{Int};
 ghost use Rattle.serial_meaning.specs.Eval.{path_of};
-ghost use Rattle.strand_family.specs.Origins.{only};
+ghost use Rattle.strand_family.specs.Origins.{loop_part};
 
 use crate::memory::Memory;
 use loop_range::IterRange;
@@ -82,7 +82,7 @@ pub fn iteration_args(
 
 /// A loop's origin with these of its iterations alone.
 pub fn part_of(alloc: Global, origin: &Origin, range: IterRange) -> Result<Origin, Memory>
-    ensures { IfOk result (λ part. part ≡ only origin.now range) }
+    ensures { IfOk result (λ part. part ≡ loop_part origin.now range) }
 {
     let mut part = share_origin(alloc, origin)?;
     if let Origin::Loop {

@@ -70,7 +70,7 @@ impl Task {
 
     /// What it answers, of a task that has ended or took an answer that is a cut, and the give for it.
     #[inline(always)]
-    pub fn finish(self) -> (Answer, Give<Answer>)
+    pub fn into_answer(self) -> (Answer, Give<Answer>)
         requires { is_cut_short self.cut ≡ true }
         ensures { Advances self (stop.Done result.0 result.1) }
     {
@@ -118,6 +118,6 @@ fn stop_done(task: Task) -> Stop
     requires { is_cut_short task.cut ≡ true }
     ensures { Advances task result }
 {
-    let (answer, give) = task.finish();
+    let (answer, give) = task.into_answer();
     Stop::Done { answer, give }
 }

@@ -230,7 +230,7 @@ fn step_observed(
 }
 
 impl Task {
-    ghost use Rattle.strand_meaning.specs.Observation.{IsInstance};
+    ghost use Rattle.strand_meaning.specs.Observation.{IsInstanceOrigin};
     ghost use Rattle.strand_machine.specs.Observed.{IsObserved};
 
     /// Runs to the next stop as `advance` does, and observes what the task itself does on its way in the strand of this pedigree. The eye
@@ -241,7 +241,7 @@ impl Task {
         at: &Pedigree,
         eye: Eye,
     ) -> Result<ObservedStop, Memory>
-        requires instance { IsInstance self.task.origin }
+        requires instance { IsInstanceOrigin self.task.origin }
         requires goes_on { self.cut ≡ None }
         ensures { IfOk result (IsObserved self at.now eye) }
     {

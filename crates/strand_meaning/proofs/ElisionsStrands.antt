@@ -1,4 +1,4 @@
 pub mod ItemsRise
 pub mod EventsBelowPath
-pub mod Passing
+pub mod EventsSplitByChildren
 pub mod ElisionStrands

@@ -1,4 +1,4 @@
-pub mod Stops
-pub mod Falls
-pub mod Comes
-pub mod Fewer
+pub mod OneSoundStop
+pub mod MovesUseSteps
+pub mod TasksReachStops
+pub mod StopsLeaveFewer

@@ -1,10 +1,10 @@
-pub mod Depth
-pub mod Closing
+pub mod OriginsFitDepth
+pub mod ChildrenCloseNodes
 pub mod Finishing
 pub mod ChildrenFollowEvents
-pub mod Begun
-pub mod Steps
-pub mod Loops
+pub mod EventsShowChildren
+pub mod MovesKeepTasks
+pub mod HalvesMakeLoops
 pub mod LoopsEndByRest
-pub mod Starts
-pub mod Ends
+pub mod RestStartsAsNode
+pub mod StepsKeepTasks

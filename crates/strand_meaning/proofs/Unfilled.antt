@@ -3,6 +3,6 @@ pub mod UntouchedStays
 pub mod RestAfterEffects
 pub mod ChangesCommute
 pub mod Clears
-pub mod Moves
+pub mod MovesMirrorTree
 pub mod MovesBeforeAnswers
 pub mod SoundMoves

@@ -3,7 +3,7 @@ use Rattle.std.specs.Prelude.{◌≡◌, ℕ, zero, suc, List, [], ◌∷◌, No
 use Rattle.std.specs.Prelude.{pos}
 use Rattle.script_grammar.specs.declared.tree.Function.{Function}
 use Rattle.script_grammar.specs.declared.tree.Act.TheVariants as act
-use Rattle.serial_meaning.specs.Trees.{named, number, applied, stated, int_param, function}
+use Rattle.serial_meaning.specs.Trees.{name_node, number, applied, stated, int_param, function}
 use Rattle.serial_meaning.specs.Plan.{PlanView}
 use Rattle.serial_meaning.specs.Eval.{eval, main_origin}
 use Rattle.serial_meaning.specs.Examples.{plan_of}
@@ -58,7 +58,7 @@ abbrev pub LoopsAreHandedOutWhole : Type 0
 LoopsAreHandedOutWhole =
     main_marks 8
     (f_of_number
-    ∷ function (codes "main") [] (stated (act.Pfor (named (codes "i")) (number 0) (number 3) None (applied (codes "f") [])) ∷ []) (number 0)
+    ∷ function (codes "main") [] (stated (act.Pfor (name_node (codes "i")) (number 0) (number 3) None (applied (codes "f") [])) ∷ []) (number 0)
     ∷ [])
     ≡ ToChild ∷ ToWait ∷ ToEnd ∷ []
 

@@ -22,7 +22,7 @@ use Rattle.strand_meaning.specs.Trace.{AwaitedChild}
 use Rattle.strand_meaning.specs.Task.{Running, changed, frame_with_answer, Task, Stop, Spawn, Wait, End, MoveOrStop, Passes, Stops, start, step, IsNext, on}
 use Rattle.strand_meaning.specs.Rest.{evaluations}
 use Rattle.strand_meaning.specs.Left.{stops_left, moves_left}
-use Rattle.strand_meaning.specs.Observation.{IsInstance, Observation, no_observation, also, Shows, IsOnWay, OnWay}
+use Rattle.strand_meaning.specs.Observation.{IsInstanceOrigin, Observation, no_observation, also, Shows, IsOnWay, OnWay}
 use Rattle.strand_meaning.specs.Sound.{IsSoundStage, UnfilledArePendingIn, IsTask}
 
 -- No function of a valid script touches a pending variable.
@@ -135,15 +135,15 @@ OriginsFit = (plan : PlanView) (o : Origin) → 1 ≤ plan.limits.depth → IsOr
 
 -- Of a task that wasn't advanced nothing is to be observed.
 abbrev pub ObservationBegins : Type 0
-ObservationBegins = (plan : PlanView) (o : Origin) → IsInstance o → IsOnWay no_observation (start plan o)
+ObservationBegins = (plan : PlanView) (o : Origin) → IsInstanceOrigin o → IsOnWay no_observation (start plan o)
 
 -- With what is observed up to a stop all is observed of the task there, and at the end its whole node.
 abbrev pub ObservationGoesOn : Type 0
-ObservationGoesOn = (t : Task) (observation later : Observation) (stop : Stop) → IsTask t → IsInstance t.origin → IsOnWay observation t → Shows t later stop → OnWay (also observation later) t stop
+ObservationGoesOn = (t : Task) (observation later : Observation) (stop : Stop) → IsTask t → IsInstanceOrigin t.origin → IsOnWay observation t → Shows t later stop → OnWay (also observation later) t stop
 
 -- A task that takes its children's answers shows nothing.
 abbrev pub AnswersShowNothing : Type 0
-AnswersShowNothing = (t : Task) (observation : Observation) → IsTask t → IsInstance t.origin → IsOnWay observation t → IsOnWay observation (on (evaluations (eval t.plan) t.trace.handed) t)
+AnswersShowNothing = (t : Task) (observation : Observation) → IsTask t → IsInstanceOrigin t.origin → IsOnWay observation t → IsOnWay observation (on (evaluations (eval t.plan) t.trace.handed) t)
 
 -- There is one way to the next stop.
 abbrev pub StopsAreShown : Type 0

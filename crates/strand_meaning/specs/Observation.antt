@@ -16,9 +16,9 @@ use Rattle.strand_meaning.specs.Strands.{fault_of_child}
 -- The node
 
 -- an instance, and no loop
-abbrev pub IsInstance : Origin → Type 0
-IsInstance (Instance function args path) = Unit {0}
-IsInstance (Loop function rest first path range) = ⊥
+abbrev pub IsInstanceOrigin : Origin → Type 0
+IsInstanceOrigin (Instance function args path) = Unit {0}
+IsInstanceOrigin (Loop function rest first path range) = ⊥
 
 -- What is left of the node of an instance's task: the open tree of what remains, with the children's evaluations as their answers.
 abbrev pub remaining_node : PlanView → Origin → List AwaitedChild → Remaining → Node

@@ -3,7 +3,7 @@ use Rattle.std.specs.Prelude.{◌≡◌, [], ◌∷◌, Some, None, codes}
 use Rattle.std.specs.Prelude.{pos}
 use Rattle.script_grammar.specs.declared.tree.Right.TheVariants as right
 use Rattle.script_grammar.specs.declared.tree.Act.TheVariants as act
-use Rattle.serial_meaning.specs.Trees.{named, number, variable, applied, stated, int_param, function}
+use Rattle.serial_meaning.specs.Trees.{name_node, number, variable, applied, stated, int_param, function}
 use Rattle.serial_meaning.specs.Plan.{PlanView}
 use Rattle.serial_meaning.specs.Examples.{plan_of, with_depth, bad, plan_of_child}
 use Rattle.serial_meaning.specs.declared.value.Value.TheVariants.{Int}
@@ -46,8 +46,8 @@ abbrev pub rolling : PlanView
 rolling =
     with_depth 3 (0 ∷ 1 ∷ 0 ∷ [])
     (plan_of
-    (function (codes "roll") (int_param (codes "i") ∷ []) (stated (act.Let (named (codes "x")) (right.Draw 0)) ∷ []) (variable (codes "x"))
-    ∷ function (codes "main") [] (stated (act.Pfor (named (codes "i")) (number 0) (number 5) None (applied (codes "roll") [])) ∷ []) (number 0)
+    (function (codes "roll") (int_param (codes "i") ∷ []) (stated (act.Let (name_node (codes "x")) (right.Draw 0)) ∷ []) (variable (codes "x"))
+    ∷ function (codes "main") [] (stated (act.Pfor (name_node (codes "i")) (number 0) (number 5) None (applied (codes "roll") [])) ∷ []) (number 0)
     ∷ [])
     20)
 

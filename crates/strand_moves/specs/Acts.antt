@@ -7,21 +7,21 @@ use Rattle.script_grammar.specs.declared.tree.Function.{Function}
 use Rattle.script_grammar.specs.declared.tree.Stmt.{Stmt}
 use Rattle.script_grammar.specs.declared.tree.Act.{Act}
 use Rattle.script_grammar.specs.declared.tree.Act.TheOpen.{Act-F}
-use Rattle.serial_meaning.specs.Exec.{has_room}
+use Rattle.serial_meaning.specs.Exec.{has_room, loop_fits}
 use Rattle.serial_meaning.specs.Plan.{PlanView}
 use Rattle.serial_meaning.specs.Values.{Env, value_of}
 use Rattle.serial_meaning.specs.declared.value.Value.{Value}
 use Rattle.serial_meaning.specs.declared.value.Value.TheVariants.{Int}
 use Rattle.serial_meaning.specs.declared.event.FaultKind.{FaultKind}
 use Rattle.serial_meaning.specs.declared.event.FaultKind.TheVariants.{Index, Depth, Budget}
+use Rattle.strand_meaning.specs.Machine as meaning
 use Rattle.strand_values.specs.Environments.{EnvironmentView}
 use Rattle.strand_values.specs.declared.halt.Halt as values
 use Rattle.strand_values.specs.declared.halt.Halt.TheVariants as halt
 use Rattle.strand_moves.specs.declared.frame.Frame.{Frame}
 use Rattle.strand_moves.specs.declared.instance_parts.InstanceParts.{InstanceParts}
 use Rattle.strand_moves.specs.declared.effects.MoveResult.{MoveResult}
-use Rattle.strand_moves.specs.Cursors.{statements_left}
-use Rattle.strand_moves.specs.InstanceParts.{IsInstance, machine_of, open_scopes, path_of, present_of}
+use Rattle.strand_moves.specs.InstanceParts.{IsInstance, body_of, frame_of, machine_of, open_scopes, path_of, present_of}
 use Rattle.strand_moves.specs.Moves.{acted, Makes, present_pedigree}
 
 -- the call shows and leaves what this act does, and a fault is one of this strand
@@ -71,11 +71,6 @@ KeepsInstance plan old new (Ok move_result) = IsKept plan old new
 KeepsInstance plan old new (Err (halt.Fault kind)) = IsKept plan old new × (new.trail ≡ old.trail)
 KeepsInstance plan old new (Err halt.Memory) = Unit {0}
 
--- the pedigrees in the iterations of a loop, if there are any, are within the depth
-abbrev pub loop_fits : PlanView → List ℕ → ℕ → Bool
-loop_fits plan path zero = true
-loop_fits plan path (suc n) = nat_lt (length path + 2) plan.limits.depth
-
 -- the fault of the first of these conditions that doesn't hold
 abbrev pub first_fault : List (Bool × FaultKind) → Result (Unit {0}) FaultKind
 first_fault [] = Ok tt
@@ -87,16 +82,24 @@ abbrev pub loop_begins : PlanView → List ℕ → ℕ → Option Name → Env �
 loop_begins plan path n target env steps =
     first_fault ((nat_lt n (steps + 1), Budget) ∷ (has_room target n env, Index) ∷ (loop_fits plan path n, Depth) ∷ [])
 
--- a frame that a call of this function begins with these variables
+-- a function before its first statement
+abbrev pub begun_frame : PlanView → ℕ → Env → Option Name → meaning.Frame
+begun_frame plan number env to = record {
+  function = number;
+  left = body_of plan number;
+  levels = [];
+  leaving = false;
+  returning = false;
+  env = env;
+  spawned = false;
+  faulted = None;
+  target = to;
+}
+
+-- A frame that a call of this function begins with these variables: its whole body is left, and nothing has happened in it yet.
 pub record IsCallee (number : ℕ) (variables : EnvironmentView) (to : Option Name) (a : Frame) : Type 0 where
-  pub function : a.function ≡ number
-  pub left : (body : List Stmt) → statements_left body a.cursor ≡ body
-  pub levels : a.levels.items ≡ []
-  pub returning : a.returning ≡ false
   pub env : a.env ≡ variables
-  pub spawned : a.spawned ≡ false
-  pub faulted : a.faulted ≡ None
-  pub target : a.target ≡ to
+  pub begins : (plan : PlanView) → frame_of plan false a ≡ begun_frame plan number variables.variables to
 
 -- the value of a function, where there is one
 abbrev pub result_of : Option Function → Env → Result Value FaultKind

@@ -60,8 +60,8 @@ run_of (move_result.Returned v) m = record { items = []; ending = Ok (Gives v) }
 run_of (move_result.Faulted f) m = record { items = []; ending = Err f }
 
 -- a move that shows these effects, and after which the instance goes on
-abbrev pub Shows : List Effect → MoveResult → Type 0
-Shows effects move_result = (m : Machine) → run_of move_result m ≡ record { items = effects; ending = Ok (Stands m) }
+abbrev pub HasEffects : List Effect → MoveResult → Type 0
+HasEffects effects move_result = (m : Machine) → run_of move_result m ≡ record { items = effects; ending = Ok (Stands m) }
 
 -- A move is the defined one, where a fault is one of this strand. Want of memory may come at any time.
 abbrev pub Makes : Run Effect Fault Reached → List ℕ → Machine → Result MoveResult values.Halt → Type 0

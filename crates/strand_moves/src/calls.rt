@@ -9,7 +9,7 @@ ghost use Rattle.serial_meaning.specs.declared.event.FaultKind.{FaultKind};
 ghost use Rattle.strand_values.specs.declared.halt.Halt.TheVariants.{Fault};
 ghost use Rattle.script_check.specs.Spawns.{spawns_in};
 ghost use Rattle.strand_meaning.specs.Machine.{here_of, return_move, with_scalar};
-ghost use Rattle.strand_values.specs.Gives.{Gives};
+ghost use Rattle.strand_values.specs.Gives.{Calculates};
 ghost use Rattle.strand_values.specs.Environments.{FindsArguments, with_variables};
 ghost use Rattle.strand_moves.specs.Found.{ArePlaces, FindsCallee, FindsTarget};
 ghost use Rattle.strand_moves.specs.Acts.{Acts, BeginsOne, Costs, IsCallee, StaysUnlessMemory, result_of};
@@ -196,7 +196,7 @@ impl InstanceParts {
     #[inline(always)]
     fn result(&self, plan: &Plan) -> Result<Value, Halt>
         requires { IsNamed plan.now self.now.top }
-        ensures { Gives result (result_of (function_at (functions_of plan.now) self.now.top.function) self.now.top.env.variables) }
+        ensures { Calculates result (result_of (function_at (functions_of plan.now) self.now.top.function) self.now.top.env.variables) }
     {
         match function_in(plan, self.top.function) {
             Some(f) => self.top.env.value(plan.places(), &f.result),

@@ -20,7 +20,7 @@ ghost use Rattle.strand_moves.specs.InstanceParts.{IsInstance, IsStrand, KeepsNa
 ghost use Rattle.strand_values.specs.declared.halt.Halt.TheVariants as halt;
 ghost use Rattle.serial_meaning.specs.declared.event.FaultKind.{FaultKind};
 ghost use Rattle.strand_values.specs.declared.halt.Halt.TheVariants.{Fault};
-ghost use Rattle.strand_moves.specs.Moves.{IsTrailOf, MovesTrail, Shows, spawn_to};
+ghost use Rattle.strand_moves.specs.Moves.{IsTrailOf, MovesTrail, HasEffects, spawn_to};
 ghost use Rattle.strand_moves.specs.Rows.{HasPassedStatement};
 ghost use Rattle.strand_moves.specs.Spawns.{DoesAs, HasSpawned, IsHanded, SpawnsTrail, spawn_as_move};
 ghost use Rattle.strand_moves.specs.declared.effects.Effects.TheVariants as effect;
@@ -117,7 +117,7 @@ impl InstanceParts {
     /// A sync, written or implied.
     pub(crate) fn sync(&mut self) -> Result<MoveResult, Halt>
         requires { self.old.rank < 2 ^ 32 }
-        ensures effects { IfOk result (Shows (Emitted (event.Sync (present_of self.old ++ self.old.rank ∷ [])) ∷ sync_effects self.old.top.spawned)) }
+        ensures effects { IfOk result (HasEffects (Emitted (event.Sync (present_of self.old ++ self.old.rank ∷ [])) ∷ sync_effects self.old.top.spawned)) }
         ensures passed { OnOk result (self.new ≡ record self.old { rank = self.old.rank + 1; top = record self.old.top { spawned = false } }) }
         ensures fine { OnErr result (result ≡ Err halt.Memory) }
         ensures child { (plan : PlanView) → IfOk result (MovesTrail plan) }

@@ -76,7 +76,7 @@ fn scope_in<'a>(statement: &'a Stmt) -> &'a [Stmt]
 }
 
 /// The block that was entered from this one.
-fn inner<'a>(block: &'a [Stmt], entered: Entered) -> &'a [Stmt]
+fn block_in<'a>(block: &'a [Stmt], entered: Entered) -> &'a [Stmt]
     ensures { result.now ≡ block_in block.now entered }
 {
     let place = match entered.branch {
@@ -95,7 +95,7 @@ fn innermost<'a>(body: &'a [Stmt], entered: &[Entered]) -> &'a [Stmt]
 {
     let mut block = body;
     for e in entered {
-        block = inner(block, *e);
+        block = block_in(block, *e);
     }
     block
 }

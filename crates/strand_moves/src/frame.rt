@@ -1,8 +1,9 @@
 // Frames.
 
-ghost use Rattle.std.specs.Prelude.{◌≡◌, [], List, false, None, reverse};
+ghost use Rattle.std.specs.Prelude.{◌≡◌, reverse};
 ghost use Rattle.std.specs.Option.{option_copied};
 ghost use Rattle.script_grammar.specs.declared.tree.Stmt.{Stmt};
+ghost use Rattle.strand_moves.specs.Acts.{IsCallee};
 ghost use Rattle.strand_moves.specs.InstanceParts.{block_inside, body_of, statements_of};
 
 use crate::cursor::Cursor;
@@ -44,18 +45,9 @@ pub(crate) struct Frame {
 }
 
 impl Frame {
-    ghost use Rattle.strand_moves.specs.Cursors.{statements_left};
-
     /// A function with these variables before its first statement.
     pub(crate) fn new(alloc: Global, number: u32, env: Environment, target: Option<Target>) -> Frame
-        ensures function { result.function ≡ number }
-        ensures left { (body : List Stmt) → statements_left body result.cursor ≡ body }
-        ensures levels { result.levels.items ≡ [] }
-        ensures returning { result.returning ≡ false }
-        ensures env { result.env ≡ env }
-        ensures spawned { result.spawned ≡ false }
-        ensures faulted { result.faulted ≡ None }
-        ensures target { result.target ≡ target }
+        ensures { IsCallee number env target result }
     {
         Frame {
             function: number,
@@ -74,13 +66,13 @@ impl Frame {
     pub(crate) fn statements<'a>(&self, plan: &'a Plan) -> &'a [Stmt]
         ensures { result.now ≡ statements_of plan.now self.now }
     {
-        inside(body(plan, self.function), self.levels.as_slice())
+        block_inside(body(plan, self.function), self.levels.as_slice())
     }
 }
 
 /// The block of the innermost of these scopes, which are open in a function of this body.
 #[inline(always)]
-fn inside<'a>(body: &'a [Stmt], levels: &[Level]) -> &'a [Stmt]
+fn block_inside<'a>(body: &'a [Stmt], levels: &[Level]) -> &'a [Stmt]
     ensures { result.now ≡ block_inside body.now (reverse levels.now) }
 {
     let mut block = body;

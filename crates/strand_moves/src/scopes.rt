@@ -13,7 +13,7 @@ ghost use Rattle.strand_values.specs.declared.halt.Halt.TheVariants.{Fault};
 ghost use Rattle.strand_moves.specs.Acts.{Acts, GoesIn, KeepsInstance};
 ghost use Rattle.strand_moves.specs.Cursors.{IsAfterStatement, statements_left};
 ghost use Rattle.strand_moves.specs.InstanceParts.{IsInstance, IsStrand, KeepsNames, machine_of, path_of, present_of, statements_of};
-ghost use Rattle.strand_moves.specs.Moves.{Makes, MovesTrail, Shows, present_pedigree};
+ghost use Rattle.strand_moves.specs.Moves.{Makes, MovesTrail, HasEffects, present_pedigree};
 ghost use Rattle.strand_moves.specs.declared.effects.Effects.TheVariants as effect;
 
 use crate::cursor::Cursor;
@@ -89,7 +89,7 @@ impl InstanceParts {
     /// The sync at the end of the innermost scope.
     fn join_scope(&mut self) -> Result<MoveResult, Halt>
         requires { self.old.rank < 2 ^ 32 }
-        ensures effects { IfOk result (Shows (Emitted (event.Sync (present_of self.old ++ self.old.rank ∷ [])) ∷ sync_effects self.old.top.spawned)) }
+        ensures effects { IfOk result (HasEffects (Emitted (event.Sync (present_of self.old ++ self.old.rank ∷ [])) ∷ sync_effects self.old.top.spawned)) }
         ensures passed { OnOk result (self.new ≡ record self.old { rank = self.old.rank + 1; leaving = true; top = record self.old.top { spawned = false } }) }
         ensures fine { OnErr result (result ≡ Err halt.Memory) }
         ensures child { (plan : PlanView) → IfOk result (MovesTrail plan) }

@@ -52,7 +52,7 @@ impl InstanceParts {
             Act::Store(x, i, e) => quiet(self.store(places, x, i, e)),
             Act::Spawn(c) => spawn_as_move(alloc, self.spawn(alloc, plan, places, None, c)),
             Act::Call(c) => quiet(self.call(alloc, plan, places, None, c)),
-            Act::Sync => self.wait(),
+            Act::Sync => self.sync_statement(),
             Act::Print(e) => emitted(self.print(places, e)),
             Act::If(e, _, _) => quiet(self.branch(places, e)),
             Act::While(e, _) => quiet(self.while_test(places, e)),
@@ -108,7 +108,7 @@ impl InstanceParts {
         Ok(())
     }
 
-    fn wait(&mut self) -> Result<MoveResult, Halt>
+    fn sync_statement(&mut self) -> Result<MoveResult, Halt>
         requires { self.old.rank < 2 ^ 32 }
         ensures shows { (plan : PlanView) (st : Stmt) → Acts plan st act.Sync self.old self.new result }
         ensures child { (plan : PlanView) → IfOk result (MovesTrail plan) }

@@ -18,7 +18,7 @@ use Rattle.serial_meaning.specs.declared.environment.Variable.{Variable}
 use Rattle.serial_meaning.specs.declared.value.Value.{Value}
 use Rattle.strand_values.specs.Changes.{called_with}
 use Rattle.strand_values.specs.Environments.{EnvironmentView, IsOwnPlace, with_variables, with_what}
-use Rattle.strand_values.specs.Gives.{Gives}
+use Rattle.strand_values.specs.Gives.{Calculates}
 use Rattle.strand_values.specs.declared.halt.Halt.{Halt}
 use Rattle.strand_values.specs.declared.halt.Halt.TheVariants as halt
 use Rattle.strand_values.proofs.Filled.{is_place}
@@ -211,7 +211,7 @@ module _ (names : List (List ℕ)) (env : Env) (ps : List Param) (es : List Expr
         (first_left ∙ ap (λ (y : Val). let r : Result (List Value) FaultKind = y >>= λ w. values_of (drop (i + 1) es) env >>= λ vs. Ok (w ∷ vs) in r) known)
 
   -- the fault of the first that is left is the call's
-  pub called-fails : (i : ℕ) (made : EnvironmentView) → IsCalled i made → (e : Expr) → i < length es → e ≡ get_or es i e → (h : Halt) → Gives {A = Value} (Err h) (value_of e env) → Gives {A = EnvironmentView} (Err h) (called_with names ps es env)
+  pub called-fails : (i : ℕ) (made : EnvironmentView) → IsCalled i made → (e : Expr) → i < length es → e ≡ get_or es i e → (h : Halt) → Calculates {A = Value} (Err h) (value_of e env) → Calculates {A = EnvironmentView} (Err h) (called_with names ps es env)
   called-fails i made is e here at (halt.Fault kind) g = is.rest ∙ fault_met i made.variables e here at kind g
   called-fails i made is e here at halt.Memory g = tt
 

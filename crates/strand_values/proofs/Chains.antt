@@ -11,7 +11,7 @@ use Rattle.serial_meaning.specs.Values.{Val, Env, Meaning, as_integer, added, pr
 use Rattle.serial_meaning.specs.declared.value.Value.{Value}
 use Rattle.serial_meaning.specs.declared.value.Value.TheVariants.{Int}
 use Rattle.serial_meaning.specs.declared.event.FaultKind.{FaultKind}
-use Rattle.strand_values.specs.Gives.{Gives, numbered, integral}
+use Rattle.strand_values.specs.Gives.{Calculates, integer_result, integral}
 use Rattle.strand_values.specs.declared.halt.Halt.{Halt}
 use Rattle.strand_values.specs.declared.halt.Halt.TheVariants as halt
 
@@ -26,11 +26,11 @@ failed : (r : Result ℤ Halt) (h : Halt) → IsErrAnd r (λ e. e ≡ h) → int
 failed (Ok n) h g = absurd g
 failed (Err k) h g = ap (λ e. Err e) g
 
-given : (r : Result ℤ Halt) (h : Halt) (d : Val) → IsErrAnd r (λ e. e ≡ h) → Gives {A = Value} (Err h) d → Gives (integral r) d
-given r h d so g = subst (λ x. Gives {A = Value} x d) (sym (failed r h so)) g
+given : (r : Result ℤ Halt) (h : Halt) (d : Val) → IsErrAnd r (λ e. e ≡ h) → Calculates {A = Value} (Err h) d → Calculates (integral r) d
+given r h d so g = subst (λ x. Calculates {A = Value} x d) (sym (failed r h so)) g
 
 -- an operand that counts as no number ends a chain
-ended : (f : Val → Val) (w : Val) (h : Halt) → ((kind : FaultKind) → f (Err kind) ≡ Err kind) → Gives {A = ℤ} (Err h) (numbered w) → Gives {A = Value} (Err h) (f w)
+ended : (f : Val → Val) (w : Val) (h : Halt) → ((kind : FaultKind) → f (Err kind) ≡ Err kind) → Calculates {A = ℤ} (Err h) (integer_result w) → Calculates {A = Value} (Err h) (f w)
 ended f w halt.Memory out g = tt
 ended f (Ok v) (halt.Fault kind) out g = absurd (cc)
 ended f (Err k) (halt.Fault kind) out g = let same : k ≡ kind = cc in out k ∙ ap (λ e. Err e) same
@@ -53,38 +53,38 @@ module _ (env : Env) where
   at_product (q ∷ qs) (suc i) p v h e = at_product qs i p v (omega arith) e
 
   -- the number of an operand goes into the chain
-  goes : (f : ℤ → Val) (g : Value → Val) (w : Val) (m s : ℤ) → numbered w ≡ Ok m → f m ≡ Ok (Int s) → (w >>= λ y. f (as_integer y) >>= g) ≡ g (Int s)
+  goes : (f : ℤ → Val) (g : Value → Val) (w : Val) (m s : ℤ) → integer_result w ≡ Ok m → f m ≡ Ok (Int s) → (w >>= λ y. f (as_integer y) >>= g) ≡ g (Int s)
   goes f g (Err kind) m s h k = absurd (cc)
   goes f g (Ok y) m s h k = let e : as_integer y ≡ m = cc in rw (e, k) refl
 
-  pub next_sum : (rest : List SumPart) (i : ℕ) (p : SumPart) (n : ℤ) (d : Val) (m s : ℤ) → i < length rest → p ≡ get_or rest i p → numbered (value_of p.operand env) ≡ Ok m → added p.minus n m ≡ Ok (Int s) →
+  pub next_sum : (rest : List SumPart) (i : ℕ) (p : SumPart) (n : ℤ) (d : Val) (m s : ℤ) → i < length rest → p ≡ get_or rest i p → integer_result (value_of p.operand env) ≡ Ok m → added p.minus n m ≡ Ok (Int s) →
       d ≡ sums env (Int n) (map sum_part (drop i rest)) → d ≡ sums env (Int s) (map sum_part (drop (suc i) rest))
   next_sum rest i p n d m s h e w k so = so ∙ at_sum rest i p (Int n) h e ∙ goes (added p.minus n) (λ z. sums env z (map sum_part (drop (suc i) rest))) (value_of p.operand env) m s w k
 
-  pub next_product : (rest : List ProductPart) (i : ℕ) (p : ProductPart) (n : ℤ) (d : Val) (m s : ℤ) → i < length rest → p ≡ get_or rest i p → numbered (value_of p.operand env) ≡ Ok m → product p.sign n m ≡ Ok (Int s) →
+  pub next_product : (rest : List ProductPart) (i : ℕ) (p : ProductPart) (n : ℤ) (d : Val) (m s : ℤ) → i < length rest → p ≡ get_or rest i p → integer_result (value_of p.operand env) ≡ Ok m → product p.sign n m ≡ Ok (Int s) →
       d ≡ products env (Int n) (map product_part (drop i rest)) → d ≡ products env (Int s) (map product_part (drop (suc i) rest))
   next_product rest i p n d m s h e w k so = so ∙ at_product rest i p (Int n) h e ∙ goes (product p.sign n) (λ z. products env z (map product_part (drop (suc i) rest))) (value_of p.operand env) m s w k
 
   -- an operand without one ends it
   pub sum_ends : (rest : List SumPart) (i : ℕ) (p : SumPart) (n : ℤ) (d : Val) (h : Halt) (r : Result ℤ Halt) → i < length rest → p ≡ get_or rest i p →
-      Gives {A = ℤ} (Err h) (numbered (value_of p.operand env)) → IsErrAnd r (λ e. e ≡ h) → d ≡ sums env (Int n) (map sum_part (drop i rest)) → Gives (integral r) d
+      Calculates {A = ℤ} (Err h) (integer_result (value_of p.operand env)) → IsErrAnd r (λ e. e ≡ h) → d ≡ sums env (Int n) (map sum_part (drop i rest)) → Calculates (integral r) d
   sum_ends rest i p n d h r k e g so from =
       let f : Val → Val = λ w. w >>= λ y. added p.minus n (as_integer y) >>= λ z. sums env z (map sum_part (drop (suc i) rest)) in
-      given r h d so (subst (λ x. Gives {A = Value} (Err h) x) (sym (from ∙ at_sum rest i p (Int n) k e)) (ended f (value_of p.operand env) h (λ kind. refl) g))
+      given r h d so (subst (λ x. Calculates {A = Value} (Err h) x) (sym (from ∙ at_sum rest i p (Int n) k e)) (ended f (value_of p.operand env) h (λ kind. refl) g))
 
   pub product_ends : (rest : List ProductPart) (i : ℕ) (p : ProductPart) (n : ℤ) (d : Val) (h : Halt) (r : Result ℤ Halt) → i < length rest → p ≡ get_or rest i p →
-      Gives {A = ℤ} (Err h) (numbered (value_of p.operand env)) → IsErrAnd r (λ e. e ≡ h) → d ≡ products env (Int n) (map product_part (drop i rest)) → Gives (integral r) d
+      Calculates {A = ℤ} (Err h) (integer_result (value_of p.operand env)) → IsErrAnd r (λ e. e ≡ h) → d ≡ products env (Int n) (map product_part (drop i rest)) → Calculates (integral r) d
   product_ends rest i p n d h r k e g so from =
       let f : Val → Val = λ w. w >>= λ y. product p.sign n (as_integer y) >>= λ z. products env z (map product_part (drop (suc i) rest)) in
-      given r h d so (subst (λ x. Gives {A = Value} (Err h) x) (sym (from ∙ at_product rest i p (Int n) k e)) (ended f (value_of p.operand env) h (λ kind. refl) g))
+      given r h d so (subst (λ x. Calculates {A = Value} (Err h) x) (sym (from ∙ at_product rest i p (Int n) k e)) (ended f (value_of p.operand env) h (λ kind. refl) g))
 
-  stops : (f : ℤ → Val) (g : Value → Val) (w : Val) (m : ℤ) (kind : FaultKind) → numbered w ≡ Ok m → f m ≡ Err kind → (w >>= λ y. f (as_integer y) >>= g) ≡ Err kind
+  stops : (f : ℤ → Val) (g : Value → Val) (w : Val) (m : ℤ) (kind : FaultKind) → integer_result w ≡ Ok m → f m ≡ Err kind → (w >>= λ y. f (as_integer y) >>= g) ≡ Err kind
   stops f g (Err k) m kind h e = absurd (cc)
   stops f g (Ok y) m kind h e = let same : as_integer y ≡ m = cc in rw (same, e) refl
 
   -- and so does a division by 0
   pub product_stops : (rest : List ProductPart) (i : ℕ) (p : ProductPart) (n : ℤ) (d : Val) (m : ℤ) (kind : FaultKind) (r : Result ℤ Halt) → i < length rest → p ≡ get_or rest i p →
-      numbered (value_of p.operand env) ≡ Ok m → product p.sign n m ≡ Err kind → IsErrAnd r (λ e. e ≡ halt.Fault kind) → d ≡ products env (Int n) (map product_part (drop i rest)) → Gives (integral r) d
+      integer_result (value_of p.operand env) ≡ Ok m → product p.sign n m ≡ Err kind → IsErrAnd r (λ e. e ≡ halt.Fault kind) → d ≡ products env (Int n) (map product_part (drop i rest)) → Calculates (integral r) d
   product_stops rest i p n d m kind r k e w stop so from =
       let whole = from ∙ at_product rest i p (Int n) k e ∙ stops (product p.sign n) (λ z. products env z (map product_part (drop (suc i) rest))) (value_of p.operand env) m kind w stop in
       given r (halt.Fault kind) d so whole

@@ -19,60 +19,60 @@ use Rattle.serial_meaning.specs.Runs.{◌>>=◌}
 use Rattle.serial_meaning.specs.Values.{Val, Env, Meaning, as_integer, object, truth, compared, added, over, product, sums, products, sum_part, product_part, value_of, value_at, product_at, sum_at}
 use Rattle.serial_meaning.specs.declared.value.Value.{Value}
 use Rattle.serial_meaning.specs.declared.value.Value.TheVariants.{Int}
-use Rattle.strand_values.specs.Gives.{Gives, numbered, integral}
+use Rattle.strand_values.specs.Gives.{Calculates, integer_result, integral}
 use Rattle.strand_values.specs.declared.halt.Halt.{Halt}
 use Rattle.strand_values.specs.declared.halt.Halt.TheVariants as halt
 
 -- an integer that is given is the number
-numbered_gives : (r : Result ℤ Halt) (d : Val) → Gives (integral r) d → Gives r (numbered d)
-numbered_gives (Ok n) d h = ap numbered h
-numbered_gives (Err (halt.Fault kind)) d h = ap numbered h
+numbered_gives : (r : Result ℤ Halt) (d : Val) → Calculates (integral r) d → Calculates r (integer_result d)
+numbered_gives (Ok n) d h = ap integer_result h
+numbered_gives (Err (halt.Fault kind)) d h = ap integer_result h
 numbered_gives (Err halt.Memory) d h = tt
 
 -- a number is given as the integer that it is, where the value is one
-pub whole_gives : (r : Result ℤ Halt) (d : Val) → d ≡ integral (numbered d) → Gives r (numbered d) → Gives (integral r) d
+pub whole_gives : (r : Result ℤ Halt) (d : Val) → d ≡ integral (integer_result d) → Calculates r (integer_result d) → Calculates (integral r) d
 whole_gives (Ok n) d e h = e ∙ ap integral h
 whole_gives (Err (halt.Fault kind)) d e h = e ∙ ap integral h
 whole_gives (Err halt.Memory) d e h = tt
 
-truth_is_int : (b : Bool) → let d : Val = Ok (truth b) in d ≡ integral (numbered d)
+truth_is_int : (b : Bool) → let d : Val = Ok (truth b) in d ≡ integral (integer_result d)
 truth_is_int true = refl
 truth_is_int false = refl
 
 pub comparison_is_int : (how : Comparison) (left right : Val) →
-    (left >>= λ x. right >>= λ y. Ok (truth (compared how (as_integer x) (as_integer y)))) ≡ integral (numbered (left >>= λ x. right >>= λ y. Ok (truth (compared how (as_integer x) (as_integer y)))))
+    (left >>= λ x. right >>= λ y. Ok (truth (compared how (as_integer x) (as_integer y)))) ≡ integral (integer_result (left >>= λ x. right >>= λ y. Ok (truth (compared how (as_integer x) (as_integer y)))))
 comparison_is_int how (Err kind) right = refl
 comparison_is_int how (Ok x) (Err kind) = refl
 comparison_is_int how (Ok x) (Ok y) = truth_is_int (compared how (as_integer x) (as_integer y))
 
 pub truth_of_two_is_int : (f : Value → Value → Bool) (left right : Val) →
-    (left >>= λ x. right >>= λ y. Ok (truth (f x y))) ≡ integral (numbered (left >>= λ x. right >>= λ y. Ok (truth (f x y))))
+    (left >>= λ x. right >>= λ y. Ok (truth (f x y))) ≡ integral (integer_result (left >>= λ x. right >>= λ y. Ok (truth (f x y))))
 truth_of_two_is_int f (Err kind) right = refl
 truth_of_two_is_int f (Ok x) (Err kind) = refl
 truth_of_two_is_int f (Ok x) (Ok y) = truth_is_int (f x y)
 
 -- Only the number of a chain's first value counts
 
-sum_begins : (env : Env) (d : Val) (n : ℤ) (ps : List (Bool × Meaning)) → numbered d ≡ Ok n → numbered (d >>= λ v. sums env v ps) ≡ numbered (sums env (Int n) ps)
+sum_begins : (env : Env) (d : Val) (n : ℤ) (ps : List (Bool × Meaning)) → integer_result d ≡ Ok n → integer_result (d >>= λ v. sums env v ps) ≡ integer_result (sums env (Int n) ps)
 sum_begins env (Err kind) n ps h = absurd (cc)
 sum_begins env (Ok v) n [] h = h
 sum_begins env (Ok v) n (p ∷ ps) h = let e : as_integer v ≡ n = cc in rw e refl
 
-pub sum_gives : (env : Env) (d : Val) (n : ℤ) (ps : List (Bool × Meaning)) (r : Result ℤ Halt) → numbered d ≡ Ok n → Gives (integral r) (sums env (Int n) ps) → Gives r (numbered (d >>= λ v. sums env v ps))
+pub sum_gives : (env : Env) (d : Val) (n : ℤ) (ps : List (Bool × Meaning)) (r : Result ℤ Halt) → integer_result d ≡ Ok n → Calculates (integral r) (sums env (Int n) ps) → Calculates r (integer_result (d >>= λ v. sums env v ps))
 sum_gives env d n ps r h g = rw (sum_begins env d n ps h) (numbered_gives r (sums env (Int n) ps) g)
 
-product_begins : (env : Env) (d : Val) (n : ℤ) (ps : List (ProductSign × Meaning)) → numbered d ≡ Ok n → numbered (d >>= λ v. products env v ps) ≡ numbered (products env (Int n) ps)
+product_begins : (env : Env) (d : Val) (n : ℤ) (ps : List (ProductSign × Meaning)) → integer_result d ≡ Ok n → integer_result (d >>= λ v. products env v ps) ≡ integer_result (products env (Int n) ps)
 product_begins env (Err kind) n ps h = absurd (cc)
 product_begins env (Ok v) n [] h = h
 product_begins env (Ok v) n (p ∷ ps) h = let e : as_integer v ≡ n = cc in rw e refl
 
-pub product_gives : (env : Env) (d : Val) (n : ℤ) (ps : List (ProductSign × Meaning)) (r : Result ℤ Halt) → numbered d ≡ Ok n → Gives (integral r) (products env (Int n) ps) → Gives r (numbered (d >>= λ v. products env v ps))
+pub product_gives : (env : Env) (d : Val) (n : ℤ) (ps : List (ProductSign × Meaning)) (r : Result ℤ Halt) → integer_result d ≡ Ok n → Calculates (integral r) (products env (Int n) ps) → Calculates r (integer_result (d >>= λ v. products env v ps))
 product_gives env d n ps r h g = rw (product_begins env d n ps h) (numbered_gives r (products env (Int n) ps) g)
 
 -- Where there is an operand more, the value is an integer
 
 abbrev IsInt : Val → Type 0
-IsInt d = d ≡ integral (numbered d)
+IsInt d = d ≡ integral (integer_result d)
 
 goes_int : (r : Val) (f : Value → Val) → IsInt r → ((m : ℤ) → IsInt (f (Int m))) → IsInt (r >>= f)
 goes_int (Err kind) f h g = refl
@@ -113,7 +113,7 @@ products_of_int env [] n = refl
 products_of_int env (p ∷ ps) n = more_multiplied env p.0 n (p.1 env) ps (λ m. products_of_int env ps m)
 
 pub sum_is_int : (env : Env) (d : Val) (rest : List SumPart) → (length rest == 0) ≡ false →
-    (d >>= λ v. sums env v (map sum_part rest)) ≡ integral (numbered (d >>= λ v. sums env v (map sum_part rest)))
+    (d >>= λ v. sums env v (map sum_part rest)) ≡ integral (integer_result (d >>= λ v. sums env v (map sum_part rest)))
 sum_is_int env (Err kind) rest h = refl
 sum_is_int env (Ok v) [] h = absurd (cc)
 sum_is_int env (Ok v) (p ∷ ps) h =
@@ -121,7 +121,7 @@ sum_is_int env (Ok v) (p ∷ ps) h =
     more_added env q.0 (as_integer v) (q.1 env) (map sum_part ps) (λ m. sums_of_int env (map sum_part ps) m)
 
 pub product_is_int : (env : Env) (d : Val) (rest : List ProductPart) → (length rest == 0) ≡ false →
-    (d >>= λ v. products env v (map product_part rest)) ≡ integral (numbered (d >>= λ v. products env v (map product_part rest)))
+    (d >>= λ v. products env v (map product_part rest)) ≡ integral (integer_result (d >>= λ v. products env v (map product_part rest)))
 product_is_int env (Err kind) rest h = refl
 product_is_int env (Ok v) [] h = absurd (cc)
 product_is_int env (Ok v) (p ∷ ps) h =
@@ -130,20 +130,20 @@ product_is_int env (Ok v) (p ∷ ps) h =
 
 -- The same where there is a number
 
-pub product_counts : (env : Env) (d : Val) (n : ℤ) (ps : List (ProductSign × Meaning)) (r : Option ℤ) → numbered d ≡ Ok n →
-    IfSome r (λ m. products env (Int n) ps ≡ Ok (Int m)) → IfSome r (λ m. numbered (d >>= λ v. products env v ps) ≡ Ok m)
+pub product_counts : (env : Env) (d : Val) (n : ℤ) (ps : List (ProductSign × Meaning)) (r : Option ℤ) → integer_result d ≡ Ok n →
+    IfSome r (λ m. products env (Int n) ps ≡ Ok (Int m)) → IfSome r (λ m. integer_result (d >>= λ v. products env v ps) ≡ Ok m)
 product_counts env d n ps None h g = tt
-product_counts env d n ps (Some m) h g = product_begins env d n ps h ∙ ap numbered g
+product_counts env d n ps (Some m) h g = product_begins env d n ps h ∙ ap integer_result g
 
 pub product_is : (env : Env) (d : Val) (rest : List ProductPart) (r : Option ℤ) → (length rest == 0) ≡ false →
-    IfSome r (λ m. numbered (d >>= λ v. products env v (map product_part rest)) ≡ Ok m) → IfSome r (λ m. (d >>= λ v. products env v (map product_part rest)) ≡ Ok (Int m))
+    IfSome r (λ m. integer_result (d >>= λ v. products env v (map product_part rest)) ≡ Ok m) → IfSome r (λ m. (d >>= λ v. products env v (map product_part rest)) ≡ Ok (Int m))
 product_is env d rest None some g = tt
 product_is env d rest (Some m) some g = product_is_int env d rest some ∙ ap integral g
 
-pub sum_is : (env : Env) (d : Val) (n : ℤ) (rest : List SumPart) (r : Option ℤ) → (length rest == 0) ≡ false → numbered d ≡ Ok n →
+pub sum_is : (env : Env) (d : Val) (n : ℤ) (rest : List SumPart) (r : Option ℤ) → (length rest == 0) ≡ false → integer_result d ≡ Ok n →
     IfSome r (λ m. sums env (Int n) (map sum_part rest) ≡ Ok (Int m)) → IfSome r (λ m. (d >>= λ v. sums env v (map sum_part rest)) ≡ Ok (Int m))
 sum_is env d n rest None some h g = tt
-sum_is env d n rest (Some m) some h g = sum_is_int env d rest some ∙ ap integral (sum_begins env d n (map sum_part rest) h ∙ ap numbered g)
+sum_is env d n rest (Some m) some h g = sum_is_int env d rest some ∙ ap integral (sum_begins env d n (map sum_part rest) h ∙ ap integer_result g)
 
 -- and without one, it is the first
 

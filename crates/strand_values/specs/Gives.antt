@@ -9,15 +9,15 @@ use Rattle.strand_values.specs.declared.halt.Halt.{Halt}
 use Rattle.strand_values.specs.declared.halt.Halt.TheVariants as halt
 
 -- A value or a fault is the defined one. Want of memory may come at any time.
-abbrev pub Gives : {A : Type 0} → Result A Halt → Result A FaultKind → Type 0
-Gives (Ok a) defined = defined ≡ Ok a
-Gives (Err (halt.Fault kind)) defined = defined ≡ Err kind
-Gives (Err halt.Memory) defined = Unit {0}
+abbrev pub Calculates : {A : Type 0} → Result A Halt → Result A FaultKind → Type 0
+Calculates (Ok a) defined = defined ≡ Ok a
+Calculates (Err (halt.Fault kind)) defined = defined ≡ Err kind
+Calculates (Err halt.Memory) defined = Unit {0}
 
 -- the number that a value counts as
-abbrev pub numbered : {E : Type 0} → Result Value E → Result ℤ E
-numbered (Ok v) = Ok (as_integer v)
-numbered (Err e) = Err e
+abbrev pub integer_result : {E : Type 0} → Result Value E → Result ℤ E
+integer_result (Ok v) = Ok (as_integer v)
+integer_result (Err e) = Err e
 
 -- a number as the value that it is
 abbrev pub integral : {E : Type 0} → Result ℤ E → Result Value E

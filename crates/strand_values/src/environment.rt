@@ -9,7 +9,7 @@ ghost use Rattle.serial_meaning.specs.declared.value.Value.TheVariants.{Int};
 ghost use Rattle.strand_values.specs.declared.halt.Halt.TheVariants.{Fault};
 ghost use Rattle.strand_values.specs.Changes.{assigned, called_with};
 ghost use Rattle.strand_values.specs.Environments.{EnvironmentView, FindsExpression, FindsArguments, FindsName, IsOwnPlace, held, with_filled, with_variables, with_what};
-ghost use Rattle.strand_values.specs.Gives.{Gives, numbered, holding};
+ghost use Rattle.strand_values.specs.Gives.{Calculates, integer_result, holding};
 
 use crate::entry::Entry;
 use crate::halt::Halt;
@@ -94,7 +94,7 @@ impl Environment {
     ) -> Result<Environment, Halt>
         requires params { stand_from 0 names.now params.now ≡ true }
         requires args { FindsArguments places.now self.now args.now }
-        ensures { Gives result (called_with names.now params.now args.now self.now.variables) }
+        ensures { Calculates result (called_with names.now params.now args.now self.now.variables) }
     {
         let mut env = Environment::vacant(alloc, names)?;
         for i in 0..args.len() {
@@ -109,7 +109,7 @@ impl Environment {
     /// The value of an expression, or the fault that is met first from left to right. An id shares its memory.
     pub fn value(&self, places: &[u16], e: &Expr) -> Result<Value, Halt>
         requires { FindsExpression places.now self.now e.now }
-        ensures { Gives result (value_of e.now self.now.variables) }
+        ensures { Calculates result (value_of e.now self.now.variables) }
     {
         value::evaluate(self, places, e)
     }
@@ -117,7 +117,7 @@ impl Environment {
     /// The number that the value of an expression counts as.
     pub fn integer(&self, places: &[u16], e: &Expr) -> Result<i64, Halt>
         requires { FindsExpression places.now self.now e.now }
-        ensures { Gives result (numbered (value_of e.now self.now.variables)) }
+        ensures { Calculates result (integer_result (value_of e.now self.now.variables)) }
     {
         value::integer(self, places, e)
     }
@@ -134,7 +134,7 @@ impl Environment {
     /// Whether a condition holds: its value isn't 0.
     pub fn holds(&self, places: &[u16], e: &Expr) -> Result<bool, Halt>
         requires { FindsExpression places.now self.now e.now }
-        ensures { Gives result (holding (value_of e.now self.now.variables)) }
+        ensures { Calculates result (holding (value_of e.now self.now.variables)) }
     {
         match plain::plain(self, places, e) {
             Some(number) => Ok(number != 0),
@@ -146,7 +146,7 @@ impl Environment {
     #[inline(always)]
     pub fn values(&self, alloc: Global, places: &[u16], args: &[Expr]) -> Result<Items<Value>, Halt>
         requires { FindsArguments places.now self.now args.now }
-        ensures { Gives result (values_of args.now self.now.variables) }
+        ensures { Calculates result (values_of args.now self.now.variables) }
     {
         value::values(alloc, self, places, args)
     }

@@ -6,7 +6,7 @@ ghost use Rattle.serial_meaning.specs.Values.{value_of, sums, products, sum_part
 ghost use Rattle.serial_meaning.specs.declared.value.Value.TheVariants.{Int};
 ghost use Rattle.script_check.specs.Places.{all_true, every_in_factor, every_in_summand, has_place};
 ghost use Rattle.strand_values.specs.Environments.{FindsExpression};
-ghost use Rattle.strand_values.specs.Gives.{numbered};
+ghost use Rattle.strand_values.specs.Gives.{integer_result};
 ghost use Rattle.strand_values.specs.Nodes as node;
 
 use crate::arithmetic::{compare, product, sum};
@@ -61,7 +61,7 @@ fn calculated(env: &Environment, places: &[u16], e: &Expr) -> Option<i64>
 #[inline(always)]
 fn operand(env: &Environment, places: &[u16], e: &Expr) -> Option<i64>
     requires { FindsExpression places.now env.now e.now }
-    ensures { IfSome result (λ n. numbered (value_of e.now env.now.variables) ≡ Ok n) }
+    ensures { IfSome result (λ n. integer_result (value_of e.now env.now.variables) ≡ Ok n) }
 {
     match e {
         Expr::Number(number) => Some(number.value),
@@ -73,7 +73,7 @@ fn operand(env: &Environment, places: &[u16], e: &Expr) -> Option<i64>
 #[inline(always)]
 fn first_operand(env: &Environment, places: &[u16], e: &Expr) -> Option<i64>
     requires { FindsExpression places.now env.now e.now }
-    ensures { IfSome result (λ n. numbered (value_of e.now env.now.variables) ≡ Ok n) }
+    ensures { IfSome result (λ n. integer_result (value_of e.now env.now.variables) ≡ Ok n) }
 {
     match e {
         Expr::Number(number) => Some(number.value),
@@ -87,7 +87,7 @@ fn first_operand(env: &Environment, places: &[u16], e: &Expr) -> Option<i64>
 #[inline(always)]
 fn leaf(env: &Environment, places: &[u16], e: &Expr) -> Option<i64>
     requires { FindsExpression places.now env.now e.now }
-    ensures { IfSome result (λ n. numbered (value_of e.now env.now.variables) ≡ Ok n) }
+    ensures { IfSome result (λ n. integer_result (value_of e.now env.now.variables) ≡ Ok n) }
 {
     match e {
         Expr::Number(number) => Some(number.value),
@@ -114,7 +114,7 @@ fn total(env: &Environment, places: &[u16], first: i64, rest: &[SumPart]) -> Opt
 fn scaled(env: &Environment, places: &[u16], first: &Expr, rest: &[ProductPart]) -> Option<i64>
     requires first { FindsExpression places.now env.now first.now }
     requires rest { all_true (map (every_in_factor (has_place places.now env.now.names)) rest.now) ≡ true }
-    ensures { IfSome result (λ n. numbered (node.product_value env.now.variables (value_of first.now env.now.variables) rest.now) ≡ Ok n) }
+    ensures { IfSome result (λ n. integer_result (node.product_value env.now.variables (value_of first.now env.now.variables) rest.now) ≡ Ok n) }
 {
     let first = leaf(env, places, first)?;
     multiplied(env, places, first, rest)

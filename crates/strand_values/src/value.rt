@@ -5,7 +5,7 @@ ghost use Rattle.serial_meaning.specs.Values.{Env, value_of, values_of, sums, pr
 ghost use Rattle.serial_meaning.specs.declared.value.Value.TheVariants.{Int};
 ghost use Rattle.script_check.specs.Places.{all_true, every_in_factor, every_in_summand, has_place};
 ghost use Rattle.strand_values.specs.Environments.{FindsExpression, FindsArguments, FindsName};
-ghost use Rattle.strand_values.specs.Gives.{Gives, numbered, integral};
+ghost use Rattle.strand_values.specs.Gives.{Calculates, integer_result, integral};
 ghost use Rattle.strand_values.specs.Nodes as node;
 
 use crate::arithmetic::{compare, product, sum};
@@ -20,7 +20,7 @@ use std::alloc::Global;
 /// The same as `value`. A number or a calculation of plain operands takes a shorter way.
 pub(crate) fn evaluate(env: &Environment, places: &[u16], e: &Expr) -> Result<Value, Halt>
     requires { FindsExpression places.now env.now e.now }
-    ensures { Gives result (value_of e.now env.now.variables) }
+    ensures { Calculates result (value_of e.now env.now.variables) }
 {
     match plain(env, places, e) {
         Some(number) => Ok(Value::Int(number)),
@@ -31,7 +31,7 @@ pub(crate) fn evaluate(env: &Environment, places: &[u16], e: &Expr) -> Result<Va
 #[cycle(value)]
 pub(crate) fn value(env: &Environment, places: &[u16], e: &Expr) -> Result<Value, Halt>
     requires found { FindsExpression places.now env.now e.now }
-    ensures { Gives result (value_of e.now env.now.variables) }
+    ensures { Calculates result (value_of e.now env.now.variables) }
 {
     match e {
         Expr::Var(name) => env.scalar(places, name),
@@ -40,28 +40,28 @@ pub(crate) fn value(env: &Environment, places: &[u16], e: &Expr) -> Result<Value
             if rest.as_slice().is_empty() {
                 value(env, places, first.get())
             } else {
-                whole(integer(env, places, e))
+                integral(integer(env, places, e))
             }
         }
         Expr::Product(first, rest) => {
             if rest.as_slice().is_empty() {
                 value(env, places, first.get())
             } else {
-                whole(integer(env, places, e))
+                integral(integer(env, places, e))
             }
         }
-        Expr::Number(_) => whole(integer(env, places, e)),
-        Expr::Item(_, _) => whole(integer(env, places, e)),
-        Expr::Neg(_, _) => whole(integer(env, places, e)),
-        Expr::Same(_, _, _) => whole(integer(env, places, e)),
-        Expr::Older(_, _, _) => whole(integer(env, places, e)),
-        Expr::Compare(_, _, _) => whole(integer(env, places, e)),
+        Expr::Number(_) => integral(integer(env, places, e)),
+        Expr::Item(_, _) => integral(integer(env, places, e)),
+        Expr::Neg(_, _) => integral(integer(env, places, e)),
+        Expr::Same(_, _, _) => integral(integer(env, places, e)),
+        Expr::Older(_, _, _) => integral(integer(env, places, e)),
+        Expr::Compare(_, _, _) => integral(integer(env, places, e)),
     }
 }
 
 /// Whether the value is an integer, whatever the variables are. Only that of a variable may be an id, and what is no more than one.
 pub(crate) fn is_integer(e: &Expr) -> bool
-    ensures { (env : Env) → IsTrue result → value_of e.now env ≡ integral (numbered (value_of e.now env)) }
+    ensures { (env : Env) → IsTrue result → value_of e.now env ≡ integral (integer_result (value_of e.now env)) }
 {
     match e {
         Expr::Var(_) => false,
@@ -80,7 +80,7 @@ pub(crate) fn is_integer(e: &Expr) -> bool
 #[cycle(value)]
 pub(crate) fn integer(env: &Environment, places: &[u16], e: &Expr) -> Result<i64, Halt>
     requires found { FindsExpression places.now env.now e.now }
-    ensures { Gives result (numbered (value_of e.now env.now.variables)) }
+    ensures { Calculates result (integer_result (value_of e.now env.now.variables)) }
 {
     match e {
         Expr::Number(number) => Ok(number.value),
@@ -115,7 +115,7 @@ pub(crate) fn integer(env: &Environment, places: &[u16], e: &Expr) -> Result<i64
 #[cycle(value)]
 fn operand(env: &Environment, places: &[u16], e: &Expr) -> Result<i64, Halt>
     requires found { FindsExpression places.now env.now e.now }
-    ensures { Gives result (numbered (value_of e.now env.now.variables)) }
+    ensures { Calculates result (integer_result (value_of e.now env.now.variables)) }
 {
     match e {
         Expr::Number(number) => Ok(number.value),
@@ -125,7 +125,7 @@ fn operand(env: &Environment, places: &[u16], e: &Expr) -> Result<i64, Halt>
 }
 
 /// A number as a value.
-fn whole(number: Result<i64, Halt>) -> Result<Value, Halt>
+fn integral(number: Result<i64, Halt>) -> Result<Value, Halt>
     ensures { result ≡ integral number }
 {
     match number {
@@ -138,7 +138,7 @@ fn whole(number: Result<i64, Halt>) -> Result<Value, Halt>
 fn item_at(env: &Environment, places: &[u16], name: &Name, index: &Expr) -> Result<i64, Halt>
     requires name { FindsName places.now env.now name.now }
     requires index { FindsExpression places.now env.now index.now }
-    ensures { Gives (integral result) (node.item_at env.now.variables name.now.bytes (value_of index.now env.now.variables)) }
+    ensures { Calculates (integral result) (node.item_at env.now.variables name.now.bytes (value_of index.now env.now.variables)) }
 {
     let index = operand(env, places, index)?;
     match env.item(places, name, index) {
@@ -150,7 +150,7 @@ fn item_at(env: &Environment, places: &[u16], name: &Name, index: &Expr) -> Resu
 #[cycle(value)]
 fn negated(env: &Environment, places: &[u16], operand: &Expr) -> Result<i64, Halt>
     requires found { FindsExpression places.now env.now operand.now }
-    ensures { Gives (integral result) (node.negated (value_of operand.now env.now.variables)) }
+    ensures { Calculates (integral result) (node.negated (value_of operand.now env.now.variables)) }
 {
     Ok(integer(env, places, operand)?.wrapping_neg())
 }
@@ -158,7 +158,7 @@ fn negated(env: &Environment, places: &[u16], operand: &Expr) -> Result<i64, Hal
 #[cycle(value)]
 fn same(env: &Environment, places: &[u16], left: Value, right: &Expr) -> Result<i64, Halt>
     requires found { FindsExpression places.now env.now right.now }
-    ensures { Gives (integral result) (node.same left (value_of right.now env.now.variables)) }
+    ensures { Calculates (integral result) (node.same left (value_of right.now env.now.variables)) }
 {
     let right = value(env, places, right)?;
     Ok(truth(is_same(&left, &right)))
@@ -167,7 +167,7 @@ fn same(env: &Environment, places: &[u16], left: Value, right: &Expr) -> Result<
 #[cycle(value)]
 fn older(env: &Environment, places: &[u16], left: Value, right: &Expr) -> Result<i64, Halt>
     requires found { FindsExpression places.now env.now right.now }
-    ensures { Gives (integral result) (node.older left (value_of right.now env.now.variables)) }
+    ensures { Calculates (integral result) (node.older left (value_of right.now env.now.variables)) }
 {
     let right = value(env, places, right)?;
     Ok(truth(is_older(&left, &right)))
@@ -182,7 +182,7 @@ fn comparison(
     right: &Expr,
 ) -> Result<i64, Halt>
     requires found { FindsExpression places.now env.now right.now }
-    ensures { Gives (integral result) (node.comparison left how (value_of right.now env.now.variables)) }
+    ensures { Calculates (integral result) (node.comparison left how (value_of right.now env.now.variables)) }
 {
     let right = operand(env, places, right)?;
     Ok(truth(compare(how, left, right)))
@@ -191,7 +191,7 @@ fn comparison(
 #[cycle(value)]
 fn add(env: &Environment, places: &[u16], first: i64, rest: &[SumPart]) -> Result<i64, Halt>
     requires found { all_true (map (every_in_summand (has_place places.now env.now.names)) rest.now) ≡ true }
-    ensures { Gives (integral result) (sums env.now.variables (Int first) (map sum_part rest.now)) }
+    ensures { Calculates (integral result) (sums env.now.variables (Int first) (map sum_part rest.now)) }
 {
     let mut total = first;
     for part in rest {
@@ -209,7 +209,7 @@ fn multiply(
     rest: &[ProductPart],
 ) -> Result<i64, Halt>
     requires found { all_true (map (every_in_factor (has_place places.now env.now.names)) rest.now) ≡ true }
-    ensures { Gives (integral result) (products env.now.variables (Int first) (map product_part rest.now)) }
+    ensures { Calculates (integral result) (products env.now.variables (Int first) (map product_part rest.now)) }
 {
     let mut total = first;
     for part in rest {
@@ -228,7 +228,7 @@ pub(crate) fn values(
     args: &[Expr],
 ) -> Result<Items<Value>, Halt>
     requires { FindsArguments places.now env.now args.now }
-    ensures { Gives result (values_of args.now env.now.variables) }
+    ensures { Calculates result (values_of args.now env.now.variables) }
 {
     let mut values = Vec::with_capacity(alloc, args.len())?;
     for e in args {

@@ -4,7 +4,7 @@ ghost use Rattle.std.specs.Prelude.{◌≡◌, IfSome, Ok};
 ghost use Rattle.serial_meaning.specs.Values.{slot_of, scalar, as_integer, items_of, at_index};
 ghost use Rattle.serial_meaning.specs.declared.value.Value.TheVariants.{Int};
 ghost use Rattle.strand_values.specs.Environments.{FindsName, held};
-ghost use Rattle.strand_values.specs.Gives.{Gives};
+ghost use Rattle.strand_values.specs.Gives.{Calculates};
 
 use crate::entry::Entry;
 use crate::environment::Environment;
@@ -25,7 +25,7 @@ impl Environment {
     /// A scalar's value; an id shares its memory.
     pub(crate) fn scalar(&self, places: &[u16], name: &Name) -> Result<Value, Halt>
         requires { FindsName places.now self.now name.now }
-        ensures { Gives result (Ok (scalar (slot_of self.now.variables name.now.bytes))) }
+        ensures { Calculates result (Ok (scalar (slot_of self.now.variables name.now.bytes))) }
     {
         match self.entry(places, name) {
             Entry::Int(number) => Ok(Value::Int(*number)),

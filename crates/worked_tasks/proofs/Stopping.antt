@@ -9,9 +9,9 @@ use Rattle.serial_meaning.specs.declared.origin.Origin.{Origin}
 use Rattle.strand_meaning.specs.Clear.{IsClearPlan}
 use Rattle.strand_meaning.specs.Laws.{IsSoundStop, KeepsOrigin, LeavesFewer}
 use Rattle.strand_meaning.specs.Task.{Stop, Spawn, Wait}
-use Rattle.strand_meaning.proofs.SoundSteps.Ends.{tasks_begin}
-use Rattle.strand_meaning.proofs.NextStops.Fewer.{stops_fall}
-use Rattle.strand_meaning.proofs.NextStops.Stops.{stops_are_sound, stops_keep_origins}
+use Rattle.strand_meaning.proofs.SoundSteps.StepsKeepTasks.{tasks_begin}
+use Rattle.strand_meaning.proofs.NextStops.StopsLeaveFewer.{stops_fall}
+use Rattle.strand_meaning.proofs.NextStops.OneSoundStop.{stops_are_sound, stops_keep_origins}
 use Rattle.strand_machine.specs.Family.{tag, tags}
 use Rattle.strand_machine.specs.Stops.{IsStop, Advances, answer_tags}
 use Rattle.strand_machine.specs.Tasks.{TaskView, fresh}

@@ -1,6 +1,6 @@
 -- Simulations: something is picked, it happens, less is left of the work, and main is answered by a run.
 use Rattle.std.proofs.Common.{◌≡◌, ℕ, zero, suc, ◌+◌, ◌<◌, ◌≤◌, ◌%◌, ◌^◌, true, false, List, [], ◌∷◌, Option, Some, None, MatchOption, Contains, length, map, slice_get, sym, ap, ◌∙◌, subst, arith}
-use Rattle.dotmix.specs.Words.{output, word}
+use Rattle.dotmix.specs.Words.{split_mix, seed_word}
 use Rattle.dotmix.proofs.GammaLemmas.{state_after, state_after_word}
 use Rattle.rand_xoshiro.specs.SplitMix64.{mix_u64}
 use Rattle.serial_meaning.specs.Answer.{AnswerView}
@@ -116,8 +116,8 @@ module _ (s : CoreState) (t : IsConsistent s) (none : s.root ≡ None) (w : ℕ)
 
 -- Many steps
 
-word-is : (seed i x s new : ℕ) → (x, new) ≡ mix_u64 s → s ≡ state_after seed i → x ≡ word seed (i + 1)
-word-is seed i x s new e h = ap (λ (p : ℕ × ℕ). p.0) e ∙ ap output (sym (ap (λ (p : ℕ × ℕ). p.1) e) ∙ state_after_word seed i x s new e h)
+word-is : (seed i x s new : ℕ) → (x, new) ≡ mix_u64 s → s ≡ state_after seed i → x ≡ seed_word seed (i + 1)
+word-is seed i x s new e h = ap (λ (p : ℕ × ℕ). p.0) e ∙ ap split_mix (sym (ap (λ (p : ℕ × ℕ). p.1) e) ∙ state_after_word seed i x s new e h)
 
 -- So many words of the number led to this state.
 pub record IsPlayed (plan : PlanView) (workers number words : ℕ) (s : CoreState) : Type 0 where
@@ -144,7 +144,7 @@ starts plan workers number words s b t some few small first = record {
 }
 
 module _ (plan : PlanView) (workers number words : ℕ) (s : CoreState) (p : IsPlayed plan workers number words s) (x after : ℕ) (mixed : (x, after) ≡ mix_u64 words) where
-  word-named : x ≡ word number (p.steps + 1)
+  word-named : x ≡ seed_word number (p.steps + 1)
   word-named = word-is number p.steps x words after mixed p.state
 
   pub plays-on : (next : CoreState) → PlaysOn x s next → IsPlayed plan workers number after next
@@ -158,7 +158,7 @@ module _ (plan : PlanView) (workers number words : ℕ) (s : CoreState) (p : IsP
     few = let e : length next.workers.items ≡ length s.workers.items = workers-stay s p.consistent p.root x g.event g.picks next g.goes in let f : length s.workers.items ≤ 64 = p.few in omega arith;
   }
     where
-      named : picked (core_of false s) (word number (p.steps + 1)) ≡ Some g.event
+      named : picked (core_of false s) (seed_word number (p.steps + 1)) ≡ Some g.event
       named = ap (picked (core_of false s)) (sym word-named) ∙ g.picks
 
   pub less-left : (next : CoreState) → PlaysOn x s next → work_left (core_of false next) < work_left (core_of false s)

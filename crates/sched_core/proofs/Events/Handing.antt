@@ -2,7 +2,7 @@
 use Rattle.std.specs.Arc.{arc_value}
 use Rattle.std.proofs.Common.{◌≡◌, ℕ, ◌+◌, ◌≤◌, false, List, [], ◌∷◌, ◌++◌, Some, None, Contains, slice_get, slice_set, length, map, refl, sym, ap, ◌∙◌, subst, arith}
 use Rattle.strand_meaning.specs.Task.{Task, start, Spawn}
-use Rattle.strand_meaning.proofs.NextStops.Stops.{stops_keep_origins}
+use Rattle.strand_meaning.proofs.NextStops.OneSoundStop.{stops_keep_origins}
 use Rattle.strand_machine.specs.AwaitedChildren.{awaited}
 use Rattle.strand_machine.specs.Stops.{IsStop}
 use Rattle.strand_machine.specs.Tasks.{TaskView}

@@ -2,7 +2,7 @@
 use Rattle.std.specs.Arc.{arc_value}
 use Rattle.std.proofs.Common.{◌≡◌, ℕ, ◌+◌, ◌≤◌, false, [], ◌∷◌, ◌++◌, Some, None, IfSome, Contains, slice_get, slice_set, map, refl, sym, ap, ◌∙◌, subst, arith}
 use Rattle.strand_meaning.specs.Task.{Stop, Wait, IsNext}
-use Rattle.strand_meaning.proofs.NextStops.Stops.{stops_keep_origins}
+use Rattle.strand_meaning.proofs.NextStops.OneSoundStop.{stops_keep_origins}
 use Rattle.strand_machine.specs.AwaitedChildren.{awaited}
 use Rattle.strand_machine.specs.Stops.{IsStop}
 use Rattle.strand_machine.specs.declared.stop.Stop.TheVariants as stop
@@ -75,7 +75,7 @@ module _ (s next : CoreState) (t : IsConsistent s) (none : s.root ≡ None) (w :
   abbrev pub moved : machine.Core
   moved = record (core_of false s) { workers = slice_set (map worker_of s.workers.items) w (after_stop stop (worker_of v)) }
 
-  runs : core_of false next ≡ recorded (task_in j) stop moved → steps.Runs w (core_of false s) (core_of false next)
+  runs : core_of false next ≡ recorded (task_in j) stop moved → steps.ReachesStop w (core_of false s) (core_of false next)
   runs e = record {
     task = task_in j;
     stop = stop;

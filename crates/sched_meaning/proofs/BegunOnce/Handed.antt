@@ -16,8 +16,8 @@ use Rattle.strand_meaning.specs.Trace.{AwaitedChild, Trace, after_last, emit, em
 use Rattle.strand_meaning.specs.Task.{Stage, Running, AtSync, AtLoop, Ended, Remaining, Splits, Runs, Finished, Task, own_instance, MoveOrStop, Passes, Stops, Stop, Spawn, Wait, End, IsNext, Now, Later, stage_after, child_in, stops_at, passing, step_result, ends_unless, faults_after, returned, stage_step, first_half, split_step, over_step, remaining_step, step}
 use Rattle.strand_meaning.specs.Sound.{IsEndOf, IsSoundRemaining, IsTask}
 use Rattle.strand_meaning.specs.Laws.{IsSameTask, IsSoundStep}
-use Rattle.strand_meaning.proofs.SoundSteps.Ends.{steps_are_sound}
-use Rattle.strand_meaning.proofs.NextStops.Stops.{KeepsStep, step-keeps}
+use Rattle.strand_meaning.proofs.SoundSteps.StepsKeepTasks.{steps_are_sound}
+use Rattle.strand_meaning.proofs.NextStops.OneSoundStop.{KeepsStep, step-keeps}
 use Rattle.sched_meaning.specs.Core.{awaited}
 use Rattle.sched_meaning.proofs.BegunOnce.Shows.{children, IsDeeper, AtMostOne, MoveHands, strand_at, move_hands}
 
@@ -94,25 +94,25 @@ module _ (t : Task) where
       let same : c ≡ o = cc in (h ∙ ap (λ d. awaited t ++ d ∷ []) same, subst (λ d. IsSmaller t.plan t.origin d) same (deeper-smaller t.plan t.origin c at k))
   hands-at at (c ∷ d ∷ os) o next e h k = absurd k
 
-  hands-moved : (at : List ℕ) (ts : List Effect) (e : Result Reached Fault) → MoveHands t.plan (path_of (own_instance t.origin)) at (children ts) e → HandsStep t (step_result t ts e)
-  hands-moved at ts (Ok (Stands m)) h = hands-at at (children ts) (child_in ts) (passing t ts (Runs (stage_after ts m))) (child-first ts) (child-effects ts t.trace) h
-  hands-moved at ts (Ok (Gives v)) h = child-effects ts t.trace ∙ ap (λ os. awaited t ++ os) h ∙ append-nil (awaited t)
-  hands-moved at ts (Err f) h = child-effects ts t.trace ∙ ap (λ os. awaited t ++ os) h ∙ append-nil (awaited t)
+  hands-result : (at : List ℕ) (ts : List Effect) (e : Result Reached Fault) → MoveHands t.plan (path_of (own_instance t.origin)) at (children ts) e → HandsStep t (step_result t ts e)
+  hands-result at ts (Ok (Stands m)) h = hands-at at (children ts) (child_in ts) (passing t ts (Runs (stage_after ts m))) (child-first ts) (child-effects ts t.trace) h
+  hands-result at ts (Ok (Gives v)) h = child-effects ts t.trace ∙ ap (λ os. awaited t ++ os) h ∙ append-nil (awaited t)
+  hands-result at ts (Err f) h = child-effects ts t.trace ∙ ap (λ os. awaited t ++ os) h ∙ append-nil (awaited t)
 
   hands-faults : (ps : List AwaitedChild) (f : Fault) → HandsStep t (faults_after ps t f)
   hands-faults [] f = hands-ends t.trace.fault _
   hands-faults (p ∷ ps) f = refl
 
-  hands-gave : (o : Origin) (v : Value) → HandsStep t (returned t o v)
-  hands-gave (Instance function args path) v = hands-ends t.trace.fault _
-  hands-gave (Loop function rest first path range) v = refl
+  hands-returned : (o : Origin) (v : Value) → HandsStep t (returned t o v)
+  hands-returned (Instance function args path) v = hands-ends t.trace.fault _
+  hands-returned (Loop function rest first path range) v = refl
 
   hands-stage : (stage : Stage) → HandsStep t (stage_step t stage)
   hands-stage (Running m) =
-      let path = path_of (own_instance t.origin) in let r = move t.plan path m in hands-moved (strand_at path m) r.items r.ending (move_hands t.plan path m)
+      let path = path_of (own_instance t.origin) in let r = move t.plan path m in hands-result (strand_at path m) r.items r.ending (move_hands t.plan path m)
   hands-stage (AtSync m) = refl
   hands-stage (AtLoop m) = refl
-  hands-stage (Ended (Ok v)) = hands-gave t.origin v
+  hands-stage (Ended (Ok v)) = hands-returned t.origin v
   hands-stage (Ended (Err (Own f))) = hands-faults t.trace.handed f
   hands-stage (Ended (Err (ChildFaulted f))) = hands-ends t.trace.fault _
 

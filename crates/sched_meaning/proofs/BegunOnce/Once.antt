@@ -7,7 +7,7 @@ use Rattle.serial_meaning.specs.declared.origin.Origin.{Origin}
 use Rattle.strand_meaning.specs.Clear.{IsClearPlan}
 use Rattle.strand_meaning.specs.Task.{Task, start, Stop, Spawn, Wait, End}
 use Rattle.strand_meaning.specs.Sound.{IsTask}
-use Rattle.strand_meaning.proofs.SoundSteps.Ends.{tasks_begin}
+use Rattle.strand_meaning.proofs.SoundSteps.StepsKeepTasks.{tasks_begin}
 use Rattle.sched_meaning.specs.Core.{Worker, Core, gone_on, current_tasks, tasks_of, all_tasks, origins_of, answered, IsAnswered}
 use Rattle.sched_meaning.specs.Same.{same_origin}
 use Rattle.sched_meaning.specs.Sound.{StandsOnce}

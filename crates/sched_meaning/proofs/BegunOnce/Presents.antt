@@ -15,7 +15,7 @@ use Rattle.serial_meaning.specs.Runs.{Run, done, continued, ◌then◌}
 use Rattle.serial_meaning.specs.Values.{value_of, values_of, slot_of, items_of, as_integer, is_true, at_index}
 use Rattle.serial_meaning.specs.Functions.{function_number, function_at}
 use Rattle.serial_meaning.specs.Plan.{PlanView, functions_of}
-use Rattle.serial_meaning.specs.Exec.{State, Manner, strand, unless_fault, paid_from, tested, has_room, fits_depth, spawn, sync_at, implied, frame, called, right_side, found, looped, does, count_of}
+use Rattle.serial_meaning.specs.Exec.{State, Manner, strand, unless_fault, paid_from, tested, has_room, loop_fits, spawn, sync_at, implied, frame, called, right_side, found, looped, does, count_of}
 use Rattle.serial_meaning.specs.Eval.{path_of}
 use Rattle.serial_meaning.specs.Open.{is_empty_loop}
 use Rattle.serial_meaning.specs.declared.value.Value.{Value}
@@ -226,7 +226,7 @@ module _ (plan : PlanView) (path : List ℕ) (k : ℕ) (In : ℕ → Type 0) (st
 
   rises-loop : (target : Option Name) (c : CallText) (lo : ℤ) (hi : ℕ) (vs : List Value) (s : State Bool) → s.rank ≡ k → Rises of-state (looped (what (Looped target)) plan path lo hi vs target c s)
   rises-loop target c lo hi vs s e =
-      rises-tested of-state destination (nat_lt hi (s.steps + 1)) Budget s _ (rises-tested of-state destination (has_room target hi s.env) Index _ _ (rises-tested of-state destination (fits_depth (what destination) plan path hi) Depth _ _ (from (is_empty_loop o))))
+      rises-tested of-state destination (nat_lt hi (s.steps + 1)) Budget s _ (rises-tested of-state destination (has_room target hi s.env) Index _ _ (rises-tested of-state destination (loop_fits plan path hi) Depth _ _ (from (is_empty_loop o))))
     where
       destination : Destination
       destination = Looped target

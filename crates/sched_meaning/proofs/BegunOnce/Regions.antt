@@ -17,7 +17,7 @@ use Rattle.strand_meaning.specs.Task.{Stage, Running, AtSync, AtLoop, Ended, Rem
 use Rattle.strand_meaning.specs.Rest.{evaluations}
 use Rattle.strand_meaning.specs.Sound.{IsEndOf, IsSoundRemaining, IsTask}
 use Rattle.strand_meaning.specs.Laws.{IsSoundStep}
-use Rattle.strand_meaning.proofs.SoundSteps.Ends.{steps_are_sound}
+use Rattle.strand_meaning.proofs.SoundSteps.StepsKeepTasks.{steps_are_sound}
 use Rattle.sched_meaning.specs.Core.{gone_on}
 use Rattle.sched_meaning.proofs.BegunOnce.Presents.{longer, same-rank, From, AfterLevels, AfterScopes, OnwardAt, Onward, onward-lower, onward-apart, onward-below, handed, child-handed, MovesOn, moves-on}
 use Rattle.sched_meaning.proofs.BegunOnce.Shows.{children, AtMostOne, MoveHands, strand_at, move_hands}
@@ -146,9 +146,9 @@ module _ (t : Task) (is : IsTask t) where
   region-faults remaining at [] f = region-ends remaining t.trace.fault _
   region-faults remaining at (p ∷ ps) f = region-waits remaining at
 
-  region-gave : (remaining : Remaining) (origin : Origin) (v : Value) → StepRegion t.origin remaining (returned t origin v)
-  region-gave remaining (Instance function args path) v = region-ends remaining t.trace.fault _
-  region-gave remaining (Loop function rest first path range) v = λ q h. absurd h
+  region-returned : (remaining : Remaining) (origin : Origin) (v : Value) → StepRegion t.origin remaining (returned t origin v)
+  region-returned remaining (Instance function args path) v = region-ends remaining t.trace.fault _
+  region-returned remaining (Loop function rest first path range) v = λ q h. absurd h
 
   module _ (m : Machine) where
     abbrev w : List ℕ
@@ -186,7 +186,7 @@ module _ (t : Task) (is : IsTask t) where
       by_end ts (Err f) up h = λ q g. absurd g
   region-stage (AtSync m) at = region-waits (Runs (AtSync m)) at
   region-stage (AtLoop m) at = region-waits (Runs (AtLoop m)) at
-  region-stage (Ended (Ok v)) at = region-gave (Runs (Ended (Ok v))) t.origin v
+  region-stage (Ended (Ok v)) at = region-returned (Runs (Ended (Ok v))) t.origin v
   region-stage (Ended (Err (Own f))) at = region-faults (Runs (Ended (Err (Own f)))) at t.trace.handed f
   region-stage (Ended (Err (ChildFaulted f))) at = region-ends (Runs (Ended (Err (ChildFaulted f)))) t.trace.fault _
 

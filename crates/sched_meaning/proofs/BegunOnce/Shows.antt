@@ -15,7 +15,7 @@ use Rattle.serial_meaning.specs.Runs.{Run, done, continued, ◌then◌}
 use Rattle.serial_meaning.specs.Values.{value_of, values_of, slot_of, items_of, as_integer, is_true, at_index}
 use Rattle.serial_meaning.specs.Functions.{function_number, function_at}
 use Rattle.serial_meaning.specs.Plan.{PlanView, functions_of}
-use Rattle.serial_meaning.specs.Exec.{State, Manner, strand, unless_fault, paid_from, tested, has_room, fits_depth, spawn, sync_here, implied, frame, called, right_side, found, looped, does, count_of}
+use Rattle.serial_meaning.specs.Exec.{State, Manner, strand, unless_fault, paid_from, tested, has_room, loop_fits, spawn, sync_here, implied, frame, called, right_side, found, looped, does, count_of}
 use Rattle.serial_meaning.specs.Eval.{path_of}
 use Rattle.serial_meaning.specs.Open.{is_zero}
 use Rattle.serial_meaning.specs.declared.value.Value.{Value}
@@ -135,7 +135,7 @@ module _ (plan : PlanView) (path : List ℕ) (k : ℕ) where
 
   hands-loop : (target : Option Name) (c : CallText) (lo : ℤ) (hi : ℕ) (vs : List Value) (s : State Bool) → s.rank ≡ k → HandsOut (looped (what (Looped target)) plan path lo hi vs target c s)
   hands-loop target c lo hi vs s at_rank =
-      hands-tested destination (nat_lt hi (s.steps + 1)) Budget s _ (λ a. hands-tested destination (has_room target hi s.env) Index _ _ (λ b. hands-tested destination (fits_depth (what destination) plan path hi) Depth _ _ (by_size hi)))
+      hands-tested destination (nat_lt hi (s.steps + 1)) Budget s _ (λ a. hands-tested destination (has_room target hi s.env) Index _ _ (λ b. hands-tested destination (loop_fits plan path hi) Depth _ _ (by_size hi)))
     where
       destination : Destination
       destination = Looped target
@@ -143,12 +143,12 @@ module _ (plan : PlanView) (path : List ℕ) (k : ℕ) where
       loop_of : ℕ → Origin
       loop_of n = origin.Loop (function_number (functions_of plan) c.name.bytes) vs lo (path ++ s.rank ∷ []) (record { lo = 0; hi = n })
 
-      by_empty : (n : ℕ) (b : Bool) → is_zero (n - 0) ≡ b → fits_depth (what destination) plan path n ≡ true → AtMostOne plan path pedigree (children (loop_effects b (loop_of n) destination ++ []))
+      by_empty : (n : ℕ) (b : Bool) → is_zero (n - 0) ≡ b → loop_fits plan path n ≡ true → AtMostOne plan path pedigree (children (loop_effects b (loop_of n) destination ++ []))
       by_empty n true e h = tt
       by_empty zero false e h = absurd (cc)
       by_empty (suc n) false e h = deeper (loop_of (suc n)) (length path + 2) (ap (λ (r : ℕ). path ++ r ∷ []) at_rank) (omega arith) h
 
-      by_size : (n : ℕ) → fits_depth (what destination) plan path n ≡ true → AtMostOne plan path pedigree (children (loop_effects (is_zero (n - 0)) (loop_of n) destination ++ []))
+      by_size : (n : ℕ) → loop_fits plan path n ≡ true → AtMostOne plan path pedigree (children (loop_effects (is_zero (n - 0)) (loop_of n) destination ++ []))
       by_size n h = by_empty n (is_zero (n - 0)) refl h
 
   hands-does : (height : ℕ) (st : Stmt) (a : Act-F Act Stmt) (s : State Bool) → s.rank ≡ k → HandsOut (does (what (child_destination height a)) plan path inside height st a s)

@@ -5,7 +5,7 @@ use Rattle.serial_meaning.specs.Plan.{PlanView}
 use Rattle.serial_meaning.specs.Eval.{main_origin}
 use Rattle.serial_meaning.specs.declared.origin.Origin.{Origin}
 use Rattle.strand_meaning.specs.Task.{Task, start, Spawn, Wait, End}
-use Rattle.strand_meaning.proofs.NextStops.Stops.{stops_keep_origins}
+use Rattle.strand_meaning.proofs.NextStops.OneSoundStop.{stops_keep_origins}
 use Rattle.sched_meaning.specs.Core.{Worker, Core, free_worker, first_worker, new_core, gone_on, IsAnswered, IsRootAnswered, IsReady}
 use Rattle.sched_meaning.specs.Steps.{Step, Leads, Happens}
 use Rattle.sched_meaning.specs.declared.event.CoreEvent.TheVariants.{Run, Steal, Look}

@@ -7,9 +7,9 @@ use Rattle.serial_meaning.specs.declared.origin.Origin.{Origin}
 use Rattle.strand_meaning.specs.Task.{Task, start, Stop, Spawn, Wait, End, IsNext}
 use Rattle.strand_meaning.specs.Sound.{IsTask}
 use Rattle.strand_meaning.specs.Laws.{IsSoundStop, KeepsOrigin, LeavesFewer}
-use Rattle.strand_meaning.proofs.SoundSteps.Ends.{tasks_begin}
-use Rattle.strand_meaning.proofs.NextStops.Fewer.{stops_fall}
-use Rattle.strand_meaning.proofs.NextStops.Stops.{stops_are_sound, stops_keep_origins}
+use Rattle.strand_meaning.proofs.SoundSteps.StepsKeepTasks.{tasks_begin}
+use Rattle.strand_meaning.proofs.NextStops.StopsLeaveFewer.{stops_fall}
+use Rattle.strand_meaning.proofs.NextStops.OneSoundStop.{stops_are_sound, stops_keep_origins}
 use Rattle.strand_meaning.proofs.TakenAnswers.AnswersKeepTasks.{answers_keep_tasks, none-handed}
 use Rattle.sched_meaning.specs.Core.{Worker, awaited, gone_on}
 use Rattle.sched_meaning.specs.Steps.{after_stop, WorkerPops, WorkerGives, WorkerTakes, WorkerResumes, WorkerPasses}

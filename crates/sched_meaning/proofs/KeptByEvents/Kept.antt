@@ -7,7 +7,7 @@ use Rattle.serial_meaning.specs.Laws.{Main}
 use Rattle.serial_meaning.specs.declared.origin.Origin.{Origin}
 use Rattle.strand_meaning.specs.Clear.{IsClearPlan}
 use Rattle.strand_meaning.specs.Task.{Task, start, Stop, Spawn, Wait, End, IsNext}
-use Rattle.strand_meaning.proofs.SoundSteps.Ends.{tasks_begin}
+use Rattle.strand_meaning.proofs.SoundSteps.StepsKeepTasks.{tasks_begin}
 use Rattle.sched_meaning.specs.Core.{Worker, Core, free_worker, new_core, gone_on, answered}
 use Rattle.sched_meaning.specs.Steps.{after_stop, WorkerRuns, WorkerPops, WorkerGives, WorkerTakes, WorkerResumes, WorkerPasses, Changes, recorded, Happens, Step, Leads}
 use Rattle.sched_meaning.specs.Steps as steps
@@ -214,7 +214,7 @@ module _ (plan : PlanView) where
         left : (a b y z u r s g : ℕ) → r + (b + (y + 0)) ≡ g → z + u ≡ y + 0 → u ≡ a → s ≡ r + a → s + (b + (z + 0)) ≡ g
         left a b y z u r s g f i j m = omega arith
 
-  runs-kept : (w : ℕ) (c next : Core) → steps.Runs w c next → IsKept plan [] c → IsKept plan [] next
+  runs-kept : (w : ℕ) (c next : Core) → steps.ReachesStop w c next → IsKept plan [] c → IsKept plan [] next
   runs-kept w c next s is =
       let p = s.runs in
       let g : IsRunning plan c.begun s.task = current-good plan c.begun p.worker s.task (worker-good w _ c s.moved p [] is) p.does.current in

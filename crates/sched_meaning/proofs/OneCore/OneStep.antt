@@ -1,9 +1,9 @@
 -- An event leads to one core at most.
 use Rattle.std.proofs.Common.{◌≡◌, ℕ, List, [], ◌∷◌, ◌++◌, Some, slice_set, remove, inl, inr, refl, sym, ap, ◌∙◌, subst}
 use Rattle.strand_meaning.specs.Task.{Task, Stop, IsNext}
-use Rattle.strand_meaning.proofs.NextStops.Stops.{stops_are_one}
+use Rattle.strand_meaning.proofs.NextStops.OneSoundStop.{stops_are_one}
 use Rattle.sched_meaning.specs.Core.{Worker, Core, gone_on, IsReady}
-use Rattle.sched_meaning.specs.Steps.{after_stop, WorkerRuns, WorkerPops, WorkerGives, WorkerTakes, WorkerResumes, WorkerPasses, Changes, recorded, Runs, Steals, Resumes, StaysStalled, Happens, Step}
+use Rattle.sched_meaning.specs.Steps.{after_stop, WorkerRuns, WorkerPops, WorkerGives, WorkerTakes, WorkerResumes, WorkerPasses, Changes, recorded, ReachesStop, Steals, Resumes, StaysStalled, Happens, Step}
 use Rattle.sched_meaning.specs.declared.event.CoreEvent.{CoreEvent}
 use Rattle.sched_meaning.specs.declared.event.CoreEvent.TheVariants.{Run, Pop, Steal, Look, Idle}
 
@@ -76,7 +76,7 @@ module _ (n : ℕ) (R S : Worker → Worker → Type 0) (c x y : Core) (p : Chan
       ∙ ap (λ v. record c { workers = slice_set c.workers n v }) (same q.worker p.after q.after (subst (λ v. R v p.after) worker-is p.does) q.does)
       ∙ sym q.next_is
 
-run-one : (w : ℕ) (c x y : Core) → Runs w c x → Runs w c y → x ≡ y
+run-one : (w : ℕ) (c x y : Core) → ReachesStop w c x → ReachesStop w c y → x ≡ y
 run-one w c x y p q =
     p.next_is
     ∙ ap (λ (t : Task). recorded t p.stop p.moved) (by_worker w _ _ c p.moved q.moved p.runs q.runs (runs-task p.task q.task p.stop q.stop))

@@ -7,8 +7,8 @@ use Rattle.serial_meaning.specs.Laws.{IsOriginOf, Main}
 use Rattle.serial_meaning.specs.declared.origin.Origin.{Origin}
 use Rattle.strand_meaning.specs.Task.{Task, start, Stop, Spawn, Wait, End, IsNext}
 use Rattle.strand_meaning.specs.Sound.{IsTask}
-use Rattle.strand_meaning.proofs.NextStops.Stops.{stops_are_one}
-use Rattle.strand_meaning.proofs.SoundSteps.Ends.{tasks_begin}
+use Rattle.strand_meaning.proofs.NextStops.OneSoundStop.{stops_are_one}
+use Rattle.strand_meaning.proofs.SoundSteps.StepsKeepTasks.{tasks_begin}
 use Rattle.strand_meaning.proofs.ClearPlans.ClearOfValid.{clear_of_valid}
 use Rattle.sched_meaning.specs.Core.{gone_on}
 use Rattle.sched_meaning.specs.Segments.{ComesToStops, Ends, Waits, Spawns, IsSegments}

@@ -2,7 +2,7 @@
 use Rattle.std.proofs.Common.{◌≡◌, ℕ, zero, suc, ◌+◌, ◌%◌, ◌<◌, ◌≤◌, ◌⊎◌, inl, inr, List, [], ◌∷◌, Some, MatchOption, Contains, length, slice_get, map, refl, sym, ap, ◌∙◌, subst, arith}
 use Rattle.script_check.specs.Valid.{IsValid}
 use Rattle.serial_meaning.specs.Answer.{AnswerView}
-use Rattle.dotmix.specs.Words.{word}
+use Rattle.dotmix.specs.Words.{seed_word}
 use Rattle.serial_meaning.specs.Plan.{PlanView}
 use Rattle.serial_meaning.specs.Eval.{main_origin}
 use Rattle.strand_meaning.proofs.ClearPlans.ClearOfValid.{clear_of_valid}
@@ -87,11 +87,11 @@ module _ (plan : PlanView) (workers number : ℕ) where
   AnswersWithin n = (k : ℕ) (c : Core) → work_left c ≤ n → Simulates plan workers number k c → IsKept plan [] c → (IsRootAnswered c → ⊥) → Answers
 
   module _ (k : ℕ) (c : Core) (led : Simulates plan workers number k c) (is : IsKept plan [] c) (open_yet : IsRootAnswered c → ⊥) where
-    picked-next : Picks c (word number (k + 1))
-    picked-next = let l = lively plan c is open_yet in picks c (word number (k + 1)) l.event (l.next, l.step, l.fruitful)
+    picked-next : Picks c (seed_word number (k + 1))
+    picked-next = let l = lively plan c is open_yet in picks c (seed_word number (k + 1)) l.event (l.next, l.step, l.fruitful)
 
     -- one step further
-    further : (n : ℕ) → work_left c ≤ suc n → AnswersWithin n → (p : Picks c (word number (k + 1))) → Answers
+    further : (n : ℕ) → work_left c ≤ suc n → AnswersWithin n → (p : Picks c (seed_word number (k + 1))) → Answers
     further n small go p = by_root (answered-or p.advances.0 (main_origin p.advances.0.plan))
       where
         less : work_left p.advances.0 < work_left c

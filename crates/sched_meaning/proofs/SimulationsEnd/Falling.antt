@@ -70,7 +70,7 @@ none-at-most : (o : Option Task) → none_current o ≤ 1
 none-at-most None = omega arith
 none-at-most (Some t) = omega arith
 
-runs-fall : (plan : PlanView) (w : ℕ) (c next : Core) → IsKept plan [] c → steps.Runs w c next → work_left next < work_left c
+runs-fall : (plan : PlanView) (w : ℕ) (c next : Core) → IsKept plan [] c → steps.ReachesStop w c next → work_left next < work_left c
 runs-fall plan w c next is s =
     let p = s.runs in
     let g : IsRunning plan c.begun s.task = current-good plan c.begun p.worker s.task (each-get (IsGood plan c.begun) c.workers w p.worker p.there is.workers) p.does.current in

@@ -1,7 +1,7 @@
 -- One worker at most answers the root in a simulation: a step of a seed leads to one core, and after the root's answer nothing is picked.
 use Rattle.std.proofs.Common.{◌≡◌, ℕ, zero, suc, ◌+◌, ◌<◌, ◌≤◌, Bool, true, false, cond, ◌&&◌, not, nat_lt, List, [], ◌∷◌, Option, Some, None, MatchOption, filter, refl, sym, ap, ◌∙◌, subst, arith}
 use Rattle.std.proofs.lemmas.Bool.Decides.{nat_tests}
-use Rattle.dotmix.specs.Words.{word}
+use Rattle.dotmix.specs.Words.{seed_word}
 use Rattle.serial_meaning.specs.Plan.{PlanView}
 use Rattle.serial_meaning.specs.Eval.{main_origin}
 use Rattle.sched_meaning.specs.Core.{Core, IsRootAnswered}
@@ -32,7 +32,7 @@ module _ (plan : PlanView) (workers number : ℕ) where
   led-one zero c d p q = p ∙ sym q
   led-one (suc n) c d p q =
       let same : p.0 ≡ q.0 = led-one n p.0 q.0 p.1 q.1 in
-      let goes : PlaysWord number (n + 1) q.0 c = subst (λ (b : Core). PlaysWord number (n + 1) b c) same p.2 in matched-one q.0 c d (picked q.0 (word number (n + 1))) goes q.2
+      let goes : PlaysWord number (n + 1) q.0 c = subst (λ (b : Core). PlaysWord number (n + 1) b c) same p.2 in matched-one q.0 c d (picked q.0 (seed_word number (n + 1))) goes q.2
 
   stays : (n : ℕ) (c : Core) → Led n c → IsRootAnswered c → (m : ℕ) (d : Core) → n ≤ m → Led m d → d ≡ c
   stays n c led a zero d h l = let e : n ≡ 0 = omega arith in led-one 0 d c l (subst (λ k. Led k c) e led)
@@ -43,7 +43,7 @@ module _ (plan : PlanView) (workers number : ℕ) where
       by_test false t later =
           let same : l.0 ≡ c = later (grind (arith, nat_tests)) l.1 in
           let done : IsRootAnswered l.0 = subst IsRootAnswered (sym same) a in
-          let still : d ≡ l.0 = subst (λ o. MatchOption o (d ≡ l.0) (λ e. Step e l.0 d)) (nothing-picked l.0 (word number (m + 1)) done) l.2 in still ∙ same
+          let still : d ≡ l.0 = subst (λ o. MatchOption o (d ≡ l.0) (λ e. Step e l.0 d)) (nothing-picked l.0 (seed_word number (m + 1)) done) l.2 in still ∙ same
 
   run-one : (v w : ℕ) → Run v ≡ Run w → v ≡ w
   run-one v w h = cc
@@ -64,5 +64,5 @@ module _ (plan : PlanView) (workers number : ℕ) where
       by_tests false false s t =
           let e : p.steps ≡ q.steps = grind (arith, nat_tests) in
           let same : p.before ≡ q.before = led-one q.steps p.before q.before (subst (λ k. Led k p.before) e p.so_far) q.so_far in
-          let first : picked q.before (word number (q.steps + 1)) ≡ Some (Run v) = subst (λ (b : Core). picked b (word number (q.steps + 1)) ≡ Some (Run v)) same (subst (λ k. picked p.before (word number (k + 1)) ≡ Some (Run v)) e p.picks) in
+          let first : picked q.before (seed_word number (q.steps + 1)) ≡ Some (Run v) = subst (λ (b : Core). picked b (seed_word number (q.steps + 1)) ≡ Some (Run v)) same (subst (λ k. picked p.before (seed_word number (k + 1)) ≡ Some (Run v)) e p.picks) in
           run-one v w (some-one (Run v) (Run w) (sym first ∙ q.picks))

@@ -5,7 +5,7 @@ use Rattle.std.proofs.lemmas.Bool.Decides.{Decides-eqb}
 use Rattle.serial_meaning.specs.Eval.{main_origin}
 use Rattle.serial_meaning.specs.declared.origin.Origin.{Origin}
 use Rattle.strand_meaning.specs.Task.{Task}
-use Rattle.strand_meaning.proofs.NextStops.Comes.{stops_come}
+use Rattle.strand_meaning.proofs.NextStops.TasksReachStops.{stops_come}
 use Rattle.sched_meaning.specs.Core.{Worker, Core, gone_on, awaited, answered, IsAnswered, IsRootAnswered}
 use Rattle.sched_meaning.specs.Same.{same_origin}
 use Rattle.sched_meaning.specs.Simulation.{is_answered, is_ready, may_run, is_free, has_task, may_give, may_resume, is_progress, is_choice, stalled_places, all_events, choices}
@@ -196,7 +196,7 @@ module _ (c : Core) (unanswered : IsRootAnswered c → ⊥) where
       let s = stops_come r.task in
       let after : Worker = after_stop s.0 r.worker in
       let mid : Core = record c { workers = slice_set c.workers n after } in
-      let runs : steps.Runs n c (recorded r.task s.0 mid) = record {
+      let runs : steps.ReachesStop n c (recorded r.task s.0 mid) = record {
         task = r.task;
         stop = s.0;
         moved = mid;
@@ -288,7 +288,7 @@ module _ (c : Core) where
   abbrev look_events : List CoreEvent
   look_events = flat_map (λ w. map (λ place. Look w place) (stalled_places (slice_get c.workers w))) (range_with_len 0 (length c.workers))
 
-  run-listed : (w : ℕ) (next : Core) → steps.Runs w c next → IsListed c (Run w)
+  run-listed : (w : ℕ) (next : Core) → steps.ReachesStop w c next → IsListed c (Run w)
   run-listed w next s = record {
     goes = ap may_run s.runs.there ∙ ap is_some s.runs.does.current;
     listed = in-front (run_events ++ pop_events ++ steal_events) look_events (Run w) (in-front (run_events ++ pop_events) steal_events (Run w) (in-front run_events pop_events (Run w)

@@ -5,7 +5,7 @@ use Rattle.serial_meaning.specs.Plan.{PlanView}
 use Rattle.serial_meaning.specs.Eval.{depth_left, main_origin}
 use Rattle.serial_meaning.specs.declared.origin.Origin.{Origin}
 use Rattle.strand_meaning.specs.Task.{Task}
-use Rattle.strand_meaning.proofs.NextStops.Comes.{stops_come}
+use Rattle.strand_meaning.proofs.NextStops.TasksReachStops.{stops_come}
 use Rattle.sched_meaning.specs.Core.{Worker, Core, current_tasks, gone_on, awaited, answered, IsAnswered, IsRootAnswered, IsReady}
 use Rattle.sched_meaning.specs.Steps.{after_stop, recorded, Resumes}
 use Rattle.sched_meaning.specs.Sound.{IsLively}

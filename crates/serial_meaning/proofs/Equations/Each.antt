@@ -5,7 +5,7 @@ use Rattle.std.specs.Prelude.{Contains}
 use Rattle.script_grammar.specs.declared.tree.Function.{Function}
 use Rattle.serial_meaning.specs.Runs.{Run, done, after_items, continued, ◌then◌}
 use Rattle.serial_meaning.specs.Plan.{PlanView, drawn}
-use Rattle.serial_meaning.specs.Exec.{State, Manner, strand, goes_out, frame, exec, instance, with_loop_values, fits_depth, bound}
+use Rattle.serial_meaning.specs.Exec.{State, Manner, strand, goes_out, frame, exec, instance, with_loop_values, loop_fits, bound}
 use Rattle.serial_meaning.proofs.RisingPedigrees.Closed.{Closed, closed-exec, returned-q}
 use Rattle.serial_meaning.specs.declared.value.Value.{Value}
 use Rattle.serial_meaning.specs.declared.event.Event.TheVariants as event
@@ -53,7 +53,7 @@ module _ {I E K : Type 0} (how : Manner I E K) (plan : PlanView) (T : I → Type
     pub closes : (here : List ℕ) → Each T (how.closes here)
     pub at_sync : (k : K) → Each T (how.sync k).items
     pub child : (path : List ℕ) (function : ℕ) (vs : List Value) (s : State K) → nat_lt (length path + 1) plan.limits.depth ≡ true → Each T (how.spawn (origin.Instance function vs (strand path s)) s.spawned).items
-    pub iterations : (path : List ℕ) (function : ℕ) (vs : List Value) (lo : ℤ) (hi : ℕ) (s : State K) → fits_depth how plan path hi ≡ true → Each T (how.loop (origin.Loop function vs lo (strand path s) (record { lo = 0; hi = hi }))).items
+    pub iterations : (path : List ℕ) (function : ℕ) (vs : List Value) (lo : ℤ) (hi : ℕ) (s : State K) → loop_fits plan path hi ≡ true → Each T (how.loop (origin.Loop function vs lo (strand path s) (record { lo = 0; hi = hi }))).items
 
   module _ (parts : Parts) where
     abbrev P : List ℕ → ℕ → Run I E (State K) → Type 0

@@ -5,7 +5,7 @@ use Rattle.serial_meaning.proofs.Equations.RunLaws.{then-then, then-same, Gives,
 use Rattle.serial_meaning.specs.Runs.{Run, done, after_items, ◌then◌}
 use Rattle.serial_meaning.specs.Values.{value_of, values_of, slot_of, items_of, as_integer, is_true, at_index}
 use Rattle.serial_meaning.specs.Functions.{function_number, function_at, any_spawns}
-use Rattle.serial_meaning.specs.Exec.{State, Manner, BlockMeaning, strand, fault, unless_fault, paid, paid_from, tested, has_room, fits_depth, spawn, sync_here, sync_at, leaves, all_happen, implied, function_end, frame, called, right_side, found, store, looped, does, statement, each, statements, exec, count_of, set_scalar, bound}
+use Rattle.serial_meaning.specs.Exec.{State, Manner, BlockMeaning, strand, fault, unless_fault, paid, paid_from, tested, has_room, loop_fits, spawn, sync_here, sync_at, leaves, all_happen, implied, function_end, frame, called, right_side, found, store, looped, does, statement, each, statements, exec, count_of, set_scalar, bound}
 use Rattle.script_grammar.specs.declared.tree.Function.{Function}
 use Rattle.script_grammar.specs.declared.tree.CallText.{CallText}
 use Rattle.script_grammar.specs.declared.tree.Expr.{Expr}
@@ -173,7 +173,7 @@ module _ {I E K : Type 0} (how : Manner I E K) (plan : PlanView) (path : List �
 
   looped-within : (lo : ℤ) (n : ℕ) (vs : List Value) (target : Option Name) (t : CallText) (s : State K) → Gives (Within s.steps) (looped how plan path lo n vs target t s).ending
   looped-within lo n vs target t s =
-      let s' : State K = record s { steps = s.steps - n } in tested-gives (Within s.steps) (nat_lt n (s.steps + 1)) Budget s _ (tested-gives (Within s.steps) (has_room target n s.env) Index s' _ (tested-gives (Within s.steps) (fits_depth how plan path n) Depth s' _
+      let s' : State K = record s { steps = s.steps - n } in tested-gives (Within s.steps) (nat_lt n (s.steps + 1)) Budget s _ (tested-gives (Within s.steps) (has_room target n s.env) Index s' _ (tested-gives (Within s.steps) (loop_fits plan path n) Depth s' _
       (then-gives (λ (p : List Value). Unit {0}) (Within s.steps) (how.loop (origin.Loop (function_number (functions_of plan) t.name.bytes) vs lo (strand path s') (record { lo = 0; hi = n }))) _ (anything _) (λ p u. omega arith))))
 
   does-within : (n : ℕ) (b : Blocks) → Spends n b → (calls : ℕ) (st : Stmt) (a : Act-F Act Stmt) (s : State K) → s.steps ≤ n →

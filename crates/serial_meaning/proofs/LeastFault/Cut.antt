@@ -9,40 +9,40 @@ use Rattle.serial_meaning.specs.declared.event.Event.{Event}
 use Rattle.serial_meaning.specs.declared.origin.Origin.{Origin}
 
 -- events, and the fault that cuts them off
-pub record Piece : Type 0 where
+pub record Prefix : Type 0 where
   pub events : List Event
   pub cut_by : Option Fault
 
-abbrev pub in_front : List Event → Piece → Piece
-in_front es p = record { events = es ++ p.events; cut_by = p.cut_by }
+abbrev pub before : List Event → Prefix → Prefix
+before es p = record { events = es ++ p.events; cut_by = p.cut_by }
 
-abbrev pub child_first : List Event → Result (List Value) Fault → Piece → Piece
-child_first es (Ok vs) p = in_front es p
+abbrev pub child_first : List Event → Result (List Value) Fault → Prefix → Prefix
+child_first es (Ok vs) p = before es p
 child_first es (Err f) p = record { events = es; cut_by = Some f }
 
 module _ (child : Origin → Evaluation) where
-  abbrev pub cut : List Item → Piece
+  abbrev pub cut : List Item → Prefix
   cut [] = record { events = []; cut_by = None }
-  cut (Happened e ∷ is) = in_front (e ∷ []) (cut is)
+  cut (Happened e ∷ is) = before (e ∷ []) (cut is)
   cut (Child o ∷ is) = child_first (child o).items (child o).ending (cut is)
   cut (Opened j ∷ is) = cut is
   cut (Closed j ∷ is) = cut is
 
-  -- what follows a piece
-  abbrev pub followed : Piece → Option Fault → Piece → Piece
-  followed p None q = in_front p.events q
+  -- what follows a prefix
+  abbrev pub followed : Prefix → Option Fault → Prefix → Prefix
+  followed p None q = before p.events q
   followed p (Some f) q = p
 
   pub cut-append : (is js : List Item) → cut (is ++ js) ≡ followed (cut is) (cut is).cut_by (cut js)
   cut-append [] js = refl
-  cut-append (Happened e ∷ is) js = ap (in_front (e ∷ [])) (cut-append is js) ∙ from (cut is) (cut is).cut_by
+  cut-append (Happened e ∷ is) js = ap (before (e ∷ [])) (cut-append is js) ∙ from (cut is) (cut is).cut_by
     where
-      from : (p : Piece) (c : Option Fault) → in_front (e ∷ []) (followed p c (cut js)) ≡ followed (in_front (e ∷ []) p) c (cut js)
+      from : (p : Prefix) (c : Option Fault) → before (e ∷ []) (followed p c (cut js)) ≡ followed (before (e ∷ []) p) c (cut js)
       from p None = refl
       from p (Some f) = refl
   cut-append (Child o ∷ is) js = ap (child_first (child o).items (child o).ending) (cut-append is js) ∙ from (child o).ending
     where
-      inner : (p : Piece) (c : Option Fault) → in_front (child o).items (followed p c (cut js)) ≡ followed (in_front (child o).items p) c (cut js)
+      inner : (p : Prefix) (c : Option Fault) → before (child o).items (followed p c (cut js)) ≡ followed (before (child o).items p) c (cut js)
       inner p None = ap (λ l. record { events = l; cut_by = (cut js).cut_by }) (sym (append_assoc (child o).items p.events (cut js).events))
       inner p (Some f) = refl
 
@@ -85,7 +85,7 @@ module _ (child : Origin → Evaluation) where
 
     from_parts : (r : Run Event Fault A) (items : List Item) (e : Result B NodeFault) → Matches lift (cut items).events (cut items).cut_by r e → Cuts lift' (r then f) (continued items e g)
     from_parts r items (Ok b) h =
-        subst (λ (p : Piece). Matches lift' p.events p.cut_by (r then f) (g b).ending) (sym (cut-append items (g b).items)) (after_ok r b (cut items).events (cut items).cut_by h)
+        subst (λ (p : Prefix). Matches lift' p.events p.cut_by (r then f) (g b).ending) (sym (cut-append items (g b).items)) (after_ok r b (cut items).events (cut items).cut_by h)
     from_parts r items (Err x) h = after_err r x (cut items).events (cut items).cut_by h
 
     -- one after the other

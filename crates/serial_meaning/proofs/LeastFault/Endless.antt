@@ -16,7 +16,7 @@ use Rattle.serial_meaning.specs.Plan.{PlanView}
 use Rattle.serial_meaning.specs.Exec.{State, Manner, fault, statement, exec, function_end, instance}
 use Rattle.serial_meaning.specs.Eval.{Evaluation, serial, eval_below}
 use Rattle.serial_meaning.specs.Open.{Item, Happened, Child, NodeFault, Own, put_off_all, node_of}
-use Rattle.serial_meaning.specs.Trees.{named, number, variable, product, spawn, stated}
+use Rattle.serial_meaning.specs.Trees.{name_node, number, variable, product, spawn, stated}
 use Rattle.serial_meaning.specs.Examples.{bad, endless_main, endless_body, never_reached, endless_plan, ElisionEndsAtTheChildsFault, OpenTreeHasBothFaults}
 use Rattle.serial_meaning.proofs.Equations.ExecLaws.{exec-cons, exec-nil}
 use Rattle.serial_meaning.proofs.RisingPedigrees.Named.{product_part-is}
@@ -43,7 +43,7 @@ abbrev cond : Expr
 cond = expr.Compare (variable (codes "i")) compares.Eq (number 0)
 
 abbrev set : Stmt
-set = stated (act.Set (named (codes "i")) (right.Value (number 0)))
+set = stated (act.Set (name_node (codes "i")) (right.Value (number 0)))
 
 abbrev spinning : Stmt
 spinning = stated (act.While cond (set ∷ []))
@@ -51,16 +51,16 @@ spinning = stated (act.While cond (set ∷ []))
 opened_loop : out-Act (out-Stmt spinning).act ≡ node.While cond (set ∷ [])
 opened_loop = search (rules, the_lemmas)
 
-opened_set : out-Act (out-Stmt set).act ≡ node.Set (named (codes "i")) (right.Value (number 0))
+opened_set : out-Act (out-Stmt set).act ≡ node.Set (name_node (codes "i")) (right.Value (number 0))
 opened_set = search (rules, the_lemmas)
 
 opened_print : out-Act (out-Stmt (stated (act.Print (number 7)))).act ≡ node.Print (number 7)
 opened_print = search (rules, the_lemmas)
 
-opened_spawn : out-Act (out-Stmt (stated (act.Let (named (codes "a")) (spawn (codes "bad") [])))).act ≡ node.Let (named (codes "a")) (spawn (codes "bad") [])
+opened_spawn : out-Act (out-Stmt (stated (act.Let (name_node (codes "a")) (spawn (codes "bad") [])))).act ≡ node.Let (name_node (codes "a")) (spawn (codes "bad") [])
 opened_spawn = search (rules, the_lemmas)
 
-opened_let : (x : List ℕ) (n : ℕ) → out-Act (out-Stmt (stated (act.Let (named x) (right.Value (number n))))).act ≡ node.Let (named x) (right.Value (number n))
+opened_let : (x : List ℕ) (n : ℕ) → out-Act (out-Stmt (stated (act.Let (name_node x) (right.Value (number n))))).act ≡ node.Let (name_node x) (right.Value (number n))
 opened_let x n = search (rules, the_lemmas)
 
 module _ {I E K : Type 0} (how : Manner I E K) (plan : PlanView) (path : List ℕ) (calls : ℕ) (k : K) where
@@ -115,12 +115,12 @@ module _ {I E K : Type 0} (how : Manner I E K) (n : ℕ) where
   abbrev bad_goes_on : State K
   bad_goes_on = record { env = variable_is (codes "z") 0 ∷ []; rank = 0; steps = suc (suc n); spawned = how.none }
 
-  bad-step : statement how (endless_plan n) (0 ∷ []) (exec how (endless_plan n)) 0 (stated (act.Let (named (codes "z")) (right.Value (number 0)))) bad_begins ≡ done bad_goes_on
+  bad-step : statement how (endless_plan n) (0 ∷ []) (exec how (endless_plan n)) 0 (stated (act.Let (name_node (codes "z")) (right.Value (number 0)))) bad_begins ≡ done bad_goes_on
   bad-step = rw (opened_let, value_of-number)
 
   bad-body : exec how (endless_plan n) (0 ∷ []) 0 bad.body bad_begins ≡ done bad_goes_on
   bad-body =
-      exec-cons how (endless_plan n) (0 ∷ []) 0 (stated (act.Let (named (codes "z")) (right.Value (number 0)))) [] bad_begins
+      exec-cons how (endless_plan n) (0 ∷ []) 0 (stated (act.Let (name_node (codes "z")) (right.Value (number 0)))) [] bad_begins
       ∙ ap (λ r. r then exec how (endless_plan n) (0 ∷ []) 0 []) bad-step ∙ exec-nil how (endless_plan n) (0 ∷ []) 0 bad_goes_on
 
   bad-ends : function_end how (endless_plan n) (0 ∷ []) bad bad_goes_on ≡ run_ends_by (how.own divided)
@@ -154,24 +154,24 @@ module _ (n : ℕ) (child : Origin → Evaluation) (faulting : child child_origi
   prints : statement how plan [] (exec how plan) 0 (stated (act.Print (number 7))) (first n None) ≡ record { items = Happened (event.Print (0 ∷ []) (Int (pos 7))) ∷ []; ending = Ok (second n None) }
   prints = rw (opened_print, value_of-number)
 
-  spawns : statement how plan [] (exec how plan) 0 (stated (act.Let (named (codes "a")) (spawn (codes "bad") []))) (second n None) ≡ record { items = Happened (event.Spawn (0 ∷ [])) ∷ Child child_origin ∷ []; ending = Ok third }
+  spawns : statement how plan [] (exec how plan) 0 (stated (act.Let (name_node (codes "a")) (spawn (codes "bad") []))) (second n None) ≡ record { items = Happened (event.Spawn (0 ∷ [])) ∷ Child child_origin ∷ []; ending = Ok third }
   spawns = rw (opened_spawn, faulting)
 
-  lets : statement how plan [] (exec how plan) 0 (stated (act.Let (named (codes "i")) (right.Value (number 0)))) third ≡ done (turning how plan [] 0 (Some divided) n)
+  lets : statement how plan [] (exec how plan) 0 (stated (act.Let (name_node (codes "i")) (right.Value (number 0)))) third ≡ done (turning how plan [] 0 (Some divided) n)
   lets = rw (opened_let, value_of-number)
 
-  from-third : exec how plan [] 0 (stated (act.Let (named (codes "i")) (right.Value (number 0))) ∷ endless_body) third ≡ run_ends_by (Own spent)
+  from-third : exec how plan [] 0 (stated (act.Let (name_node (codes "i")) (right.Value (number 0))) ∷ endless_body) third ≡ run_ends_by (Own spent)
   from-third =
       exec-cons how plan [] 0 _ endless_body third ∙ ap (λ r. r then exec how plan [] 0 endless_body) lets ∙ rest-spins how plan [] 0 (Some divided) n
 
-  from-second : exec how plan [] 0 (stated (act.Let (named (codes "a")) (spawn (codes "bad") [])) ∷ stated (act.Let (named (codes "i")) (right.Value (number 0))) ∷ endless_body) (second n None) ≡ record { items = Happened (event.Spawn (0 ∷ [])) ∷ Child child_origin ∷ []; ending = Err (Own spent) }
+  from-second : exec how plan [] 0 (stated (act.Let (name_node (codes "a")) (spawn (codes "bad") [])) ∷ stated (act.Let (name_node (codes "i")) (right.Value (number 0))) ∷ endless_body) (second n None) ≡ record { items = Happened (event.Spawn (0 ∷ [])) ∷ Child child_origin ∷ []; ending = Err (Own spent) }
   from-second =
-      exec-cons how plan [] 0 _ _ (second n None) ∙ ap (λ r. r then exec how plan [] 0 (stated (act.Let (named (codes "i")) (right.Value (number 0))) ∷ endless_body)) spawns
+      exec-cons how plan [] 0 _ _ (second n None) ∙ ap (λ r. r then exec how plan [] 0 (stated (act.Let (name_node (codes "i")) (right.Value (number 0))) ∷ endless_body)) spawns
       ∙ ap (after_items (Happened (event.Spawn (0 ∷ [])) ∷ Child child_origin ∷ [])) from-third
 
   from-first : exec how plan [] 0 endless_main.body (first n None) ≡ record { items = Happened (event.Print (0 ∷ []) (Int (pos 7))) ∷ Happened (event.Spawn (0 ∷ [])) ∷ Child child_origin ∷ []; ending = Err (Own spent) }
   from-first =
-      exec-cons how plan [] 0 _ _ (first n None) ∙ ap (λ r. r then exec how plan [] 0 (stated (act.Let (named (codes "a")) (spawn (codes "bad") [])) ∷ stated (act.Let (named (codes "i")) (right.Value (number 0))) ∷ endless_body)) prints
+      exec-cons how plan [] 0 _ _ (first n None) ∙ ap (λ r. r then exec how plan [] 0 (stated (act.Let (name_node (codes "a")) (spawn (codes "bad") [])) ∷ stated (act.Let (name_node (codes "i")) (right.Value (number 0))) ∷ endless_body)) prints
       ∙ ap (after_items (Happened (event.Print (0 ∷ []) (Int (pos 7))) ∷ [])) from-second
 
   open-run : instance how plan [] (Some endless_main) [] ≡ record { items = Happened (event.Print (0 ∷ []) (Int (pos 7))) ∷ Happened (event.Spawn (0 ∷ [])) ∷ Child child_origin ∷ []; ending = Err (Own spent) }

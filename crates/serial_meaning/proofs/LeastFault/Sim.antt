@@ -5,7 +5,7 @@ use Rattle.std.specs.Int.{w64, cast_signed}
 use Rattle.serial_meaning.specs.Runs.{Run, done, after_items, continued, ◌then◌}
 use Rattle.serial_meaning.specs.Values.{Env, value_of, values_of, slot_of, items_of, as_integer, is_true, at_index}
 use Rattle.serial_meaning.specs.Functions.{function_number, function_at, any_spawns}
-use Rattle.serial_meaning.specs.Exec.{State, BlockMeaning, fault, unless_fault, paid_from, tested, has_room, fits_depth, with_loop_values, spawn, leaves, scoped, implied, function_end, frame, called, right_side, found, looped, does, statement, each, statements, exec, instance, count_of, set_scalar, set_array, bound}
+use Rattle.serial_meaning.specs.Exec.{State, BlockMeaning, fault, unless_fault, paid_from, tested, has_room, loop_fits, with_loop_values, spawn, leaves, scoped, implied, function_end, frame, called, right_side, found, looped, does, statement, each, statements, exec, instance, count_of, set_scalar, set_array, bound}
 use Rattle.script_grammar.specs.declared.tree.Name.{Name}
 use Rattle.script_grammar.specs.declared.tree.Function.{Function}
 use Rattle.script_grammar.specs.declared.tree.CallText.{CallText}
@@ -24,7 +24,7 @@ use Rattle.serial_meaning.specs.declared.origin.Origin.TheVariants as origin
 use Rattle.serial_meaning.specs.Eval.{Evaluation, serial, first_value, iteration, loop_evaluation, eval_with, eval_below, eval, depth_left}
 use Rattle.serial_meaning.specs.Open.{Item, Happened, Child, Opened, NodeFault, put_off, put_off_all, loop_end, is_zero, is_empty_loop, filler, iterations, both, gathered, node_with, node_of}
 use Rattle.serial_meaning.proofs.OriginFaults.Levels.{every}
-use Rattle.serial_meaning.proofs.LeastFault.Cut.{Cuts, Matches, cut, in_front, child_first, cuts-then}
+use Rattle.serial_meaning.proofs.LeastFault.Cut.{Cuts, Matches, cut, before, child_first, cuts-then}
 use Rattle.serial_meaning.specs.declared.event.Fault.{Fault}
 use Rattle.serial_meaning.specs.declared.event.Event.{Event}
 use Rattle.serial_meaning.specs.declared.origin.Origin.{Origin}
@@ -73,7 +73,7 @@ module _ (plan : PlanView) (path : List ℕ) (child : Origin → Evaluation) (em
       (implied (serial child) plan path (any_spawns f.body) s') (implied (put_off_all plan child) plan path (any_spawns f.body) (lift s')) (implied-c (any_spawns f.body) s'))
 
   spawned-c : (e : Event) (instead : Value) (s : State (Unit {0})) (is : List Event) (q : Result (List Value) Fault) →
-      Matches child lift_pair (in_front (e ∷ []) (child_first is q (record { events = []; cut_by = None }))).events (in_front (e ∷ []) (child_first is q (record { events = []; cut_by = None }))).cut_by
+      Matches child lift_pair (before (e ∷ []) (child_first is q (record { events = []; cut_by = None }))).events (before (e ∷ []) (child_first is q (record { events = []; cut_by = None }))).cut_by
       (after_items (e ∷ []) ((record { items = is; ending = q } then λ (vs : List Value). done {I = Event} {E = Fault} (first_value vs, tt {0})) then λ (r : Value × Unit {0}). done (r.0, record s { rank = s.rank + 1; spawned = r.1 })))
       (Ok ((put_off instead None q).0, record { env = s.env; rank = s.rank + 1; steps = s.steps; spawned = (put_off instead None q).1 }))
   spawned-c e instead s is (Ok vs) = ((first_value vs, record s { rank = s.rank + 1 }), refl, ap (λ l. record { items = e ∷ l; ending = Ok (first_value vs, record s { rank = s.rank + 1 }) }) (append-nil (is ++ [])))
@@ -98,7 +98,7 @@ module _ (plan : PlanView) (path : List ℕ) (child : Origin → Evaluation) (em
 
   looped-c : (lo : ℤ) (n : ℕ) (vs : List Value) (target : Option Name) (t : CallText) (s : State (Unit {0})) → Cuts child lift (looped (serial child) plan path lo n vs target t s) (looped (put_off_all plan child) plan path lo n vs target t (lift s))
   looped-c lo n vs target t s =
-      let s' : State (Unit {0}) = record s { steps = s.steps - n } in tested-c lift (nat_lt n (s.steps + 1)) Budget s _ _ (tested-c lift (has_room target n s.env) Index s' _ _ (tested-c lift (fits_depth (serial child) plan path n) Depth s' _ _
+      let s' : State (Unit {0}) = record s { steps = s.steps - n } in tested-c lift (nat_lt n (s.steps + 1)) Budget s _ _ (tested-c lift (has_room target n s.env) Index s' _ _ (tested-c lift (loop_fits plan path n) Depth s' _ _
       (loop-c (origin.Loop (function_number (functions_of plan) t.name.bytes) vs lo (path ++ s.rank ∷ []) (record { lo = 0; hi = n })) (event.Loop (path ++ s.rank ∷ [])) s' (λ ws. with_loop_values target ws s.env))))
 
   -- one block is what the other is, cut

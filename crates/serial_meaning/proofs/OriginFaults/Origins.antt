@@ -9,7 +9,7 @@ use Rattle.serial_meaning.specs.Laws.{IsOriginOf, Main, ChildOf, PartOf, EndsWit
 use Rattle.serial_meaning.specs.Runs.{done}
 use Rattle.serial_meaning.specs.Functions.{function_at}
 use Rattle.serial_meaning.specs.Plan.{PlanView, functions_of}
-use Rattle.serial_meaning.specs.Exec.{State, strand, fits_depth}
+use Rattle.serial_meaning.specs.Exec.{State, strand, loop_fits}
 use Rattle.serial_meaning.specs.Eval.{Evaluation, iteration, path_of, eval_with, eval_below, eval, depth_left}
 use Rattle.serial_meaning.specs.Open.{Item, Happened, Child, Opened, Closed, NodeFault, put_off_all, unless_child_faulted, loop_end, is_zero, iterations, gathered, node_with, node_of, own_fault, faults_of, faults_with, faults_below, faults_in, faults}
 use Rattle.serial_meaning.proofs.Equations.Each.{Each, each-contained, Parts, instance-each}
@@ -82,11 +82,11 @@ module _ (plan : PlanView) (child : Origin → Evaluation) where
   abbrev S : Type 0
   S = State (Option Fault)
 
-  loop-item-fits : (path : List ℕ) (function : ℕ) (vs : List Value) (lo : ℤ) (hi : ℕ) (s : S) → fits_depth (put_off_all plan child) plan path hi ≡ true →
+  loop-item-fits : (path : List ℕ) (function : ℕ) (vs : List Value) (lo : ℤ) (hi : ℕ) (s : S) → loop_fits plan path hi ≡ true →
       Each (ItemFits plan) ((put_off_all plan child).loop (Loop function vs lo (strand path s) (record { lo = 0; hi = hi }))).items
   loop-item-fits path function vs lo hi s h = by_size hi h (is_zero (hi - 0)) refl
     where
-      by_size : (n : ℕ) → fits_depth (put_off_all plan child) plan path n ≡ true → (b : Bool) → is_zero (n - 0) ≡ b →
+      by_size : (n : ℕ) → loop_fits plan path n ≡ true → (b : Bool) → is_zero (n - 0) ≡ b →
           Each (ItemFits plan) (if b then done {I = Item} {E = NodeFault} [] else record { items = Child (Loop function vs lo (strand path s) (record { lo = 0; hi = hi })) ∷ []; ending = loop_end (child (Loop function vs lo (strand path s) (record { lo = 0; hi = hi }))).ending }).items
       by_size n g true e = tt
       by_size zero g false e = absurd (cc)

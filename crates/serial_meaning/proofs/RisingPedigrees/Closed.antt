@@ -6,7 +6,7 @@ use Rattle.serial_meaning.proofs.Equations.RunLaws.{then-then}
 use Rattle.serial_meaning.specs.Runs.{Run, done, happens, after_items, ◌then◌}
 use Rattle.serial_meaning.specs.Values.{value_of, values_of, slot_of, items_of, as_integer, is_true, at_index}
 use Rattle.serial_meaning.specs.Functions.{function_number, function_at, any_spawns}
-use Rattle.serial_meaning.specs.Exec.{State, Manner, BlockMeaning, strand, fault, emit_and_raise, unless_fault, paid_from, tested, has_room, fits_depth, with_loop_values, spawn, sync_here, leaves, goes_out, all_happen, implied, function_end, frame, called, right_side, found, looped, does, statement, each, statements, exec, count_of, set_scalar, set_array, bound}
+use Rattle.serial_meaning.specs.Exec.{State, Manner, BlockMeaning, strand, fault, emit_and_raise, unless_fault, paid_from, tested, has_room, loop_fits, with_loop_values, spawn, sync_here, leaves, goes_out, all_happen, implied, function_end, frame, called, right_side, found, looped, does, statement, each, statements, exec, count_of, set_scalar, set_array, bound}
 use Rattle.script_grammar.specs.declared.tree.Name.{Name}
 use Rattle.script_grammar.specs.declared.tree.Function.{Function}
 use Rattle.script_grammar.specs.declared.tree.CallText.{CallText}
@@ -42,7 +42,7 @@ module _ {I E K : Type 0} (how : Manner I E K) (plan : PlanView) where
     pub q-new : (path : List ℕ) (s : State K) → Q path s.rank (emit_and_raise how plan path event.New s then λ s'. done (Id (strand path s), s'))
     pub p-join : (path : List ℕ) (s : State K) → P path s.rank (sync_here how plan path s)
     pub q-child : (path : List ℕ) (n : ℕ) (vs : List Value) (s : State K) → nat_lt (length path + 1) plan.limits.depth ≡ true → Q path s.rank (happens (how.event (event.Spawn (strand path s))) s then λ s. how.spawn (origin.Instance n vs (strand path s)) s.spawned then λ r. done (r.0, record s { rank = s.rank + 1; spawned = r.1 }))
-    pub p-loop : (path : List ℕ) (n : ℕ) (vs : List Value) (lo : ℤ) (hi : ℕ) (target : Option Name) (s : State K) → fits_depth how plan path hi ≡ true → P path s.rank (happens (how.event (event.Loop (strand path s))) s then λ s. how.loop (origin.Loop n vs lo (strand path s) (record { lo = 0; hi = hi })) then λ ws. done (record s { rank = s.rank + 1; env = with_loop_values target ws s.env }))
+    pub p-loop : (path : List ℕ) (n : ℕ) (vs : List Value) (lo : ℤ) (hi : ℕ) (target : Option Name) (s : State K) → loop_fits plan path hi ≡ true → P path s.rank (happens (how.event (event.Loop (strand path s))) s then λ s. how.loop (origin.Loop n vs lo (strand path s) (record { lo = 0; hi = hi })) then λ ws. done (record s { rank = s.rank + 1; env = with_loop_values target ws s.env }))
     -- of what a scope's block and the sync at its end do, and so of the scope
     pub p-scope : (path : List ℕ) (s : State K) (r : Goes) → nat_lt (length path + 1) plan.limits.depth ≡ true → P (strand path s) 0 r → P path s.rank (after_items (how.opens (strand path s)) r then goes_out how plan path s.rank)
     pub pp : (path : List ℕ) (n : ℕ) (r : Goes) (f : State K → Goes) → P path n r → ((s : State K) → P path s.rank (f s)) → P path n (r then f)
@@ -147,7 +147,7 @@ module _ {I E K : Type 0} (how : Manner I E K) (plan : PlanView) where
             given-p (value_of lo s.env) s _ (λ l. given-p (value_of hi s.env) s _ (λ h. given-p (values_of t.args s.env) s _ (λ vs. looped-p (as_integer l) (count_of (as_integer h -ℤ as_integer l)) vs)))
           where
             looped-p : (l : ℤ) (n : ℕ) (vs : List Value) → P path s.rank (looped how plan path l n vs target t s)
-            looped-p l n vs = tested-p (nat_lt n (s.steps + 1)) Budget s _ (λ enough. tested-p (has_room target n s.env) Index _ _ (λ room. tested-p (fits_depth how plan path n) Depth _ _ (c.p-loop path (function_number (functions_of plan) t.name.bytes) vs l n target _)))
+            looped-p l n vs = tested-p (nat_lt n (s.steps + 1)) Budget s _ (λ enough. tested-p (has_room target n s.env) Index _ _ (λ room. tested-p (loop_fits plan path n) Depth _ _ (c.p-loop path (function_number (functions_of plan) t.name.bytes) vs l n target _)))
         does-p calls st (act.Scope xs) s = tested-p (nat_lt (length path + 1) plan.limits.depth) Depth s _ (scope-p calls xs s)
 
       each-p : (one : Stmt → State K → Goes) → ((st : Stmt) (s : State K) → P path s.rank (one st s)) → (sts : List Stmt) (s : State K) → P path s.rank (each how plan path one sts s)

@@ -6,7 +6,7 @@ use Rattle.serial_meaning.specs.Laws.{raising_pedigrees}
 use Rattle.serial_meaning.proofs.RisingPedigrees.Rising.{Rise}
 use Rattle.serial_meaning.specs.declared.event.Event.{Event}
 use Rattle.serial_meaning.specs.declared.event.Event.TheVariants as event
-use Rattle.span_report.specs.Series.{Begins, BeginsProperly, IsEventOf, PrecedesAtMeet, Own, Looped, Synced}
+use Rattle.span_report.specs.Series.{Begins, BeginsProperly, IsEventOf, PrecedesAtMeet, OfMeet, InLoop, BeforeSync}
 use Rattle.span_report.specs.Nested.{Instance}
 use Rattle.span_report.proofs.Nested.Clear.{Raises, raises-at, IsClear}
 use Rattle.span_report.proofs.Belonging.Homes.{of-unique, same-front, begins-length, fronts, get-contained, IsPresent}
@@ -64,21 +64,21 @@ module _ (all : List Event) (nested : IsClear all (Instance []) [] 0 all) (rise 
   -- Below a child that was spawned, and since which its parent made no sync.
   pub not-awaited-child : (n : ℕ) (home path : List ℕ) (r : ℕ) (rest : List ℕ) → IsPresent all home path → Contains all (event.Spawn (path ++ r ∷ [])) →
       ((c s : ℕ) (at : List ℕ) → IsEventOf all home c (event.Spawn (path ++ r ∷ [])) → IsEventOf all home s (event.Sync at) → c < s → s < n → ⊥) → PrecedesAtMeet all n (path ++ r ∷ rest) home home → ⊥
-  not-awaited-child n home path r rest here child quiet (Own z) =
+  not-awaited-child n home path r rest here child quiet (OfMeet z) =
       let l : length (path ++ r ∷ rest) ≡ length home = ap (λ (p : List ℕ). length p) z in let m = begins-length home path here.begins in omega (arith, l, m, length-append path (r ∷ rest))
-  not-awaited-child n home path r rest here child quiet (Looped c j h p out) =
+  not-awaited-child n home path r rest here child quiet (InLoop c j h p out) =
       let b = begins-child home path j r rest c (event.Loop j) (event.Spawn (path ++ r ∷ [])) here h refl child refl (properly j (path ++ r ∷ rest) p) in
       spawn-no-loop all nested rise (path ++ r ∷ []) child (subst (λ (l : List ℕ). Contains all (event.Loop l)) b (get-contained all c (event.Loop j) h.numbered))
-  not-awaited-child n home path r rest here child quiet (Synced c s j at h b k l m) =
+  not-awaited-child n home path r rest here child quiet (BeforeSync c s j at h b k l m) =
       quiet c s at (subst (λ (p : List ℕ). IsEventOf all home c (event.Spawn p)) (begins-child home path j r rest c (event.Spawn j) (event.Spawn (path ++ r ∷ [])) here h refl child refl b) h) k l m
 
   -- In a loop, for an iteration of it.
   pub not-awaited-turn : (n : ℕ) (home path : List ℕ) (r t k : ℕ) (rest : List ℕ) → IsPresent all home path → Contains all (event.Loop (path ++ r ∷ [])) → PrecedesAtMeet all n (path ++ r ∷ t ∷ rest) (path ++ r ∷ k ∷ []) home → ⊥
-  not-awaited-turn n home path r t k rest here loop (Own z) =
+  not-awaited-turn n home path r t k rest here loop (OfMeet z) =
       let l : length (path ++ r ∷ t ∷ rest) ≡ length home = ap (λ (p : List ℕ). length p) z in let m = begins-length home path here.begins in omega (arith, l, m, length-append path (r ∷ t ∷ rest))
-  not-awaited-turn n home path r t k rest here loop (Looped c j h p out) =
+  not-awaited-turn n home path r t k rest here loop (InLoop c j h p out) =
       let b = begins-child home path j r (t ∷ rest) c (event.Loop j) (event.Loop (path ++ r ∷ [])) here h refl loop refl (properly j (path ++ r ∷ t ∷ rest) p) in
       out (k ∷ [], sym (append_assoc path (r ∷ []) (k ∷ [])) ∙ ap (λ (l : List ℕ). l ++ k ∷ []) (sym b))
-  not-awaited-turn n home path r t k rest here loop (Synced c s j at h b w l m) =
+  not-awaited-turn n home path r t k rest here loop (BeforeSync c s j at h b w l m) =
       let q = begins-child home path j r (t ∷ rest) c (event.Spawn j) (event.Loop (path ++ r ∷ [])) here h refl loop refl b in
       spawn-no-loop all nested rise j (get-contained all c (event.Spawn j) h.numbered) (subst (λ (p : List ℕ). Contains all (event.Loop p)) (sym q) loop)

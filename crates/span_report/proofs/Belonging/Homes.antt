@@ -2,7 +2,7 @@
 use Rattle.std.proofs.Common.{◌≡◌, ◌≤◌, ◌<◌, ◌+◌, ℕ, zero, suc, List, [], ◌∷◌, ◌++◌, Option, Some, None, length, length-append, append-nil, append_assoc, refl, sym, ◌∙◌, ap, subst, arith}
 use Rattle.std.specs.Prelude.{Contains, slice_get}
 use Rattle.serial_meaning.specs.declared.event.Event.{Event}
-use Rattle.span_report.specs.Series.{pedigree_of, Begins, BeginsProperly, IsEvent, IsInstance, IsHome, IsEventOf, IsMeet, PrecedesFrom, InSeries}
+use Rattle.span_report.specs.Series.{pedigree_of, Begins, BeginsProperly, IsEvent, IsInstancePath, IsHome, IsEventOf, IsMeet, PrecedesFrom, InSeries}
 use Rattle.span_report.proofs.Nested.Clear.{Raises}
 
 first-same : (x y : ℕ) (xs ys : List ℕ) → x ∷ xs ≡ y ∷ ys → x ≡ y
@@ -78,7 +78,7 @@ get-contained (x ∷ es) (suc n) e h = let c = get-contained es n e h in (suc c.
 module _ (events : List Event) where
   -- A present path of an instance: its own path and the ranks of its open scopes, at whose paths no event raises the rank.
   pub record IsPresent (home path : List ℕ) : Type 0 where
-    pub instance : IsInstance events home
+    pub instance : IsInstancePath events home
     pub begins : Begins home path
     pub clear : (e : Event) (j : List ℕ) → Contains events e → Raises e j → Begins j path → length j ≤ length home
 
@@ -95,7 +95,7 @@ module _ (events : List Event) where
       let o = k.longest m h.instance h.first h.second in same-front m n h.first.0 k.first.0 (sym h.first.1 ∙ k.first.1) (omega (arith, l, o))
 
   -- An instance and one at or below it part at the upper one.
-  pub meet-below : (path more : List ℕ) → IsInstance events path → IsMeet events (path ++ more) path path
+  pub meet-below : (path more : List ℕ) → IsInstancePath events path → IsMeet events (path ++ more) path path
   meet-below path more h = record { instance = h; first = (more, refl); second = ([], sym (append-nil path)); longest = λ other i b c. begins-length other path c }
 
   some-same : (a b : Event) → Some a ≡ Some b → a ≡ b

@@ -5,7 +5,7 @@ use Rattle.std.specs.Prelude.{Contains, slice_get}
 use Rattle.serial_meaning.proofs.Equations.Each.{Each, each-append, each-contained}
 use Rattle.serial_meaning.specs.declared.event.Event.{Event}
 use Rattle.serial_meaning.specs.declared.event.Event.TheVariants as event
-use Rattle.span_report.specs.Series.{pedigree_of, IsInstance, Main, Child, Iteration}
+use Rattle.span_report.specs.Series.{pedigree_of, IsInstancePath, Main, Child, Iteration}
 use Rattle.span_report.specs.Nested.{Whose, Instance, Iterations}
 use Rattle.span_report.proofs.Nested.Clear.{Raises, NotAt, step-at, IsClear, Ends, Prints, Steps, Spawns, Loops, Iterates, Scopes}
 use Rattle.span_report.proofs.Belonging.Homes.{IsPresent, begins-begins, begins-length, fronts}
@@ -37,7 +37,7 @@ each-within whole front (e ∷ es) s = (subst (λ (l : List Event). Contains l e
 
 module _ (all : List Event) where
   -- the present path where an instance begins
-  pub own-present : (path : List ℕ) → IsInstance all path → IsPresent all path path
+  pub own-present : (path : List ℕ) → IsInstancePath all path → IsPresent all path path
   own-present path i = record { instance = i; begins = ([], sym (append-nil path)); clear = λ e j c r b. begins-length j path b }
 
   -- in a scope

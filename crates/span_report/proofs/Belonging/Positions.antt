@@ -6,7 +6,7 @@ use Rattle.serial_meaning.proofs.Equations.Each.{Each, each-append, each-map}
 use Rattle.serial_meaning.proofs.LeastFault.Left.{rank-same}
 use Rattle.serial_meaning.specs.declared.event.Event.{Event}
 use Rattle.serial_meaning.specs.declared.event.Event.TheVariants as event
-use Rattle.span_report.specs.Series.{pedigree_of, Begins, BeginsProperly, IsEvent, IsInstance, IsEventOf}
+use Rattle.span_report.specs.Series.{pedigree_of, Begins, BeginsProperly, IsEvent, IsInstancePath, IsEventOf}
 use Rattle.span_report.specs.Nested.{Whose, Instance, Iterations}
 use Rattle.span_report.proofs.Nested.Clear.{too-long, step-at, IsClear, Ends, Prints, Steps, Spawns, Loops, Iterates, Scopes}
 use Rattle.span_report.proofs.Belonging.Homes.{event-unique, of-unique, begins-length, fronts}
@@ -89,7 +89,7 @@ module _ (all : List Event) where
       from (inr s) later = subst T (event-unique all i x e (subst (λ (k : ℕ). IsEvent all k x) (omega (arith, s, l)) a.0) g) h.0
 
   -- The instance of an event that begins with a path of an instance begins with it too.
-  pub home-begins : (path own : List ℕ) (i : ℕ) (e : Event) → IsInstance all path → BeginsProperly path (pedigree_of e) → IsEventOf all own i e → Begins path own
+  pub home-begins : (path own : List ℕ) (i : ℕ) (e : Event) → IsInstancePath all path → BeginsProperly path (pedigree_of e) → IsEventOf all own i e → Begins path own
   home-begins path own i e h b k = let l = k.belongs.longest path h b in let c = k.belongs.begins in fronts path own (b.0 ∷ b.1) (c.0 ∷ c.1) (sym b.2 ∙ c.2) l
 
   -- No event before number n is of an instance at or below a rank of the path from this one on, nor spawns one. The path is a present one, or a

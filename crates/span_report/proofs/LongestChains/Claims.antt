@@ -12,11 +12,11 @@ use Rattle.serial_meaning.specs.declared.value.Value.{Value}
 use Rattle.span_report.specs.declared.instance.OpenInstance.{OpenInstance}
 use Rattle.span_report.specs.declared.instance.Begun.{Begun}
 use Rattle.span_report.specs.declared.instance.Begun.TheVariants.{Spawned, Iterated}
-use Rattle.span_report.specs.Series.{pedigree_of, Begins, BeginsProperly, IsEvent, IsInstance, Main, Child, Iteration, IsHome, IsEventOf, PrecedesFrom, IsSpan}
+use Rattle.span_report.specs.Series.{pedigree_of, Begins, BeginsProperly, IsEvent, IsInstancePath, Main, Child, Iteration, IsHome, IsEventOf, PrecedesFrom, IsSpan}
 use Rattle.span_report.proofs.LongestChains.Chains.{IsMost}
 use Rattle.span_report.specs.Nested.{RaisesWithoutChild, Draw, New, Sync, Whose, Instance, Iterations}
 use Rattle.span_report.specs.Opens.{new_open_instance, after_child_end, went_on, synced, looping_at}
-use Rattle.span_report.specs.Walks.{OpenInstances, main_alone, left, after_ends, instances_after, opened_to, path_of, walked, walked_all, walked_span}
+use Rattle.span_report.specs.Walks.{OpenInstances, main_alone, closed_to, after_ends, instances_after, opened_to, path_of, walked, walked_all, walked_span}
 use Rattle.span_report.proofs.Nested.Clear.{NotAt, IsClear, Ends, Prints, Steps, Spawns, Loops, Iterates, Scopes, all-clear}
 use Rattle.span_report.proofs.Nested.Coming.{Past, Coming, coming-here, coming-next, coming-in, past-rank, past-apart}
 use Rattle.span_report.proofs.Belonging.Homes.{begins-begins, event-unique, get-contained, IsPresent}
@@ -69,7 +69,7 @@ module _ (all : List Event) (nested : IsClear all (Instance []) [] 0 all) (rise 
       instances_after (stack o under) e ≡ stack o2 under → o2.begun ≡ o.begun → Fresh all (n + 1) path next → Holds all from (n + 1) m2 o2 home → Claim (Instance home) path next es → After from to home path (walked_all w (e ∷ es)) under o.begun
   claim-own home path rank next m2 e es from n to m w o o2 under p i l t a h q s still g b f h2 later =
       subst (λ (k : Begun). After from to home path (walked_all w (e ∷ es)) under k) b
-      (later from (n + 1) to m2 (walked w e) o2 under i (omega (arith, l)) (omega (arith, t)) f a h2 (λ p z. still p) (λ p z. ap (λ (v : OpenInstances). left p v.top v.under) (goes ∙ g)))
+      (later from (n + 1) to m2 (walked w e) o2 under i (omega (arith, l)) (omega (arith, t)) f a h2 (λ p z. still p) (λ p z. ap (λ (v : OpenInstances). closed_to p v.top v.under) (goes ∙ g)))
     where
       goes : walked w e ≡ instances_after (stack o under) e
       goes = walked-own (Coming path rank) w o under home path e (path-is e path rank p) h.at i.begins (coming-here path rank) (q path (coming-here path rank)) s
@@ -163,12 +163,12 @@ module _ (all : List Event) (nested : IsClear all (Instance []) [] 0 all) (rise 
       at-child : At all (n + 1) child
       at-child = at-front all (n + 1) child es a.1
 
-      child-is : IsInstance all j
+      child-is : IsInstancePath all j
       child-is = Child j (get-contained all n e a.0)
 
       c : After (n + 1) mid j j (walked_all (walked w e) child) (o1 ∷ under) Spawned
       c = inner (n + 1) (n + 1) mid 0 (walked w e) c0 (o1 ∷ under) (own-present all j child-is) (omega arith) refl fresh-j at-child (holds-begun all (n + 1) o1.before j Spawned fresh-j b)
-          (λ p z. quiet-none c0 refl p) (λ p z. ap (λ (v : OpenInstances). left p v.top v.under) w1)
+          (λ p z. quiet-none c0 refl p) (λ p z. ap (λ (v : OpenInstances). closed_to p v.top v.under) w1)
 
       o2 : OpenInstance
       o2 = after_child_end o1 Spawned c.o.within
@@ -183,7 +183,7 @@ module _ (all : List Event) (nested : IsClear all (Instance []) [] 0 all) (rise 
       f2 = fresh-after path rank n mid (Instance j) 0 e child refl a.0 d at-child refl f
 
       same : Same (Coming path (rank + 1)) (walked_all (walked w e) child) (stack o2 under)
-      same p z = c.same p (past-rank path rank p z) ∙ left-up p c.o o1 under (leads-not c.o j p c.holds.at (past-apart path rank p z)) ∙ ap (λ (y : Begun). left p (after_child_end o1 y c.o.within) under) c.began
+      same p z = c.same p (past-rank path rank p z) ∙ left-up p c.o o1 under (leads-not c.o j p c.holds.at (past-apart path rank p z)) ∙ ap (λ (y : Begun). closed_to p (after_child_end o1 y c.o.within) under) c.began
 
   claim-loops : (home path : List ℕ) (rank : ℕ) (inner es : List Event) → IsClear all Iterations (path ++ rank ∷ []) 0 inner → Claim Iterations (path ++ rank ∷ []) 0 inner → Claim (Instance home) path (rank + 1) es →
       Claim (Instance home) path rank (event.Loop (path ++ rank ∷ []) ∷ (inner ++ es))
@@ -219,7 +219,7 @@ module _ (all : List Event) (nested : IsClear all (Instance []) [] 0 all) (rise 
 
       c : AfterTurns from n mid home path rank i f m (walked_all (walked w e) inner) under o1.begun
       c = turns home path rank from n (n + 1) mid m (walked w e) o1 under i f refl g l (omega arith) refl (fresh-child all n home path rank e i.begins f g refl) at-inner (loop-begun all from (n + 1) m (went_on o) home j refl h1)
-          (λ k x y u v z. absurd (omega (arith, u, v))) (λ p z. ap (λ (v : OpenInstances). left p v.top v.under) w1)
+          (λ k x y u v z. absurd (omega (arith, u, v))) (λ p z. ap (λ (v : OpenInstances). closed_to p v.top v.under) w1)
 
       held : Holds all from mid m c.o home
       held = loop-ended all nested rise from n mid m home path rank i f l (omega arith) c.k c.o g c.turns c.holds
@@ -295,7 +295,7 @@ module _ (all : List Event) (nested : IsClear all (Instance []) [] 0 all) (rise 
       loop : Contains all (event.Loop j)
       loop = subst (λ (p : List ℕ). Contains all (event.Loop p)) (sym q) (get-contained all c (event.Loop (path ++ rank ∷ [])) g.numbered)
 
-      turn-is : IsInstance all turn
+      turn-is : IsInstancePath all turn
       turn-is = Iteration j k loop
 
       at-turn : At all n (e ∷ rest)
@@ -330,7 +330,7 @@ module _ (all : List Event) (nested : IsClear all (Instance []) [] 0 all) (rise 
           by (inr p) = let b = home-begins all turn x s y turn-is (tails s y p v z.numbered) z in (k, b.0, b.1 ∙ ap (λ (l : List ℕ). l ++ b.0) turn-as ∙ append_assoc path (rank ∷ k ∷ []) b.0, omega arith)
 
       same2 : Same (Coming j (k + 1)) (walked_all v0 (e ∷ rest)) (stack o2 under)
-      same2 p z = ct.same p (past-rank j k p z) ∙ left-up p ct.o o under (leads-not ct.o turn p ct.holds.at (past-apart j k p z)) ∙ ap (λ (y : Begun). left p (after_child_end o y ct.o.within) under) ct.began
+      same2 p z = ct.same p (past-rank j k p z) ∙ left-up p ct.o o under (leads-not ct.o turn p ct.holds.at (past-apart j k p z)) ∙ ap (λ (y : Begun). closed_to p (after_child_end o y ct.o.within) under) ct.began
 
   claim-iterates : (j : List ℕ) (k : ℕ) (turn es : List Event) → IsClear all (Instance (j ++ k ∷ [])) (j ++ k ∷ []) 0 turn → Claim (Instance (j ++ k ∷ [])) (j ++ k ∷ []) 0 turn → Claim Iterations j (k + 1) es → Claim Iterations j k (turn ++ es)
   claim-iterates j k [] es d inner later = claim-idle j k es later

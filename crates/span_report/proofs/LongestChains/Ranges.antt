@@ -6,7 +6,7 @@ use Rattle.serial_meaning.proofs.RisingPedigrees.Rising.{Rise}
 use Rattle.serial_meaning.proofs.LeastFault.Left.{rank-same}
 use Rattle.serial_meaning.specs.declared.event.Event.{Event}
 use Rattle.serial_meaning.specs.declared.event.Event.TheVariants as event
-use Rattle.span_report.specs.Series.{pedigree_of, Begins, IsEvent, IsEventOf, IsMeet, PrecedesAtMeet, Own, Looped, Synced, PrecedesFrom}
+use Rattle.span_report.specs.Series.{pedigree_of, Begins, IsEvent, IsEventOf, IsMeet, PrecedesAtMeet, OfMeet, InLoop, BeforeSync, PrecedesFrom}
 use Rattle.span_report.proofs.LongestChains.Chains.{IsPending, HasSynced}
 use Rattle.span_report.specs.Nested.{Instance}
 use Rattle.span_report.proofs.Nested.Clear.{IsClear}
@@ -22,21 +22,21 @@ Between all m n i = (m ≤ i) × (i < n) × (i < length all)
 
 module _ (all : List Event) where
   awaited-on : (n m : ℕ) (a b meet : List ℕ) → n ≤ m → PrecedesAtMeet all n a b meet → PrecedesAtMeet all m a b meet
-  awaited-on n m a b meet l (Own e) = Own e
-  awaited-on n m a b meet l (Looped c j h p out) = Looped c j h p out
-  awaited-on n m a b meet l (Synced c s j at h p k d q) = Synced c s j at h p k d (omega (arith, l, q))
+  awaited-on n m a b meet l (OfMeet e) = OfMeet e
+  awaited-on n m a b meet l (InLoop c j h p out) = InLoop c j h p out
+  awaited-on n m a b meet l (BeforeSync c s j at h p k d q) = BeforeSync c s j at h p k d (omega (arith, l, q))
 
   -- What is ready at a number is so later.
   pub ready-on : (i n m : ℕ) (to : List ℕ) → n ≤ m → PrecedesFrom all i n to → PrecedesFrom all i m to
   ready-on i n m to l r = record { earlier = (let h = r.earlier in omega (arith, l, h)); e = r.e; own = r.own; meet = r.meet; placed = r.placed; parting = r.parting; awaited = awaited-on n m r.own to r.meet l r.awaited }
 
   awaited-back : (n m : ℕ) (a b meet : List ℕ) → ((s : ℕ) (at : List ℕ) → n ≤ s → s < m → IsEventOf all meet s (event.Sync at) → ⊥) → PrecedesAtMeet all m a b meet → PrecedesAtMeet all n a b meet
-  awaited-back n m a b meet never (Own e) = Own e
-  awaited-back n m a b meet never (Looped c j h p out) = Looped c j h p out
-  awaited-back n m a b meet never (Synced c s j at h p k l q) = from (split-at s n)
+  awaited-back n m a b meet never (OfMeet e) = OfMeet e
+  awaited-back n m a b meet never (InLoop c j h p out) = InLoop c j h p out
+  awaited-back n m a b meet never (BeforeSync c s j at h p k l q) = from (split-at s n)
     where
       from : (s < n) ⊎ (n ≤ s) → PrecedesAtMeet all n a b meet
-      from (inl d) = Synced c s j at h p k l d
+      from (inl d) = BeforeSync c s j at h p k l d
       from (inr d) = absurd (never s at d q k)
 
   -- Earlier events become ready by no event of an instance that this one isn't and doesn't stand below.
@@ -237,7 +237,7 @@ module _ (all : List Event) where
             meet = home;
             placed = o.1;
             parting = subst (λ (p : List ℕ). IsMeet all p home home) (sym t.2) (meet-home (rank ∷ t.0 ∷ t.1));
-            awaited = Looped n (path ++ rank ∷ []) h (t.0, t.1, t.2 ∙ sym (append_assoc path (rank ∷ []) (t.0 ∷ t.1))) (λ c. (let x = begins-length (path ++ rank ∷ []) home c in let y = begins-length home path here.begins in absurd (omega (arith, x, y, length-append path (rank ∷ [])))));
+            awaited = InLoop n (path ++ rank ∷ []) h (t.0, t.1, t.2 ∙ sym (append_assoc path (rank ∷ []) (t.0 ∷ t.1))) (λ c. (let x = begins-length (path ++ rank ∷ []) home c in let y = begins-length home path here.begins in absurd (omega (arith, x, y, length-append path (rank ∷ [])))));
           }
 
       pub loop-pending : (k i : ℕ) → IsEventOf all home n (event.Loop (path ++ rank ∷ [])) → AreBelow (n + 1) m (path ++ rank ∷ []) → IsPending all k m home i → IsPending all k (n + 1) home i

@@ -3,7 +3,7 @@ use Rattle.std.proofs.Common.{◌≡◌, ◌≤◌, ◌<◌, ◌+◌, ◌⊎◌,
 use Rattle.std.proofs.lemmas.Bool.Decides.{nat_tests}
 use Rattle.serial_meaning.specs.declared.event.Event.{Event}
 use Rattle.serial_meaning.specs.declared.event.Event.TheVariants as event
-use Rattle.span_report.specs.Series.{Begins, BeginsProperly, IsInstance, IsEventOf, IsMeet, PrecedesAtMeet, Own, Looped, Synced, PrecedesFrom}
+use Rattle.span_report.specs.Series.{Begins, BeginsProperly, IsInstancePath, IsEventOf, IsMeet, PrecedesAtMeet, OfMeet, InLoop, BeforeSync, PrecedesFrom}
 use Rattle.span_report.proofs.LongestChains.Chains.{IsPending, HasSynced}
 use Rattle.span_report.proofs.Belonging.Homes.{begins-begins, fronts, get-contained, event-unique, of-unique, meet-below, IsPresent}
 
@@ -34,9 +34,9 @@ short-front front home r more own b c never = by (nat_lt (length home) (length f
 module _ (all : List Event) where
   -- What is so at a number is so later.
   awaited-later : (n : ℕ) (a b meet : List ℕ) → PrecedesAtMeet all n a b meet → PrecedesAtMeet all (n + 1) a b meet
-  awaited-later n a b meet (Own e) = Own e
-  awaited-later n a b meet (Looped c j h p out) = Looped c j h p out
-  awaited-later n a b meet (Synced c s j at h p k l m) = Synced c s j at h p k l (omega (arith, m))
+  awaited-later n a b meet (OfMeet e) = OfMeet e
+  awaited-later n a b meet (InLoop c j h p out) = InLoop c j h p out
+  awaited-later n a b meet (BeforeSync c s j at h p k l m) = BeforeSync c s j at h p k l (omega (arith, m))
 
   pub ready-later : (i n : ℕ) (home : List ℕ) → PrecedesFrom all i n home → PrecedesFrom all i (n + 1) home
   ready-later i n home r = record { earlier = let h = r.earlier in omega (arith, h); e = r.e; own = r.own; meet = r.meet; placed = r.placed; parting = r.parting; awaited = awaited-later n r.own home r.meet r.awaited }
@@ -50,17 +50,17 @@ module _ (all : List Event) where
     meet = home;
     placed = h;
     parting = subst (λ (l : List ℕ). IsMeet all l home home) (append-nil home) (meet-below all home [] h.belongs.instance);
-    awaited = Own refl;
+    awaited = OfMeet refl;
   }
 
   -- The same as before number n, unless that is the number of a sync of the instance where the two part.
   pub earlier-awaited : (n : ℕ) (a b meet : List ℕ) → ((at : List ℕ) → IsEventOf all meet n (event.Sync at) → ⊥) → PrecedesAtMeet all (n + 1) a b meet → PrecedesAtMeet all n a b meet
-  earlier-awaited n a b meet never (Own e) = Own e
-  earlier-awaited n a b meet never (Looped c j h p out) = Looped c j h p out
-  earlier-awaited n a b meet never (Synced c s j at h p k l m) = from (below-or s n m)
+  earlier-awaited n a b meet never (OfMeet e) = OfMeet e
+  earlier-awaited n a b meet never (InLoop c j h p out) = InLoop c j h p out
+  earlier-awaited n a b meet never (BeforeSync c s j at h p k l m) = from (below-or s n m)
     where
       from : (s < n) ⊎ (s ≡ n) → PrecedesAtMeet all n a b meet
-      from (inl g) = Synced c s j at h p k l g
+      from (inl g) = BeforeSync c s j at h p k l g
       from (inr g) = absurd (never at (subst (λ (i : ℕ). IsEventOf all meet i (event.Sync at)) g k))
 
   -- After an event that is no sync of its own, what is ready is what was, and that event.
@@ -88,7 +88,7 @@ module _ (all : List Event) where
     meet = home;
     placed = p.placed;
     parting = let b = properly-begins home p.child p.own p.spawn.belongs.begins p.below in subst (λ (l : List ℕ). IsMeet all l home home) (sym b.1) (meet-below all home b.0 h.belongs.instance);
-    awaited = Synced p.by n p.child at p.spawn p.below h p.before (omega arith);
+    awaited = BeforeSync p.by n p.child at p.spawn p.below h p.before (omega arith);
   }
 
   spawn-no-sync : (n : ℕ) (home other j at : List ℕ) → IsEventOf all home n (event.Spawn j) → IsEventOf all other n (event.Sync at) → ⊥
@@ -106,7 +106,7 @@ module _ (all : List Event) where
       earlier-sync : (c : ℕ) (j : List ℕ) → IsEventOf all r.meet c (event.Spawn j) → Begins j r.own → r.meet ≡ home → c < m → i < n → HasSynced all m n home → PrecedesFrom all i n home
       earlier-sync c j k b e l g (inl z) = absurd (omega (arith, l, z))
       earlier-sync c j k b e l g (inr s) =
-          known (Synced c s.0 j s.1 k b (subst (λ (p : List ℕ). IsEventOf all p s.0 (event.Sync s.1)) (sym e) s.2) (apart (below-or c s.0 (omega (arith, l, s.4)))) s.3) g
+          known (BeforeSync c s.0 j s.1 k b (subst (λ (p : List ℕ). IsEventOf all p s.0 (event.Sync s.1)) (sym e) s.2) (apart (below-or c s.0 (omega (arith, l, s.4)))) s.3) g
         where
           apart : (c < s.0) ⊎ (c ≡ s.0) → c < s.0
           apart (inl d) = d
@@ -118,12 +118,12 @@ module _ (all : List Event) where
           inr (inl (record { earlier = g; e = r.e; own = r.own; placed = r.placed; by = c; child = j; spawn = subst (λ (p : List ℕ). IsEventOf all p c (event.Spawn j)) e k; since = s; before = l; below = b }))
 
       old : i < n → PrecedesAtMeet all (n + 1) r.own home r.meet → PrecedesFrom all i n home ⊎ (IsPending all m n home i ⊎ (i ≡ n))
-      old g (Own e) = inl (known (Own e) g)
-      old g (Looped c j k p out) = inl (known (Looped c j k p out) g)
-      old g (Synced c s j to k b f l q) = at_sync (below-or s n q)
+      old g (OfMeet e) = inl (known (OfMeet e) g)
+      old g (InLoop c j k p out) = inl (known (InLoop c j k p out) g)
+      old g (BeforeSync c s j to k b f l q) = at_sync (below-or s n q)
         where
           at_sync : (s < n) ⊎ (s ≡ n) → PrecedesFrom all i n home ⊎ (IsPending all m n home i ⊎ (i ≡ n))
-          at_sync (inl d) = inl (known (Synced c s j to k b f l d) g)
+          at_sync (inl d) = inl (known (BeforeSync c s j to k b f l d) g)
           at_sync (inr d) = by_sync c j k b (of-unique all n r.meet home (event.Sync to) (event.Sync at) (subst (λ (o : ℕ). IsEventOf all r.meet o (event.Sync to)) d f) h) (omega (arith, l, d)) g (nat_lt c m) refl
 
       from : (i < n) ⊎ (i ≡ n) → PrecedesFrom all i n home ⊎ (IsPending all m n home i ⊎ (i ≡ n))
@@ -132,7 +132,7 @@ module _ (all : List Event) where
 
   -- What lies neither at nor below a rank of an instance is ready for what lies there exactly where it is for the instance. So a child, and
   -- an iteration of a loop, begins after what its parent's next event is after.
-  module _ (i n : ℕ) (home path : List ℕ) (r : ℕ) (more : List ℕ) (here : IsPresent all home path) (longest : (other : List ℕ) → IsInstance all other → Begins other path → length other ≤ length home)
+  module _ (i n : ℕ) (home path : List ℕ) (r : ℕ) (more : List ℕ) (here : IsPresent all home path) (longest : (other : List ℕ) → IsInstancePath all other → Begins other path → length other ≤ length home)
       (none : (own : List ℕ) (e : Event) → IsEventOf all own i e → Begins (path ++ r ∷ []) own → ⊥) where
     front-path : (own : List ℕ) (e : Event) → IsEventOf all own i e → (front : List ℕ) → Begins front own → Begins front (path ++ r ∷ more) → Begins front path
     front-path own e h front b c = fronts front path c.0 (r ∷ more) (sym c.1) (short-front front path r more own b c (none own e h))
@@ -155,9 +155,9 @@ module _ (all : List Event) where
         }
 
         waits : PrecedesAtMeet all n x.own (path ++ r ∷ more) x.meet → PrecedesAtMeet all n x.own home x.meet
-        waits (Own e) = Own e
-        waits (Looped c j h p out) = Looped c j h p (λ b. out (begins-begins j home (path ++ r ∷ more) b home-below))
-        waits (Synced c s j at h p k l m) = Synced c s j at h p k l m
+        waits (OfMeet e) = OfMeet e
+        waits (InLoop c j h p out) = InLoop c j h p (λ b. out (begins-begins j home (path ++ r ∷ more) b home-below))
+        waits (BeforeSync c s j at h p k l m) = BeforeSync c s j at h p k l m
 
     pub ready-inside : PrecedesFrom all i n home → PrecedesFrom all i n (path ++ r ∷ more)
     ready-inside x = record { earlier = x.earlier; e = x.e; own = x.own; meet = x.meet; placed = x.placed; parting = parts; awaited = waits x.awaited }
@@ -171,7 +171,7 @@ module _ (all : List Event) where
         }
 
         waits : PrecedesAtMeet all n x.own home x.meet → PrecedesAtMeet all n x.own (path ++ r ∷ more) x.meet
-        waits (Own e) = Own e
-        waits (Looped c j h p out) =
-            Looped c j h p (λ b. (let d = front-path x.own x.e x.placed j (properly-begins j x.own x.own p ([], sym (append-nil x.own))) b in out (front-home j d (here.clear (event.Loop j) j (get-contained all c (event.Loop j) h.numbered) refl d))))
-        waits (Synced c s j at h p k l m) = Synced c s j at h p k l m
+        waits (OfMeet e) = OfMeet e
+        waits (InLoop c j h p out) =
+            InLoop c j h p (λ b. (let d = front-path x.own x.e x.placed j (properly-begins j x.own x.own p ([], sym (append-nil x.own))) b in out (front-home j d (here.clear (event.Loop j) j (get-contained all c (event.Loop j) h.numbered) refl d))))
+        waits (BeforeSync c s j at h p k l m) = BeforeSync c s j at h p k l m

@@ -10,7 +10,7 @@ use Rattle.span_report.specs.declared.instance.OpenInstance.{OpenInstance}
 use Rattle.span_report.specs.Series.{pedigree_of, Begins, BeginsProperly}
 use Rattle.span_report.specs.declared.instance.Begun.TheVariants.{Spawned, Iterated}
 use Rattle.span_report.specs.Opens.{new_open_instance, after_child_end, starts, is_path_below, after_event, iteration_at, iteration_on}
-use Rattle.span_report.specs.Walks.{OpenInstances, left, after_ends, pushed, pushed_iteration, opened_to, instances_after, path_of, walked, walked_all}
+use Rattle.span_report.specs.Walks.{OpenInstances, closed_to, after_ends, pushed, pushed_iteration, opened_to, instances_after, path_of, walked, walked_all}
 
 abbrev pub stack : OpenInstance → List OpenInstance → OpenInstances
 stack o under = record { top = o; under = under }
@@ -38,19 +38,19 @@ leads-below o home path e b = ap (λ (l : List ℕ). starts l path) e ∙ ap (λ
 pub leads-not : (o : OpenInstance) (home path : List ℕ) → o.path ≡ home → (Begins home path → ⊥) → is_path_below o path ≡ false
 leads-not o home path e d = ap (λ (l : List ℕ). starts l path) e ∙ starts-not home path d
 
-pub left-here : (p : List ℕ) (o : OpenInstance) (ps : List OpenInstance) → is_path_below o p ≡ true → left p o ps ≡ stack o ps
+pub left-here : (p : List ℕ) (o : OpenInstance) (ps : List OpenInstance) → is_path_below o p ≡ true → closed_to p o ps ≡ stack o ps
 left-here p o [] e = refl
-left-here p o (x ∷ ps) e = ap (λ (b : Bool). cond b (stack o (x ∷ ps)) (left p (after_child_end x o.begun o.within) ps)) e
+left-here p o (x ∷ ps) e = ap (λ (b : Bool). cond b (stack o (x ∷ ps)) (closed_to p (after_child_end x o.begun o.within) ps)) e
 
-pub left-up : (p : List ℕ) (o x : OpenInstance) (ps : List OpenInstance) → is_path_below o p ≡ false → left p o (x ∷ ps) ≡ left p (after_child_end x o.begun o.within) ps
-left-up p o x ps e = ap (λ (b : Bool). cond b (stack o (x ∷ ps)) (left p (after_child_end x o.begun o.within) ps)) e
+pub left-up : (p : List ℕ) (o x : OpenInstance) (ps : List OpenInstance) → is_path_below o p ≡ false → closed_to p o (x ∷ ps) ≡ closed_to p (after_child_end x o.begun o.within) ps
+left-up p o x ps e = ap (λ (b : Bool). cond b (stack o (x ∷ ps)) (closed_to p (after_child_end x o.begun o.within) ps)) e
 
-pub ended-left : (p : List ℕ) (o : OpenInstance) (ps : List OpenInstance) → after_ends (left p o ps).top (left p o ps).under ≡ after_ends o ps
+pub ended-left : (p : List ℕ) (o : OpenInstance) (ps : List OpenInstance) → after_ends (closed_to p o ps).top (closed_to p o ps).under ≡ after_ends o ps
 ended-left p o [] = refl
 ended-left p o (x ∷ ps) = by (is_path_below o p) (ended-left p (after_child_end x o.begun o.within) ps)
   where
     w : OpenInstances
-    w = left p (after_child_end x o.begun o.within) ps
+    w = closed_to p (after_child_end x o.begun o.within) ps
 
     by : (b : Bool) → after_ends w.top w.under ≡ after_ends (after_child_end x o.begun o.within) ps → after_ends (cond b (stack o (x ∷ ps)) w).top (cond b (stack o (x ∷ ps)) w).under ≡ after_ends o (x ∷ ps)
     by true h = refl
@@ -58,7 +58,7 @@ ended-left p o (x ∷ ps) = by (is_path_below o p) (ended-left p (after_child_en
 
 -- Two stands that come to the same for these paths.
 abbrev pub Same : (List ℕ → Type 0) → OpenInstances → OpenInstances → Type 0
-Same T w v = (p : List ℕ) → T p → left p w.top w.under ≡ left p v.top v.under
+Same T w v = (p : List ℕ) → T p → closed_to p w.top w.under ≡ closed_to p v.top v.under
 
 take-front : (n : ℕ) (xs ys : List ℕ) → n ≡ length xs → take n (xs ++ ys) ≡ xs
 take-front zero [] ys l = refl
@@ -111,7 +111,7 @@ walked_append w (x ∷ xs) ys = walked_append (walked w x) xs ys
 pub walked-own : (T : List ℕ → Type 0) (w : OpenInstances) (o : OpenInstance) (under : List OpenInstance) (home path : List ℕ) (e : Event) → path_of e ≡ path → o.path ≡ home → Begins home path → T path → IsQuiet o path → Same T w (stack o under) →
     walked w e ≡ instances_after (stack o under) e
 walked-own T w o under home path e h r b t q s =
-    ap (λ (p : List ℕ). instances_after (opened_to p (left p w.top w.under)) e) h
+    ap (λ (p : List ℕ). instances_after (opened_to p (closed_to p w.top w.under)) e) h
     ∙ ap (λ (v : OpenInstances). instances_after (opened_to path v) e) (s path t ∙ left-here path o under (leads-below o home path r b))
     ∙ ap (λ (v : OpenInstances). instances_after v e) (entered-open path o under q)
 
@@ -133,11 +133,11 @@ entered-turn j k path o under e b =
 
 -- the steps of the walk at a Spawn
 pub walked-spawn : (old v new : OpenInstances) (e : Event) (j path : List ℕ) (rank : ℕ) (top child : OpenInstance) → e ≡ event.Spawn j → pedigree_of e ≡ path ++ rank ∷ [] →
-    v ≡ opened_to path (left path old.top old.under) → top ≡ after_event v.top e → child ≡ new_open_instance j Spawned top.before → new ≡ pushed (stack top v.under) child → new ≡ walked old e
+    v ≡ opened_to path (closed_to path old.top old.under) → top ≡ after_event v.top e → child ≡ new_open_instance j Spawned top.before → new ≡ pushed (stack top v.under) child → new ≡ walked old e
 walked-spawn old v new e j path rank top child s p hv ht hc hn =
     hn
     ∙ ap (λ (c : OpenInstance). pushed (stack top v.under) c) hc
     ∙ ap (λ (t : OpenInstance). pushed (stack t v.under) (new_open_instance j Spawned t.before)) (ht ∙ ap (λ (x : Event). after_event v.top x) s)
     ∙ ap (λ (x : Event). instances_after v x) (sym s)
     ∙ ap (λ (u : OpenInstances). instances_after u e) hv
-    ∙ ap (λ (l : List ℕ). instances_after (opened_to l (left l old.top old.under)) e) (sym (path-is e path rank p))
+    ∙ ap (λ (l : List ℕ). instances_after (opened_to l (closed_to l old.top old.under)) e) (sym (path-is e path rank p))

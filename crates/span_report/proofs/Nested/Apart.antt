@@ -13,7 +13,7 @@ use Rattle.serial_meaning.proofs.RisingPedigrees.Rising.{BeforeAll, Rise, places
 use Rattle.serial_meaning.proofs.RisingPedigrees.RisingExec.{eval-rises}
 use Rattle.serial_meaning.specs.declared.event.Event.{Event}
 use Rattle.serial_meaning.specs.declared.event.Event.TheVariants as event
-use Rattle.span_report.specs.Series.{Begins, IsEvent, IsInstance, Main, Child, Iteration, IsHome, IsEventOf, IsMeet}
+use Rattle.span_report.specs.Series.{Begins, IsEvent, IsInstancePath, Main, Child, Iteration, IsHome, IsEventOf, IsMeet}
 use Rattle.span_report.specs.Nested.{Instance}
 use Rattle.span_report.proofs.Nested.Clear.{IsClear}
 use Rattle.span_report.proofs.Belonging.Homes.{same-front, apart-length, begins-begins, begins-length, begins-short, begins-rank, fronts, IsPresent}
@@ -66,7 +66,7 @@ module _ (all : List Event) (nested : IsClear all (Instance []) [] 0 all) (rise 
   placed-loop j c = each-contained (IsPlaced all) all (event.Loop j) (all-placed all nested) c
 
   -- where one loop's pedigree is an iteration of another's
-  loop-home : (j : List ℕ) (k : ℕ) → Contains all (event.Loop (j ++ k ∷ [])) → Contains all (event.Loop j) → IsInstance all j
+  loop-home : (j : List ℕ) (k : ℕ) → Contains all (event.Loop (j ++ k ∷ [])) → Contains all (event.Loop j) → IsInstancePath all j
   loop-home j k c d = let p = placed-loop (j ++ k ∷ []) c in own p.home (subst (IsPresent all p.home) (same p.path p.rank p.at) p.present)
     where
       same : (path : List ℕ) (rank : ℕ) → j ++ k ∷ [] ≡ path ++ rank ∷ [] → path ≡ j
@@ -74,23 +74,23 @@ module _ (all : List Event) (nested : IsClear all (Instance []) [] 0 all) (rise 
           let l : length (j ++ k ∷ []) ≡ length (path ++ rank ∷ []) = ap (λ (m : List ℕ). length m) e in
           same-front path j (rank ∷ []) (k ∷ []) (sym e) (omega (arith, l, length-append j (k ∷ []), length-append path (rank ∷ [])))
 
-      own : (home : List ℕ) → IsPresent all home j → IsInstance all j
+      own : (home : List ℕ) → IsPresent all home j → IsInstancePath all j
       own home h =
           let l = h.clear (event.Loop j) j d refl ([], sym (append-nil j)) in
           let m = begins-length home j h.begins in
-          subst (IsInstance all) (same-front home j h.begins.0 [] (sym h.begins.1 ∙ sym (append-nil j)) (omega (arith, l, m))) h.instance
+          subst (IsInstancePath all) (same-front home j h.begins.0 [] (sym h.begins.1 ∙ sym (append-nil j)) (omega (arith, l, m))) h.instance
 
-  no-loop-within : (n : ℕ) (path : List ℕ) → length path ≤ n → IsInstance all path → Contains all (event.Loop path) → ⊥
+  no-loop-within : (n : ℕ) (path : List ℕ) → length path ≤ n → IsInstancePath all path → Contains all (event.Loop path) → ⊥
   no-loop-within n path h Main c = let p = placed-loop [] c in no-end p.path p.rank p.at
   no-loop-within n path h (Child j s) c = spawn-no-loop j s c
   no-loop-within zero path h (Iteration j k s) c = let l = length-append j (k ∷ []) in absurd (omega (arith, l, h))
   no-loop-within (suc n) path h (Iteration j k s) c = no-loop-within n j (let l = length-append j (k ∷ []) in omega (arith, l, h)) (loop-home j k c s) s
 
-  pub instance-no-loop : (path : List ℕ) → IsInstance all path → Contains all (event.Loop path) → ⊥
+  pub instance-no-loop : (path : List ℕ) → IsInstancePath all path → Contains all (event.Loop path) → ⊥
   instance-no-loop path h c = no-loop-within (length path) path (omega arith) h c
 
   -- No instance's path stands between an instance's and a present path of it.
-  pub longest : (home path : List ℕ) → IsPresent all home path → (other : List ℕ) → IsInstance all other → Begins other path → length other ≤ length home
+  pub longest : (home path : List ℕ) → IsPresent all home path → (other : List ℕ) → IsInstancePath all other → Begins other path → length other ≤ length home
   longest home path h other Main b = omega arith
   longest home path h other (Child j s) b = h.clear (event.Spawn j) j s refl b
   longest home path h other (Iteration j k s) b = by (nat_lt (length j) (length home)) refl
@@ -101,7 +101,7 @@ module _ (all : List Event) (nested : IsClear all (Instance []) [] 0 all) (rise 
       equal : length j ≡ length home → ⊥
       equal e =
           let q : home ++ h.begins.0 ≡ j ++ k ∷ b.0 = sym h.begins.1 ∙ b.1 ∙ append_assoc j (k ∷ []) b.0 in
-          instance-no-loop j (subst (IsInstance all) (same-front home j h.begins.0 (k ∷ b.0) q (sym e)) h.instance) s
+          instance-no-loop j (subst (IsInstancePath all) (same-front home j h.begins.0 (k ∷ b.0) q (sym e)) h.instance) s
 
       by : (t : Bool) → nat_lt (length j) (length home) ≡ t → length (j ++ k ∷ []) ≤ length home
       by true g = let m : length j < length home = grind (arith, nat_tests) in let n = length-append j (k ∷ []) in omega (arith, m, n)
@@ -127,13 +127,13 @@ module _ (all : List Event) (nested : IsClear all (Instance []) [] 0 all) (rise 
       begins : (m : ℕ) (zs : List ℕ) → Begins home (j ++ m ∷ zs)
       begins m zs = begins-begins home path (j ++ m ∷ zs) h.begins (r ∷ m ∷ zs, after m zs)
 
-      long : (other : List ℕ) → IsInstance all other → Begins other (j ++ k ∷ xs) → Begins other (j ++ l ∷ ys) → length path < length other → ⊥
+      long : (other : List ℕ) → IsInstancePath all other → Begins other (j ++ k ∷ xs) → Begins other (j ++ l ∷ ys) → length path < length other → ⊥
       long other i a b g =
           let m = apart-length other j k l xs ys d a b in
           let n : length j ≡ length (path ++ r ∷ []) = ap (λ (p : List ℕ). length p) e in
-          instance-no-loop j (subst (IsInstance all) (same-front other j a.0 (k ∷ xs) (sym a.1) (omega (arith, m, n, g, length-append path (r ∷ [])))) i) c
+          instance-no-loop j (subst (IsInstancePath all) (same-front other j a.0 (k ∷ xs) (sym a.1) (omega (arith, m, n, g, length-append path (r ∷ [])))) i) c
 
-      short : (other : List ℕ) → IsInstance all other → Begins other (j ++ k ∷ xs) → Begins other (j ++ l ∷ ys) → Begins other path
+      short : (other : List ℕ) → IsInstancePath all other → Begins other (j ++ k ∷ xs) → Begins other (j ++ l ∷ ys) → Begins other path
       short other i a b = by (nat_lt (length path) (length other)) refl
         where
           by : (t : Bool) → nat_lt (length path) (length other) ≡ t → Begins other path

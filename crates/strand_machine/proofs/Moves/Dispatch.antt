@@ -29,7 +29,7 @@ use Rattle.strand_moves.specs.Moves.{IsTrailOf, ShowsTrail, effects_of, run_of}
 use Rattle.strand_moves.specs.declared.instance.Instance.{Instance as RawInstance}
 use Rattle.strand_moves.specs.declared.effects.Effects.{Effects}
 use Rattle.strand_moves.specs.declared.effects.MoveResult.TheVariants as move_result-in
-use Rattle.strand_family.specs.Origins.{only}
+use Rattle.strand_family.specs.Origins.{loop_part}
 use Rattle.strand_machine.specs.TaskStates.{is_long}
 use Rattle.strand_machine.specs.Family.{FamilyView, family_with_child}
 use Rattle.strand_machine.specs.AwaitedChildren.{awaited, destination_of}
@@ -130,16 +130,16 @@ spawn-is b w next child p s of_plan e h = rw h (record { is = e; keeps = (refl, 
 
 -- Loops
 
-only-half : (o : Origin) (left : Range) → only o (lower_half left) ≡ first_half o left
+only-half : (o : Origin) (left : Range) → loop_part o (lower_half left) ≡ first_half o left
 only-half (Instance function args path) left = refl
 only-half (Loop function rest first path range) left = refl
 
-pub split-many : (b : TaskState) (left upper : Left) (lower : Range) (child : Origin) → 2 ≤ left.range.hi - left.range.lo → lower ≡ lower_half left.range → upper.range ≡ upper_half left.range → child ≡ only b.family.origin lower →
+pub split-many : (b : TaskState) (left upper : Left) (lower : Range) (child : Origin) → 2 ≤ left.range.hi - left.range.lo → lower ≡ lower_half left.range → upper.range ≡ upper_half left.range → child ≡ loop_part b.family.origin lower →
     meaning.step (task_of b (remaining.Splits left)) ≡ meaning.Stops (meaning.Spawn child (task_of (with_child b child destination.Half) (remaining.Splits upper)))
 split-many b left upper lower child h l u c = by_size (left.range.hi - left.range.lo) refl h
   where
     same : child ≡ first_half b.family.origin left.range
-    same = c ∙ ap (only b.family.origin) l ∙ only-half b.family.origin left.range
+    same = c ∙ ap (loop_part b.family.origin) l ∙ only-half b.family.origin left.range
 
     by_size : (n : ℕ) → left.range.hi - left.range.lo ≡ n → 2 ≤ n → split_step (task_of b (remaining.Splits left)) left.range n ≡ meaning.Stops (meaning.Spawn child (task_of (with_child b child destination.Half) (remaining.Splits upper)))
     by_size zero e g = absurd (omega arith)
@@ -158,11 +158,11 @@ split-one b left next e begun =
     ∙ ap (λ (w : meaning.Remaining). meaning.Passes (record (task_of b (remaining.Splits left)) { remaining = w; advanced = true })) (sym begun)
 
 -- a part of a loop has the loop's path
-only-path : (o : Origin) (part : Range) → path_of (only o part) ≡ path_of o
+only-path : (o : Origin) (part : Range) → path_of (loop_part o part) ≡ path_of o
 only-path (Instance function args path) part = refl
 only-path (Loop function rest first path range) part = refl
 
-pub part-trail : (plan : PlanView) (o child : Origin) (part : Range) (trail shared : Trail) → child ≡ only o part → shared ≡ trail → IsTrailOf plan o trail → IsTrailOf plan child shared
+pub part-trail : (plan : PlanView) (o child : Origin) (part : Range) (trail shared : Trail) → child ≡ loop_part o part → shared ≡ trail → IsTrailOf plan o trail → IsTrailOf plan child shared
 part-trail plan o child part trail shared c s h = record {
   fits = subst (FitsGamma plan.gamma) (sym s) h.fits;
   path = ap (λ (t : Trail). t.path) s ∙ h.path ∙ sym (ap path_of c ∙ only-path o part);
@@ -237,10 +237,10 @@ module _ (b : TaskState) (i : RawInstance) where
       meaning.step here ≡ stops_at (child_in (effects_of s)) (task_after_effects b next s)
   go-went next s at e = ap (λ (p : List ℕ). made (move b.family.plan p (moves.machine_of b.family.plan i))) (sym at.at) ∙ ap made e
 
-  pub go-gave : (next : RawInstance) (v : Value) → RunsAt b.family.plan (path_of (own_instance b.family.origin)) i →
+  pub go-returned : (next : RawInstance) (v : Value) → RunsAt b.family.plan (path_of (own_instance b.family.origin)) i →
       move b.family.plan (moves.path_of i) (moves.machine_of b.family.plan i) ≡ run_of (move_result-in.Returned v) (moves.machine_of b.family.plan next) →
       meaning.step here ≡ meaning.Passes (task_of (gone b) (remaining.Runs (stage.Returned v)))
-  go-gave next v at e = ap (λ (p : List ℕ). made (move b.family.plan p (moves.machine_of b.family.plan i))) (sym at.at) ∙ ap made e
+  go-returned next v at e = ap (λ (p : List ℕ). made (move b.family.plan p (moves.machine_of b.family.plan i))) (sym at.at) ∙ ap made e
 
   pub go-faulted : (next : RawInstance) (f : Fault) → RunsAt b.family.plan (path_of (own_instance b.family.origin)) i →
       move b.family.plan (moves.path_of i) (moves.machine_of b.family.plan i) ≡ run_of (move_result-in.Faulted f) (moves.machine_of b.family.plan next) →

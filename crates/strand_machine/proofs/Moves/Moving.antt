@@ -28,7 +28,7 @@ use Rattle.strand_moves.specs.declared.effects.SpawnedChild.{SpawnedChild}
 use Rattle.strand_moves.specs.declared.effects.MoveResult.{MoveResult}
 use Rattle.strand_moves.specs.declared.effects.MoveResult.TheVariants as move_result-in
 use Rattle.strand_moves.specs.declared.effects.Effects.{Effects}
-use Rattle.strand_moves.specs.declared.effects.Effects.TheVariants as shown-in
+use Rattle.strand_moves.specs.declared.effects.Effects.TheVariants as effects-in
 use Rattle.strand_machine.specs.Family.{FamilyView}
 use Rattle.strand_machine.specs.AwaitedChildren.{awaited, destination_of}
 use Rattle.strand_machine.specs.Effects.{task_after_effects, HasSoundEffects}
@@ -45,7 +45,7 @@ use Rattle.strand_machine.specs.declared.remaining.Stage.TheVariants as stage
 use Rattle.strand_machine.specs.declared.remaining.Remaining.{Remaining}
 use Rattle.strand_machine.specs.declared.remaining.Remaining.TheVariants as remaining
 use Rattle.strand_machine.proofs.NextStops.Advancing.{falls, leads-on, leads-over, leads-start}
-use Rattle.strand_machine.proofs.Moves.Dispatch.{awaits-more, pass-sound, pass-is, wait-sound, wait-is, go-went, go-gave, go-faulted, shown-sound}
+use Rattle.strand_machine.proofs.Moves.Dispatch.{awaits-more, pass-sound, pass-is, wait-sound, wait-is, go-went, go-returned, go-faulted, shown-sound}
 
 -- An event changes no child
 
@@ -79,40 +79,40 @@ abbrev pub with_trace : TaskState → Trace → TaskState
 with_trace b p = record b { trace = p }
 
 module _ (b : TaskState) (i : RawInstance) where
-  abbrev goes : Remaining
-  goes = remaining.Runs (stage.Running i)
+  abbrev running : Remaining
+  running = remaining.Runs (stage.Running i)
 
   -- nothing, or where a scope begins or has ended
 
   abbrev pub IsQuiet : Effects → Type 0
-  IsQuiet s = (s ≡ shown-in.Nothing) ⊎ (((j : List ℕ) × s ≡ shown-in.Opened j) ⊎ ((j : List ℕ) × s ≡ shown-in.Closed j))
+  IsQuiet s = (s ≡ effects-in.Nothing) ⊎ (((j : List ℕ) × s ≡ effects-in.Opened j) ⊎ ((j : List ℕ) × s ≡ effects-in.Closed j))
 
-  pub nothing-sound : (s : Effects) → s ≡ shown-in.Nothing → HasSoundEffects b i s → IsSound (gone b) goes
-  nothing-sound s is h = let k : HasSoundEffects b i shown-in.Nothing = subst (HasSoundEffects b i) is h in record { task = k.task; family = k.family; of_plan = k.runs }
+  pub nothing-sound : (s : Effects) → s ≡ effects-in.Nothing → HasSoundEffects b i s → IsSound (gone b) running
+  nothing-sound s is h = let k : HasSoundEffects b i effects-in.Nothing = subst (HasSoundEffects b i) is h in record { task = k.task; family = k.family; of_plan = k.runs }
 
-  pub nothing-step : (s : Effects) (r : MadeStep) → s ≡ shown-in.Nothing → r ≡ step-in.Passes (view_of (gone b) goes) →
+  pub nothing-step : (s : Effects) (r : MadeStep) → s ≡ effects-in.Nothing → r ≡ step-in.Passes (view_of (gone b) running) →
       step_of r ≡ stops_at (child_in (effects_of s)) (task_after_effects b i s)
   nothing-step s r is h = rw (h, is) refl
 
-  pub quiet-sound : (s : Effects) → IsQuiet s → HasSoundEffects b i s → IsSound (gone b) goes
+  pub quiet-sound : (s : Effects) → IsQuiet s → HasSoundEffects b i s → IsSound (gone b) running
   quiet-sound s (inl is) h = nothing-sound s is h
-  quiet-sound s (inr (inl (j, is))) h = let k : HasSoundEffects b i (shown-in.Opened j) = subst (HasSoundEffects b i) is h in record { task = k.task; family = k.family; of_plan = k.runs }
-  quiet-sound s (inr (inr (j, is))) h = let k : HasSoundEffects b i (shown-in.Closed j) = subst (HasSoundEffects b i) is h in record { task = k.task; family = k.family; of_plan = k.runs }
+  quiet-sound s (inr (inl (j, is))) h = let k : HasSoundEffects b i (effects-in.Opened j) = subst (HasSoundEffects b i) is h in record { task = k.task; family = k.family; of_plan = k.runs }
+  quiet-sound s (inr (inr (j, is))) h = let k : HasSoundEffects b i (effects-in.Closed j) = subst (HasSoundEffects b i) is h in record { task = k.task; family = k.family; of_plan = k.runs }
 
-  pub quiet-step : (s : Effects) (r : MadeStep) → IsQuiet s → r ≡ step-in.Passes (view_of (gone b) goes) → step_of r ≡ stops_at (child_in (effects_of s)) (task_after_effects b i s)
+  pub quiet-step : (s : Effects) (r : MadeStep) → IsQuiet s → r ≡ step-in.Passes (view_of (gone b) running) → step_of r ≡ stops_at (child_in (effects_of s)) (task_after_effects b i s)
   quiet-step s r (inl is) h = nothing-step s r is h
   quiet-step s r (inr (inl (j, is))) h = rw (h, is) refl
   quiet-step s r (inr (inr (j, is))) h = rw (h, is) refl
 
   -- an event
 
-  emitted-at : (e : Event) → HasSoundEffects b i (shown-in.Emitted e) → IsSound (gone (with_trace b (emit e b.trace))) goes
+  emitted-at : (e : Event) → HasSoundEffects b i (effects-in.Emitted e) → IsSound (gone (with_trace b (emit e b.trace))) running
   emitted-at e h = record { task = h.task; family = awaits-emitted b.family b.trace e h.family; of_plan = h.runs }
 
-  pub emitted-sound : (s : Effects) (e : Event) (p : Trace) → s ≡ shown-in.Emitted e → p ≡ emit e b.trace → HasSoundEffects b i s → IsSound (gone (with_trace b p)) goes
-  emitted-sound s e p is q h = subst (λ (x : Trace). IsSound (gone (with_trace b x)) goes) (sym q) (emitted-at e (subst (HasSoundEffects b i) is h))
+  pub emitted-sound : (s : Effects) (e : Event) (p : Trace) → s ≡ effects-in.Emitted e → p ≡ emit e b.trace → HasSoundEffects b i s → IsSound (gone (with_trace b p)) running
+  emitted-sound s e p is q h = subst (λ (x : Trace). IsSound (gone (with_trace b x)) running) (sym q) (emitted-at e (subst (HasSoundEffects b i) is h))
 
-  pub emitted-step : (s : Effects) (e : Event) (p : Trace) (r : MadeStep) → s ≡ shown-in.Emitted e → p ≡ emit e b.trace → r ≡ step-in.Passes (view_of (gone (with_trace b p)) goes) →
+  pub emitted-step : (s : Effects) (e : Event) (p : Trace) (r : MadeStep) → s ≡ effects-in.Emitted e → p ≡ emit e b.trace → r ≡ step-in.Passes (view_of (gone (with_trace b p)) running) →
       step_of r ≡ stops_at (child_in (effects_of s)) (task_after_effects b i s)
   emitted-step s e p r is q h = rw (h, q, is) refl
 
@@ -121,39 +121,39 @@ module _ (b : TaskState) (i : RawInstance) where
   abbrev at-sync : Remaining
   at-sync = remaining.Runs (stage.AtSync i)
 
-  synced-at : (e : Event) → HasSoundEffects b i (shown-in.Synced e) → IsSound (gone (with_trace b (emit e b.trace))) at-sync
+  synced-at : (e : Event) → HasSoundEffects b i (effects-in.Synced e) → IsSound (gone (with_trace b (emit e b.trace))) at-sync
   synced-at e h = record { task = h.task; family = awaits-emitted b.family b.trace e h.family; of_plan = h.runs }
 
-  pub synced-sound : (s : Effects) (e : Event) (p : Trace) → s ≡ shown-in.Synced e → p ≡ emit e b.trace → HasSoundEffects b i s → IsSound (gone (with_trace b p)) at-sync
+  pub synced-sound : (s : Effects) (e : Event) (p : Trace) → s ≡ effects-in.Synced e → p ≡ emit e b.trace → HasSoundEffects b i s → IsSound (gone (with_trace b p)) at-sync
   synced-sound s e p is q h = subst (λ (x : Trace). IsSound (gone (with_trace b x)) at-sync) (sym q) (synced-at e (subst (HasSoundEffects b i) is h))
 
-  pub synced-step : (s : Effects) (e : Event) (p : Trace) (r : MadeStep) → s ≡ shown-in.Synced e → p ≡ emit e b.trace → r ≡ step-in.Passes (view_of (gone (with_trace b p)) at-sync) →
+  pub synced-step : (s : Effects) (e : Event) (p : Trace) (r : MadeStep) → s ≡ effects-in.Synced e → p ≡ emit e b.trace → r ≡ step-in.Passes (view_of (gone (with_trace b p)) at-sync) →
       step_of r ≡ stops_at (child_in (effects_of s)) (task_after_effects b i s)
   synced-step s e p r is q h = rw (h, q, is) refl
 
   -- a child
 
-  pub spawned-known : (s : Effects) (e : Event) (o : SpawnedChild) → s ≡ shown-in.Spawned e o → HasSoundEffects b i s → IsOriginOf b.family.plan o.child.origin
-  spawned-known s e o is h = let k : HasSoundEffects b i (shown-in.Spawned e o) = subst (HasSoundEffects b i) is h in k.child
+  pub spawned-known : (s : Effects) (e : Event) (o : SpawnedChild) → s ≡ effects-in.Spawned e o → HasSoundEffects b i s → IsOriginOf b.family.plan o.child.origin
+  spawned-known s e o is h = let k : HasSoundEffects b i (effects-in.Spawned e o) = subst (HasSoundEffects b i) is h in k.child
 
-  pub spawned-trail : (s : Effects) (e : Event) (o : SpawnedChild) → s ≡ shown-in.Spawned e o → HasSoundEffects b i s → IsTrailOf b.family.plan o.child.origin o.child.trail
-  spawned-trail s e o is h = let k : HasSoundEffects b i (shown-in.Spawned e o) = subst (HasSoundEffects b i) is h in k.trail
+  pub spawned-trail : (s : Effects) (e : Event) (o : SpawnedChild) → s ≡ effects-in.Spawned e o → HasSoundEffects b i s → IsTrailOf b.family.plan o.child.origin o.child.trail
+  spawned-trail s e o is h = let k : HasSoundEffects b i (effects-in.Spawned e o) = subst (HasSoundEffects b i) is h in k.trail
 
-  spawned-at : (e : Event) (o : SpawnedChild) → HasSoundEffects b i (shown-in.Spawned e o) →
-      IsSound (with_child (with_trace b (emit e b.trace)) o.child.origin (destination.Spawned o.height o.target)) goes
+  spawned-at : (e : Event) (o : SpawnedChild) → HasSoundEffects b i (effects-in.Spawned e o) →
+      IsSound (with_child (with_trace b (emit e b.trace)) o.child.origin (destination.Spawned o.height o.target)) running
   spawned-at e o h = record {
     task = h.task;
     family = awaits-more b.family (emit e b.trace).handed (record { child = o.child.origin; destination = destination_of (destination.Spawned o.height o.target); after = [] }) (awaits-emitted b.family b.trace e h.family);
     of_plan = h.runs;
   }
 
-  pub spawned-sound : (s : Effects) (e : Event) (o : SpawnedChild) (p : Trace) → s ≡ shown-in.Spawned e o → p ≡ emit e b.trace → HasSoundEffects b i s →
-      IsSound (with_child (with_trace b p) o.child.origin (destination.Spawned o.height o.target)) goes
+  pub spawned-sound : (s : Effects) (e : Event) (o : SpawnedChild) (p : Trace) → s ≡ effects-in.Spawned e o → p ≡ emit e b.trace → HasSoundEffects b i s →
+      IsSound (with_child (with_trace b p) o.child.origin (destination.Spawned o.height o.target)) running
   spawned-sound s e o p is q h =
-      subst (λ (x : Trace). IsSound (with_child (with_trace b x) o.child.origin (destination.Spawned o.height o.target)) goes) (sym q) (spawned-at e o (subst (HasSoundEffects b i) is h))
+      subst (λ (x : Trace). IsSound (with_child (with_trace b x) o.child.origin (destination.Spawned o.height o.target)) running) (sym q) (spawned-at e o (subst (HasSoundEffects b i) is h))
 
-  pub spawned-step : (s : Effects) (e : Event) (o : SpawnedChild) (p : Trace) (r : MadeStep) → s ≡ shown-in.Spawned e o → p ≡ emit e b.trace →
-      r ≡ step-in.Stops (stop-in.Spawn (fresh b.family.plan o.child.origin) (view_of (with_child (with_trace b p) o.child.origin (destination.Spawned o.height o.target)) goes)) →
+  pub spawned-step : (s : Effects) (e : Event) (o : SpawnedChild) (p : Trace) (r : MadeStep) → s ≡ effects-in.Spawned e o → p ≡ emit e b.trace →
+      r ≡ step-in.Stops (stop-in.Spawn (fresh b.family.plan o.child.origin) (view_of (with_child (with_trace b p) o.child.origin (destination.Spawned o.height o.target)) running)) →
       step_of r ≡ stops_at (child_in (effects_of s)) (task_after_effects b i s)
   spawned-step s e o p r is q h = rw (h, q, is) refl
 
@@ -162,13 +162,13 @@ module _ (b : TaskState) (i : RawInstance) where
   abbrev at-loop : Remaining
   at-loop = remaining.Runs (stage.AtLoop i)
 
-  pub looped-known : (s : Effects) (e : Event) (o : LoopedChild) → s ≡ shown-in.Looped e o → HasSoundEffects b i s → IsOriginOf b.family.plan o.child.origin
-  looped-known s e o is h = let k : HasSoundEffects b i (shown-in.Looped e o) = subst (HasSoundEffects b i) is h in k.child
+  pub looped-known : (s : Effects) (e : Event) (o : LoopedChild) → s ≡ effects-in.Looped e o → HasSoundEffects b i s → IsOriginOf b.family.plan o.child.origin
+  looped-known s e o is h = let k : HasSoundEffects b i (effects-in.Looped e o) = subst (HasSoundEffects b i) is h in k.child
 
-  pub looped-trail : (s : Effects) (e : Event) (o : LoopedChild) → s ≡ shown-in.Looped e o → HasSoundEffects b i s → IsTrailOf b.family.plan o.child.origin o.child.trail
-  looped-trail s e o is h = let k : HasSoundEffects b i (shown-in.Looped e o) = subst (HasSoundEffects b i) is h in k.trail
+  pub looped-trail : (s : Effects) (e : Event) (o : LoopedChild) → s ≡ effects-in.Looped e o → HasSoundEffects b i s → IsTrailOf b.family.plan o.child.origin o.child.trail
+  looped-trail s e o is h = let k : HasSoundEffects b i (effects-in.Looped e o) = subst (HasSoundEffects b i) is h in k.trail
 
-  looped-at : (e : Event) (o : LoopedChild) → HasSoundEffects b i (shown-in.Looped e o) →
+  looped-at : (e : Event) (o : LoopedChild) → HasSoundEffects b i (effects-in.Looped e o) →
       IsSound (with_child (with_trace b (emit e b.trace)) o.child.origin (destination.Looped o.target)) at-loop
   looped-at e o h = record {
     task = h.task;
@@ -176,12 +176,12 @@ module _ (b : TaskState) (i : RawInstance) where
     of_plan = h.runs;
   }
 
-  pub looped-sound : (s : Effects) (e : Event) (o : LoopedChild) (p : Trace) → s ≡ shown-in.Looped e o → p ≡ emit e b.trace → HasSoundEffects b i s →
+  pub looped-sound : (s : Effects) (e : Event) (o : LoopedChild) (p : Trace) → s ≡ effects-in.Looped e o → p ≡ emit e b.trace → HasSoundEffects b i s →
       IsSound (with_child (with_trace b p) o.child.origin (destination.Looped o.target)) at-loop
   looped-sound s e o p is q h =
       subst (λ (x : Trace). IsSound (with_child (with_trace b x) o.child.origin (destination.Looped o.target)) at-loop) (sym q) (looped-at e o (subst (HasSoundEffects b i) is h))
 
-  pub looped-step : (s : Effects) (e : Event) (o : LoopedChild) (p : Trace) (r : MadeStep) → s ≡ shown-in.Looped e o → p ≡ emit e b.trace →
+  pub looped-step : (s : Effects) (e : Event) (o : LoopedChild) (p : Trace) (r : MadeStep) → s ≡ effects-in.Looped e o → p ≡ emit e b.trace →
       r ≡ step-in.Stops (stop-in.Spawn (fresh b.family.plan o.child.origin) (view_of (with_child (with_trace b p) o.child.origin (destination.Looped o.target)) at-loop)) →
       step_of r ≡ stops_at (child_in (effects_of s)) (task_after_effects b i s)
   looped-step s e o p r is q h = rw (h, q, is) refl
@@ -222,11 +222,11 @@ module _ (b : TaskState) (i next : RawInstance) (plan : PlanView) (m : MoveResul
       shown-sound b i law next s h (moves-so (move_result-in.Went s) is) (runs-on path sound)
       (subst (λ (q : PlanView). ShowsTrail q s) p (subst (MovesTrail plan) is trail))
 
-  pub gave-sound : StepsAreSound → (v : Value) → m ≡ move_result-in.Returned v → IsSound (gone b) (remaining.Runs (stage.Returned v))
-  gave-sound law v is = pass-sound law b (remaining.Runs (stage.Running i)) (remaining.Runs (stage.Returned v)) h (go-gave b i next v h.of_plan (moves-so (move_result-in.Returned v) is)) tt
+  pub returned-sound : StepsAreSound → (v : Value) → m ≡ move_result-in.Returned v → IsSound (gone b) (remaining.Runs (stage.Returned v))
+  returned-sound law v is = pass-sound law b (remaining.Runs (stage.Running i)) (remaining.Runs (stage.Returned v)) h (go-returned b i next v h.of_plan (moves-so (move_result-in.Returned v) is)) tt
 
-  pub gave-is : (v : Value) (r : MadeStep) → m ≡ move_result-in.Returned v → r ≡ step-in.Passes (view_of (gone b) (remaining.Runs (stage.Returned v))) → IsStep (view_of b (remaining.Runs (stage.Running i))) r
-  gave-is v r is = pass-is b (remaining.Runs (stage.Running i)) (remaining.Runs (stage.Returned v)) r tt (go-gave b i next v h.of_plan (moves-so (move_result-in.Returned v) is))
+  pub returned-is : (v : Value) (r : MadeStep) → m ≡ move_result-in.Returned v → r ≡ step-in.Passes (view_of (gone b) (remaining.Runs (stage.Returned v))) → IsStep (view_of b (remaining.Runs (stage.Running i))) r
+  returned-is v r is = pass-is b (remaining.Runs (stage.Running i)) (remaining.Runs (stage.Returned v)) r tt (go-returned b i next v h.of_plan (moves-so (move_result-in.Returned v) is))
 
   pub faulted-sound : StepsAreSound → (f : Fault) → m ≡ move_result-in.Faulted f → IsSound (gone b) (remaining.Runs (stage.Faulted f))
   faulted-sound law f is = pass-sound law b (remaining.Runs (stage.Running i)) (remaining.Runs (stage.Faulted f)) h (go-faulted b i next f h.of_plan (moves-so (move_result-in.Faulted f) is)) tt
@@ -245,45 +245,45 @@ module _ (b : TaskState) (i next : RawInstance) (plan : PlanView) (m : MoveResul
 
   -- one that shows nothing, or an event alone: the instance goes on
 
-  still-is : (s : Effects) → m ≡ move_result-in.Went s → s ≡ shown-in.Nothing → IsStep (view_of b (remaining.Runs (stage.Running i))) (step-in.Passes (view_of (gone b) (remaining.Runs (stage.Running next))))
+  still-is : (s : Effects) → m ≡ move_result-in.Went s → s ≡ effects-in.Nothing → IsStep (view_of b (remaining.Runs (stage.Running i))) (step-in.Passes (view_of (gone b) (remaining.Runs (stage.Running next))))
   still-is s is shows = went-one s _ is (nothing-step b next s _ shows refl) (refl, refl, refl)
 
-  pub still-on : StepsAreSound → MovesFall → (first : TaskView) → LeadsTo first (view_of b (remaining.Runs (stage.Running i))) → (s : Effects) → m ≡ move_result-in.Went s → s ≡ shown-in.Nothing →
+  pub still-on : StepsAreSound → MovesFall → (first : TaskView) → LeadsTo first (view_of b (remaining.Runs (stage.Running i))) → (s : Effects) → m ≡ move_result-in.Went s → s ≡ effects-in.Nothing →
       moves.path_of next ≡ moves.path_of i → moves.IsInstance plan next → MovesTrail plan m → IsOnRun first (gone b) next
   still-on law fall first leads s is shows path sound trail = record {
     sound = nothing-sound b next s shows (went-sound law s is path sound trail);
     leads = leads-on fall first _ _ _ leads (still-is s is shows) refl;
   }
 
-  pub still-falls : MovesFall → (s : Effects) → m ≡ move_result-in.Went s → s ≡ shown-in.Nothing → moves_left (task_of (gone b) (remaining.Runs (stage.Running next))) < moves_left (task_of b (remaining.Runs (stage.Running i)))
+  pub still-falls : MovesFall → (s : Effects) → m ≡ move_result-in.Went s → s ≡ effects-in.Nothing → moves_left (task_of (gone b) (remaining.Runs (stage.Running next))) < moves_left (task_of b (remaining.Runs (stage.Running i)))
   still-falls fall s is shows = falls fall (view_of b (remaining.Runs (stage.Running i))) (view_of (gone b) (remaining.Runs (stage.Running next))) _ (still-is s is shows) refl
 
-  tells-is : (s : Effects) (t : Event) (q : Trace) → m ≡ move_result-in.Went s → s ≡ shown-in.Emitted t → q ≡ emit t b.trace →
+  emits-is : (s : Effects) (t : Event) (q : Trace) → m ≡ move_result-in.Went s → s ≡ effects-in.Emitted t → q ≡ emit t b.trace →
       IsStep (view_of b (remaining.Runs (stage.Running i))) (step-in.Passes (view_of (gone (with_trace b q)) (remaining.Runs (stage.Running next))))
-  tells-is s t q is shows g = went-one s _ is (emitted-step b next s t q _ shows g refl) (refl, refl, refl)
+  emits-is s t q is shows g = went-one s _ is (emitted-step b next s t q _ shows g refl) (refl, refl, refl)
 
-  pub tells-on : StepsAreSound → MovesFall → (first : TaskView) → LeadsTo first (view_of b (remaining.Runs (stage.Running i))) → (s : Effects) (t : Event) (q : Trace) → m ≡ move_result-in.Went s → s ≡ shown-in.Emitted t → q ≡ emit t b.trace →
+  pub emits-on : StepsAreSound → MovesFall → (first : TaskView) → LeadsTo first (view_of b (remaining.Runs (stage.Running i))) → (s : Effects) (t : Event) (q : Trace) → m ≡ move_result-in.Went s → s ≡ effects-in.Emitted t → q ≡ emit t b.trace →
       moves.path_of next ≡ moves.path_of i → moves.IsInstance plan next → MovesTrail plan m → IsOnRun first (gone (with_trace b q)) next
-  tells-on law fall first leads s t q is shows g path sound trail = record {
+  emits-on law fall first leads s t q is shows g path sound trail = record {
     sound = emitted-sound b next s t q shows g (went-sound law s is path sound trail);
-    leads = leads-on fall first _ _ _ leads (tells-is s t q is shows g) refl;
+    leads = leads-on fall first _ _ _ leads (emits-is s t q is shows g) refl;
   }
 
-  pub tells-falls : MovesFall → (s : Effects) (t : Event) (q : Trace) → m ≡ move_result-in.Went s → s ≡ shown-in.Emitted t → q ≡ emit t b.trace →
+  pub emits-falls : MovesFall → (s : Effects) (t : Event) (q : Trace) → m ≡ move_result-in.Went s → s ≡ effects-in.Emitted t → q ≡ emit t b.trace →
       moves_left (task_of (gone (with_trace b q)) (remaining.Runs (stage.Running next))) < moves_left (task_of b (remaining.Runs (stage.Running i)))
-  tells-falls fall s t q is shows g = falls fall (view_of b (remaining.Runs (stage.Running i))) (view_of (gone (with_trace b q)) (remaining.Runs (stage.Running next))) _ (tells-is s t q is shows g) refl
+  emits-falls fall s t q is shows g = falls fall (view_of b (remaining.Runs (stage.Running i))) (view_of (gone (with_trace b q)) (remaining.Runs (stage.Running next))) _ (emits-is s t q is shows g) refl
 
   -- one that ends the moves in a row: a wait at a sync, a value, a fault
 
   abbrev syncs : Remaining
   syncs = remaining.Runs (stage.AtSync next)
 
-  pub syncs-sound : StepsAreSound → (s : Effects) (t : Event) (q : Trace) → m ≡ move_result-in.Went s → s ≡ shown-in.Synced t → q ≡ emit t b.trace →
+  pub syncs-sound : StepsAreSound → (s : Effects) (t : Event) (q : Trace) → m ≡ move_result-in.Went s → s ≡ effects-in.Synced t → q ≡ emit t b.trace →
       moves.path_of next ≡ moves.path_of i → moves.IsInstance plan next → MovesTrail plan m → IsSound (waiting (gone (with_trace b q))) syncs
   syncs-sound law s t q is shows g path sound trail =
       let k = synced-sound b next s t q shows g (went-sound law s is path sound trail) in wait-sound law (gone (with_trace b q)) syncs syncs k refl k.of_plan
 
-  pub syncs-run : MovesFall → (first : TaskView) → LeadsTo first (view_of b (remaining.Runs (stage.Running i))) → (s : Effects) (t : Event) (q : Trace) → m ≡ move_result-in.Went s → s ≡ shown-in.Synced t → q ≡ emit t b.trace →
+  pub syncs-run : MovesFall → (first : TaskView) → LeadsTo first (view_of b (remaining.Runs (stage.Running i))) → (s : Effects) (t : Event) (q : Trace) → m ≡ move_result-in.Went s → s ≡ effects-in.Synced t → q ≡ emit t b.trace →
       RunsAt b.family.plan (path_of (own_instance b.family.origin)) next → (r : MadeStep) → r ≡ step-in.Stops (stop-in.Wait (view_of (waiting (gone (with_trace b q))) syncs)) → IsRun first r
   syncs-run fall first leads s t q is shows g at r e = record {
     before = view_of (gone (with_trace b q)) syncs;
@@ -295,7 +295,7 @@ module _ (b : TaskState) (i next : RawInstance) (plan : PlanView) (m : MoveResul
       (r : MadeStep) → IsStep (view_of (gone b) (remaining.Runs (stage.Returned v))) r → IsRun first r
   gives-run fall first leads v is r e = record {
     before = view_of (gone b) (remaining.Runs (stage.Returned v));
-    leads = leads-on fall first _ _ _ leads (gave-is v (step-in.Passes (view_of (gone b) (remaining.Runs (stage.Returned v)))) is refl) refl;
+    leads = leads-on fall first _ _ _ leads (returned-is v (step-in.Passes (view_of (gone b) (remaining.Runs (stage.Returned v)))) is refl) refl;
     step = e;
   }
 
@@ -323,10 +323,10 @@ module _ (first : TaskView) (b : TaskState) (i : RawInstance) (h : IsOnRun first
 abbrev pub holding : RawInstance → InstanceParts → RawInstance
 holding i r = record i { parts = record i.parts { value = r } }
 
-moved-gone : (t : meaning.Task) (effects : List Effect) (ending : Result Reached Fault) → meaning.step_result t effects ending ≡ meaning.step_result (record t { advanced = true }) effects ending
-moved-gone t effects (Ok (Stands m)) = refl
-moved-gone t effects (Ok (Gives v)) = refl
-moved-gone t effects (Err f) = refl
+result-gone : (t : meaning.Task) (effects : List Effect) (ending : Result Reached Fault) → meaning.step_result t effects ending ≡ meaning.step_result (record t { advanced = true }) effects ending
+result-gone t effects (Ok (Stands m)) = refl
+result-gone t effects (Ok (Gives v)) = refl
+result-gone t effects (Err f) = refl
 
 -- what comes next where the next step is the same
 next-alike : (t other : meaning.Task) (stop : meaning.Stop) → meaning.step t ≡ meaning.step other → IsNext other stop → IsNext t stop
@@ -338,7 +338,7 @@ module _ (b : TaskState) (i : RawInstance) where
   on_task = task_of b (remaining.Runs (stage.Running i))
 
   step-gone : meaning.step on_task ≡ meaning.step (record on_task { advanced = true })
-  step-gone = let r = move b.family.plan (path_of (own_instance b.family.origin)) (moves.machine_of b.family.plan i) in moved-gone on_task r.items r.ending
+  step-gone = let r = move b.family.plan (path_of (own_instance b.family.origin)) (moves.machine_of b.family.plan i) in result-gone on_task r.items r.ending
 
   -- an instance that goes on is advanced by its next move anyway
   pub gone-run : (first : TaskView) → IsOnRun first b i → IsOnRun first (gone b) i
@@ -371,10 +371,10 @@ module _ (law : StepsAreSound) (fall : MovesFall) (plan : PlanView) (first : Tas
       subst (λ (x : Trace). IsOnRun first (gone (with_trace b x)) (holding i now)) (sym q) (subst (λ (r : InstanceParts). IsOnRun first (gone b) (holding i r)) (sym e) h)
   row-on now trace (More before _ _ row e path sound) =
       let k = row-on before trace row in
-      still-on (gone (with_trace b trace)) (holding i before) (holding i now) plan (move_result-in.Went shown-in.Nothing) p e k.sound law fall first k.leads shown-in.Nothing refl refl path sound tt
+      still-on (gone (with_trace b trace)) (holding i before) (holding i now) plan (move_result-in.Went effects-in.Nothing) p e k.sound law fall first k.leads effects-in.Nothing refl refl path sound tt
   row-on now trace (Emits before _ merging _ t row e q path sound) =
       let k = row-on before merging row in
-      tells-on (gone (with_trace b merging)) (holding i before) (holding i now) plan (move_result-in.Went (shown-in.Emitted t)) p e k.sound law fall first k.leads (shown-in.Emitted t) t trace refl refl q path sound tt
+      emits-on (gone (with_trace b merging)) (holding i before) (holding i now) plan (move_result-in.Went (effects-in.Emitted t)) p e k.sound law fall first k.leads (effects-in.Emitted t) t trace refl refl q path sound tt
 
 -- where the moves in a row came to, before the last one
 pub row-run : StepsAreSound → MovesFall → (plan : PlanView) (b : TaskState) (i : RawInstance) → plan ≡ b.family.plan → IsSound b (remaining.Runs (stage.Running i)) → (now : InstanceParts) (trace : Trace) → Row after plan i.parts.value b.trace now trace →

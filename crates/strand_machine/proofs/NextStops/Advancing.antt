@@ -48,24 +48,24 @@ module _ (t : Task) where
   of-at None next h = h
   of-at (Some o) next h = tt
 
-  of-moved : (ts : List Effect) (e : Result Reached Fault) → KeepsOf t (step_result t ts e)
-  of-moved ts (Ok (Stands m)) = of-at (child_in ts) (passing t ts (meaning.Runs (stage_after ts m))) (refl, refl)
-  of-moved ts (Ok (Gives v)) = (refl, refl)
-  of-moved ts (Err f) = (refl, refl)
+  of-result : (ts : List Effect) (e : Result Reached Fault) → KeepsOf t (step_result t ts e)
+  of-result ts (Ok (Stands m)) = of-at (child_in ts) (passing t ts (meaning.Runs (stage_after ts m))) (refl, refl)
+  of-result ts (Ok (Gives v)) = (refl, refl)
+  of-result ts (Err f) = (refl, refl)
 
   of-faults : (ps : List AwaitedChild) (f : Fault) → KeepsOf t (faults_after ps t f)
   of-faults [] f = of-ends t.trace.fault _
   of-faults (p ∷ ps) f = tt
 
-  of-gave : (o : Origin) (v : Value) → KeepsOf t (returned t o v)
-  of-gave (Instance function args path) v = of-ends t.trace.fault _
-  of-gave (Loop function rest first path range) v = (refl, refl)
+  of-returned : (o : Origin) (v : Value) → KeepsOf t (returned t o v)
+  of-returned (Instance function args path) v = of-ends t.trace.fault _
+  of-returned (Loop function rest first path range) v = (refl, refl)
 
   of-stage : (stage : meaning.Stage) → KeepsOf t (stage_step t stage)
-  of-stage (meaning.Running m) = let r = move t.plan (path_of (own_instance t.origin)) m in of-moved r.items r.ending
+  of-stage (meaning.Running m) = let r = move t.plan (path_of (own_instance t.origin)) m in of-result r.items r.ending
   of-stage (meaning.AtSync m) = tt
   of-stage (meaning.AtLoop m) = tt
-  of-stage (meaning.Ended (Ok v)) = of-gave t.origin v
+  of-stage (meaning.Ended (Ok v)) = of-returned t.origin v
   of-stage (meaning.Ended (Err (Own f))) = of-faults t.trace.handed f
   of-stage (meaning.Ended (Err (ChildFaulted f))) = of-ends t.trace.fault _
 

@@ -19,11 +19,11 @@ use Rattle.serial_meaning.specs.declared.origin.Origin.TheVariants.{Instance, Lo
 use Rattle.strand_meaning.specs.Strands.{events_at, own_events, own_fault_at, is_below, child_on_way, Strand, Found, FoundStrand, Missing, Blocked, strand_of, last_step, blocking_fault, entered_child, iteration_on_way, next_step, by_child, is_one_of, walk_in, strand_at}
 use Rattle.strand_meaning.specs.Rest.{children_of}
 use Rattle.strand_meaning.specs.StrandLaws.{IsWholeUpTo, fault_at, strand_in}
-use Rattle.strand_meaning.proofs.SoundSteps.Depth.{loop-of-plan, same-answer}
-use Rattle.strand_meaning.proofs.SoundSteps.Loops.{contains-turn}
+use Rattle.strand_meaning.proofs.SoundSteps.OriginsFitDepth.{loop-of-plan, same-answer}
+use Rattle.strand_meaning.proofs.SoundSteps.HalvesMakeLoops.{contains-turn}
 use Rattle.strand_meaning.proofs.Unfilled.Variables.{same-name, is-itself}
 use Rattle.strand_meaning.proofs.ElisionsStrands.ItemsRise.{NotBelow, IsWholeLoop, ItemsRise, items-rise}
-use Rattle.strand_meaning.proofs.ElisionsStrands.Passing.{Agree, agree, own-strand}
+use Rattle.strand_meaning.proofs.ElisionsStrands.EventsSplitByChildren.{Agree, agree, own-strand}
 use Rattle.strand_meaning.proofs.ElisionsStrands.EventsBelowPath.{children-under}
 
 -- Below a path

@@ -15,7 +15,7 @@ use Rattle.serial_meaning.specs.Runs.{Run, done, ◌then◌}
 use Rattle.serial_meaning.specs.Values.{value_of, values_of, slot_of, items_of, as_integer, is_true, at_index}
 use Rattle.serial_meaning.specs.Functions.{function_number, function_at}
 use Rattle.serial_meaning.specs.Plan.{PlanView, functions_of}
-use Rattle.serial_meaning.specs.Exec.{State, Manner, unless_fault, paid_from, tested, has_room, fits_depth, spawn, sync_at, goes_out, implied, frame, called, right_side, found, looped, does, count_of}
+use Rattle.serial_meaning.specs.Exec.{State, Manner, unless_fault, paid_from, tested, has_room, loop_fits, spawn, sync_at, goes_out, implied, frame, called, right_side, found, looped, does, count_of}
 use Rattle.serial_meaning.specs.Open.{is_empty_loop}
 use Rattle.serial_meaning.specs.declared.value.Value.{Value}
 use Rattle.serial_meaning.specs.declared.value.Value.TheVariants.{Int}
@@ -98,7 +98,7 @@ module _ (plan : PlanView) (path : List ℕ) (functions : List ℕ) (destination
 
   hands-loop : (target : Option Name) (c : CallText) (lo : ℤ) (hi : ℕ) (vs : List Value) (s : State Bool) → Hands (looped what plan path lo hi vs target c s)
   hands-loop target c lo hi vs s =
-      hands-tested (nat_lt hi (s.steps + 1)) Budget s _ (hands-tested (has_room target hi s.env) Index _ _ (hands-tested (fits_depth what plan path hi) Depth _ _ (by_size (is_empty_loop o))))
+      hands-tested (nat_lt hi (s.steps + 1)) Budget s _ (hands-tested (has_room target hi s.env) Index _ _ (hands-tested (loop_fits plan path hi) Depth _ _ (by_size (is_empty_loop o))))
     where
       o : Origin
       o = origin.Loop (function_number (functions_of plan) c.name.bytes) vs lo (path ++ s.rank ∷ []) (record { lo = 0; hi = hi })

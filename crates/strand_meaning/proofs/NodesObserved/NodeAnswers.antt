@@ -13,7 +13,7 @@ use Rattle.strand_meaning.specs.Trace.{AwaitedChild}
 use Rattle.strand_meaning.specs.Task.{Stage, Running, AtSync, AtLoop, Ended, Remaining, Splits, Runs, Finished, Task, in_machine, takes, takes_all, pass_sync, resumed, on}
 use Rattle.strand_meaning.specs.Rest.{evaluations}
 use Rattle.strand_meaning.specs.Sound.{IsSoundStage, IsTask}
-use Rattle.strand_meaning.specs.Observation.{IsInstance, remaining_node, Observation, stage_fault, IsOnWay}
+use Rattle.strand_meaning.specs.Observation.{IsInstanceOrigin, remaining_node, Observation, stage_fault, IsOnWay}
 use Rattle.strand_meaning.proofs.TakenAnswers.AnswersKeepTasks.{rest-same, none-handed}
 use Rattle.strand_meaning.proofs.Unfilled.MovesBeforeAnswers.{takes-taken}
 
@@ -76,10 +76,10 @@ stage-answers t function args path stage observation is h = record {
         ap (λ (r : Run Item NodeFault Value). r then λ v. done (v ∷ [])) (rest-same u is stage)
         ∙ ap (λ (ps : List AwaitedChild). remaining_node t.plan (Instance function args path) ps (Runs taken_stage)) (sym (none-handed u is))
 
-pub answers_show_nothing : (t : Task) (observation : Observation) → IsTask t → IsInstance t.origin → IsOnWay observation t → IsOnWay observation (on (evaluations (eval t.plan) t.trace.handed) t)
+pub answers_show_nothing : (t : Task) (observation : Observation) → IsTask t → IsInstanceOrigin t.origin → IsOnWay observation t → IsOnWay observation (on (evaluations (eval t.plan) t.trace.handed) t)
 answers_show_nothing t observation is inst h = by_origin t.origin is inst h
   where
-    by_origin : (o : Origin) → IsTask (record t { origin = o }) → IsInstance o → IsOnWay observation (record t { origin = o }) →
+    by_origin : (o : Origin) → IsTask (record t { origin = o }) → IsInstanceOrigin o → IsOnWay observation (record t { origin = o }) →
         let u : Task = record t { origin = o } in IsOnWay observation (on (evaluations (eval u.plan) u.trace.handed) u)
     by_origin (Loop function rest first path range) is inst h = absurd inst
     by_origin (Instance function args path) is inst h = by_remaining t.remaining is h

@@ -18,15 +18,15 @@ use Rattle.strand_meaning.specs.Rest.{children_of, rest_of_stage, rest_open}
 use Rattle.strand_meaning.specs.Laws.{IsSoundStep, IsSameTask}
 use Rattle.strand_meaning.specs.Sound.{AreDestinations, AreHalves, IsSoundStage, IsTask}
 use Rattle.strand_meaning.specs.Strands.{fault_of_child}
-use Rattle.strand_meaning.specs.Observation.{IsInstance, remaining_node, Observation, no_observation, newest, also, effect_items, move_fault, stage_observation, step_observation, Shows, Now as ShownNow, Later as ShownLater, own_fault_of, stage_fault, IsOnWay, IsAllObserved, OnWay}
+use Rattle.strand_meaning.specs.Observation.{IsInstanceOrigin, remaining_node, Observation, no_observation, newest, also, effect_items, move_fault, stage_observation, step_observation, Shows, Now as ShownNow, Later as ShownLater, own_fault_of, stage_fault, IsOnWay, IsAllObserved, OnWay}
 use Rattle.strand_meaning.proofs.UnfilledPending.AlikeButEvents.{alike-effects, alike-takes}
-use Rattle.strand_meaning.proofs.SoundSteps.Closing.{after-then}
-use Rattle.strand_meaning.proofs.SoundSteps.Ends.{steps_are_sound}
+use Rattle.strand_meaning.proofs.SoundSteps.ChildrenCloseNodes.{after-then}
+use Rattle.strand_meaning.proofs.SoundSteps.StepsKeepTasks.{steps_are_sound}
 use Rattle.strand_meaning.proofs.Unfilled.RestAfterEffects.{effect_parts}
 use Rattle.strand_meaning.proofs.Unfilled.SoundMoves.{sound-free, SoundEnd, sound-move}
-use Rattle.strand_meaning.proofs.SoundSteps.Steps.{ended-rest, halves-places}
-use Rattle.strand_meaning.proofs.SoundSteps.Starts.{begun-whole, halves-rest}
-use Rattle.strand_meaning.proofs.NextStops.Stops.{KeepsStep, step-keeps}
+use Rattle.strand_meaning.proofs.SoundSteps.MovesKeepTasks.{ended-rest, halves-places}
+use Rattle.strand_meaning.proofs.SoundSteps.RestStartsAsNode.{begun-whole, halves-rest}
+use Rattle.strand_meaning.proofs.NextStops.OneSoundStop.{KeepsStep, step-keeps}
 use Rattle.strand_meaning.proofs.Unfilled.MovesBeforeAnswers.{shown_with, open-move, none-known}
 
 -- Observations one after another
@@ -47,10 +47,10 @@ also-nothing observation = ap (λ (l : List Item). record observation { items = 
 -- A move
 
 -- where an instance stands after a move
-abbrev stage_moved : List Effect → Result Reached Fault → Stage
-stage_moved ts (Ok (Stands k)) = stage_after ts k
-stage_moved ts (Ok (Gives v)) = Ended (Ok v)
-stage_moved ts (Err f) = Ended (Err (Own f))
+abbrev stage_result : List Effect → Result Reached Fault → Stage
+stage_result ts (Ok (Stands k)) = stage_after ts k
+stage_result ts (Ok (Gives v)) = Ended (Ok v)
+stage_result ts (Err f) = Ended (Err (Own f))
 
 after-after : {A : Type 0} (xs ys : List Item) (r : Run Item NodeFault A) → after_items xs (after_items ys r) ≡ after_items (xs ++ ys) r
 after-after xs ys r = ap (λ (l : List Item). record { items = l; ending = r.ending }) (sym (append_assoc xs ys r.items))
@@ -64,10 +64,10 @@ after-fault (Handed o destination ∷ ts) k = after-fault ts k
 after-fault (Syncs ∷ ts) k = refl
 after-fault (Loops ∷ ts) k = refl
 
-moved-fault : (ts : List Effect) (e : Result Reached Fault) → newest None (move_fault e) ≡ stage_fault (stage_moved ts e)
-moved-fault ts (Ok (Stands k)) = sym (after-fault ts k)
-moved-fault ts (Ok (Gives v)) = refl
-moved-fault ts (Err f) = refl
+result-fault : (ts : List Effect) (e : Result Reached Fault) → newest None (move_fault e) ≡ stage_fault (stage_result ts e)
+result-fault ts (Ok (Stands k)) = sym (after-fault ts k)
+result-fault ts (Ok (Gives v)) = refl
+result-fault ts (Err f) = refl
 
 -- a task's instance on its way, with these parts handed out
 record Way (plan : PlanView) (o : Origin) (ps : List AwaitedChild) (stage : Stage) (observation : Observation) : Type 0 where
@@ -86,7 +86,7 @@ module _ (plan : PlanView) (o : Origin) where
     abbrev ps : List AwaitedChild
     ps = trace.handed
 
-    lands : (ts : List Effect) (e : Result Reached Fault) → SoundEnd plan ps ts e → shown_with plan kids path ps ts e ≡ rest_open plan kids path (with_effects ts trace).handed (stage_moved ts e)
+    lands : (ts : List Effect) (e : Result Reached Fault) → SoundEnd plan ps ts e → shown_with plan kids path ps ts e ≡ rest_open plan kids path (with_effects ts trace).handed (stage_result ts e)
     lands ts e fits = by_end e fits
       where
         to-after : (stage : Stage) → rest_open plan kids path (ps ++ effect_parts ts) stage ≡ rest_open plan kids path (with_effects ts trace).handed stage
@@ -95,22 +95,22 @@ module _ (plan : PlanView) (o : Origin) where
         no-more : effect_parts ts ≡ [] → ps ≡ ps ++ effect_parts ts
         no-more h = sym (ap (λ (l : List AwaitedChild). ps ++ l) h ∙ append-nil ps)
 
-        by_end : (e : Result Reached Fault) → SoundEnd plan ps ts e → shown_with plan kids path ps ts e ≡ rest_open plan kids path (with_effects ts trace).handed (stage_moved ts e)
+        by_end : (e : Result Reached Fault) → SoundEnd plan ps ts e → shown_with plan kids path ps ts e ≡ rest_open plan kids path (with_effects ts trace).handed (stage_result ts e)
         by_end (Ok (Stands k)) fits = to-after (stage_after ts k)
         by_end (Ok (Gives v)) fits =
             sym (ended-rest plan kids path 0 (ps ++ effect_parts ts) (halves-places (ps ++ effect_parts ts) (subst AreHalves (no-more fits.0) fits.1)) (Ok v)) ∙ to-after (Ended (Ok v))
         by_end (Err f) fits = sym (ended-rest plan kids path fits.1 (ps ++ effect_parts ts) (subst (AreDestinations fits.1) (no-more fits.0) fits.2) (Err (Own f))) ∙ to-after (Ended (Err (Own f)))
 
-    way-moved : (m : Machine) (observation : Observation) (ts : List Effect) (e : Result Reached Fault) → SoundEnd plan ps ts e →
+    way-result : (m : Machine) (observation : Observation) (ts : List Effect) (e : Result Reached Fault) → SoundEnd plan ps ts e →
         rest_open plan kids path ps (Running m) ≡ after_items (effect_items ts) (shown_with plan kids path ps ts e) → Way plan o ps (Running m) observation →
-        Way plan o (with_effects ts trace).handed (stage_moved ts e) (also observation (record { items = effect_items ts; fault = move_fault e; child_fault = None }))
-    way-moved m observation ts e fits leaves w = record {
+        Way plan o (with_effects ts trace).handed (stage_result ts e) (also observation (record { items = effect_items ts; fault = move_fault e; child_fault = None }))
+    way-result m observation ts e fits leaves w = record {
       node =
           w.node
           ∙ ap (λ (r : Run Item NodeFault Value). after_items observation.items (r then all_of)) (leaves ∙ ap (after_items (effect_items ts)) (lands ts e fits))
-          ∙ ap (after_items observation.items) (after-then (effect_items ts) (rest_open plan kids path (with_effects ts trace).handed (stage_moved ts e)) all_of)
-          ∙ after-after observation.items (effect_items ts) (rest_open plan kids path (with_effects ts trace).handed (stage_moved ts e) then all_of);
-      fault = ap (λ (f : Option Fault). newest f (move_fault e)) w.fault ∙ moved-fault ts e;
+          ∙ ap (after_items observation.items) (after-then (effect_items ts) (rest_open plan kids path (with_effects ts trace).handed (stage_result ts e)) all_of)
+          ∙ after-after observation.items (effect_items ts) (rest_open plan kids path (with_effects ts trace).handed (stage_result ts e) then all_of);
+      fault = ap (λ (f : Option Fault). newest f (move_fault e)) w.fault ∙ result-fault ts e;
       child_fault = w.child_fault;
     }
       where
@@ -189,7 +189,7 @@ module _ (t : Task) (function : ℕ) (args : List Value) (at : List ℕ) where
   on-way trace waiting stage observation w = record { node = w.node; fault = w.fault; child_fault = w.child_fault }
 
   moves-on : (m : Machine) → IsTask (with_stage (Running m)) → (observation : Observation) → IsOnWay observation (with_stage (Running m)) → OnStep (also observation (step_observation (with_stage (Running m)))) (with_stage (Running m)) (step (with_stage (Running m)))
-  moves-on m is observation h = by_end r.items r.ending (way-moved t.plan own t.trace m observation r.items r.ending fits leaves (way-of (Running m) observation h))
+  moves-on m is observation h = by_end r.items r.ending (way-result t.plan own t.trace m observation r.items r.ending fits leaves (way-of (Running m) observation h))
     where
       r : Run Effect Fault Reached
       r = move t.plan at m
@@ -210,7 +210,7 @@ module _ (t : Task) (function : ℕ) (args : List Value) (at : List ℕ) where
 
       by_end : (ts : List Effect) (e : Result Reached Fault) →
           let later : Observation = also observation (record { items = effect_items ts; fault = move_fault e; child_fault = None }) in
-          Way t.plan own (with_effects ts t.trace).handed (stage_moved ts e) later → OnStep later (with_stage (Running m)) (step_result (with_stage (Running m)) ts e)
+          Way t.plan own (with_effects ts t.trace).handed (stage_result ts e) later → OnStep later (with_stage (Running m)) (step_result (with_stage (Running m)) ts e)
       by_end ts (Ok (Stands k)) w = by_child (child_in ts)
         where
           later : Observation
@@ -241,10 +241,10 @@ module _ (t : Task) (function : ℕ) (args : List Value) (at : List ℕ) where
       by_parts (q ∷ qs) = waits-on (Ended (Err (Own f))) observation h
   stage-on (Ended (Err (ChildFaulted f))) is observation h = ends-whole _ (with_stage (Ended (Err (ChildFaulted f)))) (ends-so (Err (ChildFaulted f)) 0 (subst (AreDestinations 0) (sym is.remaining.2) tt) observation h) t.trace.fault _
 
-step-on : (t : Task) → IsTask t → IsInstance t.origin → (observation : Observation) → IsOnWay observation t → OnStep (also observation (step_observation t)) t (step t)
+step-on : (t : Task) → IsTask t → IsInstanceOrigin t.origin → (observation : Observation) → IsOnWay observation t → OnStep (also observation (step_observation t)) t (step t)
 step-on t is inst observation h = by_origin t.origin is inst h
   where
-    by_origin : (o : Origin) → IsTask (record t { origin = o }) → IsInstance o → IsOnWay observation (record t { origin = o }) → OnStep (also observation (step_observation (record t { origin = o }))) (record t { origin = o }) (step (record t { origin = o }))
+    by_origin : (o : Origin) → IsTask (record t { origin = o }) → IsInstanceOrigin o → IsOnWay observation (record t { origin = o }) → OnStep (also observation (step_observation (record t { origin = o }))) (record t { origin = o }) (step (record t { origin = o }))
     by_origin (Loop function rest first at range) is inst h = absurd inst
     by_origin (Instance function args at) is inst h = by_remaining t.remaining is h
       where
@@ -263,7 +263,7 @@ on-further observation t next (Wait rest) of h = h
 on-further observation t next (End out ended) of h =
     subst (λ (p : PlanView). IsAllObserved p t.origin observation) of.0 (subst (λ (o : Origin). IsAllObserved next.plan o observation) of.1 h)
 
-pub observation_goes_on : (t : Task) (observation later : Observation) (stop : Stop) → IsTask t → IsInstance t.origin → IsOnWay observation t → Shows t later stop → OnWay (also observation later) t stop
+pub observation_goes_on : (t : Task) (observation later : Observation) (stop : Stop) → IsTask t → IsInstanceOrigin t.origin → IsOnWay observation t → Shows t later stop → OnWay (also observation later) t stop
 observation_goes_on t observation later stop is inst h (ShownNow e same) =
     subst (λ (l : Observation). OnWay (also observation l) t stop) (sym same) (subst (OnStep (also observation (step_observation t)) t) e (step-on t is inst observation h))
 observation_goes_on t observation later stop is inst h (ShownLater next more e shows same) =
@@ -271,11 +271,11 @@ observation_goes_on t observation later stop is inst h (ShownLater next more e s
     let sound : IsTask next = subst (IsSoundStep t) e (steps_are_sound t is) in
     let on : IsOnWay (also observation (step_observation t)) next = subst (OnStep (also observation (step_observation t)) t) e (step-on t is inst observation h) in
     subst (λ (l : Observation). OnWay l t stop) (also-assoc observation (step_observation t) more ∙ ap (also observation) (sym same))
-    (on-further (also (also observation (step_observation t)) more) t next stop of (observation_goes_on next (also observation (step_observation t)) more stop sound (subst IsInstance (sym of.1) inst) on shows))
+    (on-further (also (also observation (step_observation t)) more) t next stop of (observation_goes_on next (also observation (step_observation t)) more stop sound (subst IsInstanceOrigin (sym of.1) inst) on shows))
 
 -- The beginning
 
-pub observation_begins : (plan : PlanView) (o : Origin) → IsInstance o → IsOnWay no_observation (start plan o)
+pub observation_begins : (plan : PlanView) (o : Origin) → IsInstanceOrigin o → IsOnWay no_observation (start plan o)
 observation_begins plan (Loop function rest first path range) inst = absurd inst
 observation_begins plan (Instance function args path) inst = record {
   node =

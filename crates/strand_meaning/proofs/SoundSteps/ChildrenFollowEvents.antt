@@ -14,7 +14,7 @@ use Rattle.serial_meaning.specs.Runs.{Run, done, continued, ◌then◌}
 use Rattle.serial_meaning.specs.Values.{value_of, values_of, slot_of, items_of, as_integer, is_true, at_index}
 use Rattle.serial_meaning.specs.Functions.{function_number, function_at}
 use Rattle.serial_meaning.specs.Plan.{PlanView, functions_of}
-use Rattle.serial_meaning.specs.Exec.{State, Manner, strand, unless_fault, paid_from, tested, has_room, fits_depth, spawn, sync_here, implied, frame, called, right_side, found, looped, does, count_of}
+use Rattle.serial_meaning.specs.Exec.{State, Manner, strand, unless_fault, paid_from, tested, has_room, loop_fits, spawn, sync_here, implied, frame, called, right_side, found, looped, does, count_of}
 use Rattle.serial_meaning.specs.Laws.{raising_pedigrees}
 use Rattle.serial_meaning.specs.Eval.{path_of}
 use Rattle.serial_meaning.specs.Open.{is_empty_loop}
@@ -126,7 +126,7 @@ module _ (P : List Effect → Type 0) (plan : PlanView) (whole : List ℕ) (rule
 
   owns-loop : (target : Option Name) (c : CallText) (lo : ℤ) (hi : ℕ) (vs : List Value) (s : State Bool) → Owns (looped (what (Looped target)) plan path lo hi vs target c s)
   owns-loop target c lo hi vs s =
-      owns-tested destination (nat_lt hi (s.steps + 1)) Budget s _ (owns-tested destination (has_room target hi s.env) Index _ _ (owns-tested destination (fits_depth (what destination) plan path hi) Depth _ _
+      owns-tested destination (nat_lt hi (s.steps + 1)) Budget s _ (owns-tested destination (has_room target hi s.env) Index _ _ (owns-tested destination (loop_fits plan path hi) Depth _ _
       (subst P (sym (append-nil (Emitted e ∷ loop_effects (is_empty_loop o) o destination))) (rules.looped e o target (is_empty_loop o) (begins e o s.rank refl refl refl)))))
     where
       destination : Destination

@@ -14,7 +14,7 @@ use Rattle.strand_meaning.specs.Trace.{AwaitedChild, Trace, after_last, emit, em
 use Rattle.strand_meaning.specs.Task.{more_values}
 use Rattle.strand_meaning.specs.Rest.{closed_run, prefix_run, awaited_run}
 use Rattle.strand_meaning.specs.Observation.{effect_items}
-use Rattle.strand_meaning.proofs.SoundSteps.Closing.{after-then}
+use Rattle.strand_meaning.proofs.SoundSteps.ChildrenCloseNodes.{after-then}
 
 -- a child of an instance
 abbrev pub NotHalf : Effect → Type 0

@@ -15,7 +15,7 @@ use Rattle.strand_meaning.specs.Trace.{AwaitedChild, Trace}
 use Rattle.strand_meaning.specs.Task.{Remaining, Splits, Task, more_values}
 use Rattle.strand_meaning.specs.Rest.{GaveValue, GaveValues, prefix_run, awaited_run, iterations_left, remaining_run}
 use Rattle.strand_meaning.specs.Sound.{IsTask}
-use Rattle.strand_meaning.proofs.SoundSteps.Closing.{after-then}
+use Rattle.strand_meaning.proofs.SoundSteps.ChildrenCloseNodes.{after-then}
 use Rattle.strand_meaning.proofs.SoundSteps.Finishing.{so_far}
 
 -- where children gave values, how what is after them ends

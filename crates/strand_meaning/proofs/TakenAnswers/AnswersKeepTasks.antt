@@ -17,11 +17,11 @@ use Rattle.strand_meaning.specs.Task.{Stage, Running, AtSync, AtLoop, Ended, Rem
 use Rattle.strand_meaning.specs.Found.{FindsTargets, functions_left}
 use Rattle.strand_meaning.specs.Rest.{children_of, evaluations, rest_of_stage, rest_open, closed_run, prefix_end, prefix_run, awaited_run, all_with, remaining_run, finish}
 use Rattle.strand_meaning.specs.Sound.{unfilled_by, unfilled, is_by, any_by, IsSound, AreSound, IsDestination, AreDestinations, IsHalf, after_sync, IsSoundStage, AreSoundChildren, IsSoundRemaining, AreShownBy, UnfilledArePendingIn, IsTask}
-use Rattle.strand_meaning.proofs.SoundSteps.Closing.{after-then}
+use Rattle.strand_meaning.proofs.SoundSteps.ChildrenCloseNodes.{after-then}
 use Rattle.strand_meaning.proofs.Unfilled.ChangesCommute.{length-changed}
 use Rattle.strand_meaning.proofs.Unfilled.Clears.{clear-within}
 use Rattle.strand_meaning.proofs.UnfilledPending.PendingAnswers.{answers-pending}
-use Rattle.strand_meaning.proofs.SoundSteps.Steps.{so_far-same}
+use Rattle.strand_meaning.proofs.SoundSteps.MovesKeepTasks.{so_far-same}
 
 clash : true ≡ false → ⊥
 clash h = absurd (cc)

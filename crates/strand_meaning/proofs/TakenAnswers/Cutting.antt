@@ -27,9 +27,9 @@ use Rattle.strand_meaning.specs.Rest.{GaveValue, GaveValues, evaluations, prefix
 use Rattle.strand_meaning.specs.Sound.{AreSoundChildren, IsBegunBy, IsPartAfter, IsShownAs, IsUndivided, AreShownBy, IsTask}
 use Rattle.strand_meaning.specs.Task.{Task, more_values}
 use Rattle.strand_meaning.proofs.TakenAnswers.AnswerRuns.{answers_are_evaluations}
-use Rattle.strand_meaning.proofs.SoundSteps.Begun.{front_of}
-use Rattle.strand_meaning.proofs.SoundSteps.Closing.{after-then}
-use Rattle.strand_meaning.proofs.SoundSteps.Ends.{err-outcome}
+use Rattle.strand_meaning.proofs.SoundSteps.EventsShowChildren.{front_of}
+use Rattle.strand_meaning.proofs.SoundSteps.ChildrenCloseNodes.{after-then}
+use Rattle.strand_meaning.proofs.SoundSteps.StepsKeepTasks.{err-outcome}
 
 module _ (child : Origin → Evaluation) where
   -- What stands before a child is among what the trace gives, where the children before it gave values.

@@ -17,7 +17,7 @@ use Rattle.serial_meaning.specs.Names.{names_in}
 use Rattle.serial_meaning.specs.Values.{Env, value_of, values_of, slot_of, items_of, as_integer, is_true, at_index}
 use Rattle.serial_meaning.specs.Functions.{function_number, function_at}
 use Rattle.serial_meaning.specs.Plan.{PlanView, functions_of, drawn}
-use Rattle.serial_meaning.specs.Exec.{State, Manner, strand, unless_fault, paid_from, tested, has_room, fits_depth, with_loop_values, spawn, sync_here, implied, frame, called, right_side, found, store, looped, does, count_of, with_slot, set_item, set_array, bound}
+use Rattle.serial_meaning.specs.Exec.{State, Manner, strand, unless_fault, paid_from, tested, has_room, loop_fits, with_loop_values, spawn, sync_here, implied, frame, called, right_side, found, store, looped, does, count_of, with_slot, set_item, set_array, bound}
 use Rattle.serial_meaning.specs.Open.{is_empty_loop, filler}
 use Rattle.serial_meaning.specs.declared.value.Value.{Value}
 use Rattle.serial_meaning.specs.declared.value.Value.TheVariants.{Int}
@@ -244,7 +244,7 @@ module _ (plan : PlanView) (path : List ℕ) (fix : Env → Env) (mark : Option 
           (so-tested (Looped target) fits fits Depth (n - hi) _ _ refl (by_size (is_empty_loop o))))
         where
           fits : Bool
-          fits = fits_depth (what (Looped target)) plan now hi
+          fits = loop_fits plan now hi
 
           o : Origin
           o = origin.Loop (function_number (functions_of plan) c.name.bytes) vs lo (now ++ m.rank ∷ []) (record { lo = 0; hi = hi })

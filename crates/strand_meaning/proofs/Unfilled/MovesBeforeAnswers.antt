@@ -20,7 +20,7 @@ use Rattle.strand_meaning.specs.Sound.{IsDestination, AreDestinations, is_by, an
 use Rattle.strand_meaning.specs.Observation.{effect_items}
 use Rattle.strand_meaning.proofs.Unfilled.RestAfterEffects.{effect_parts, after_effects}
 use Rattle.strand_meaning.proofs.Unfilled.UntouchedStays.{keeps-answer, keeps-nothing, first-contained}
-use Rattle.strand_meaning.proofs.Unfilled.Moves.{complete-move}
+use Rattle.strand_meaning.proofs.Unfilled.MovesMirrorTree.{complete-move}
 use Rattle.strand_meaning.specs.Laws.{on_reached, changed_run}
 use Rattle.strand_meaning.proofs.Unfilled.ChangesCommute.{length-changed, IsFree, altered-move}
 

@@ -20,7 +20,7 @@ use Rattle.serial_meaning.specs.Names.{Names}
 use Rattle.serial_meaning.specs.Values.{Env, value_of, values_of, slot_of, items_of, as_integer, is_true, at_index}
 use Rattle.serial_meaning.specs.Functions.{function_number, function_at, act_spawns, spawns, any_spawns, any_true}
 use Rattle.serial_meaning.specs.Plan.{PlanView, functions_of}
-use Rattle.serial_meaning.specs.Exec.{State, Manner, fault, unless_fault, paid_from, tested, has_room, fits_depth, with_loop_values, spawn, sync_here, implied, frame, called, right_side, found, store, looped, does, count_of, bound}
+use Rattle.serial_meaning.specs.Exec.{State, Manner, fault, unless_fault, paid_from, tested, has_room, loop_fits, with_loop_values, spawn, sync_here, implied, frame, called, right_side, found, store, looped, does, count_of, bound}
 use Rattle.serial_meaning.specs.Open.{is_empty_loop}
 use Rattle.serial_meaning.proofs.Equations.Computing.{act_has_spawn, spawns-out}
 use Rattle.serial_meaning.specs.declared.value.Value.{Value}
@@ -428,7 +428,7 @@ module _ (plan : PlanView) (path : List ℕ) (clear-plan : IsClearPlan plan) (pa
 
     fine-loop : (target : Option Name) (c : CallText) (lo : ℤ) (hi : ℕ) (vs : List Value) (n : ℕ) → IsClear pending left ends → Fine (looped (what (Looped target)) plan now lo hi vs target c (here n))
     fine-loop target c lo hi vs n clear =
-        fine-tested destination (nat_lt hi (n + 1)) Budget (here n) _ (fine-tested destination (has_room target hi m.top.env) Index (here (n - hi)) _ (fine-tested destination (fits_depth (what destination) plan now hi) Depth (here (n - hi)) _ (by_size (is_empty_loop o))))
+        fine-tested destination (nat_lt hi (n + 1)) Budget (here n) _ (fine-tested destination (has_room target hi m.top.env) Index (here (n - hi)) _ (fine-tested destination (loop_fits plan now hi) Depth (here (n - hi)) _ (by_size (is_empty_loop o))))
       where
         destination : Destination
         destination = Looped target

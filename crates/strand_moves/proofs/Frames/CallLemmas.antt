@@ -1,6 +1,6 @@
 -- Calls that begin and end, as changes of a machine.
-use Rattle.std.proofs.Common.{◌≡◌, ℕ, ◌<◌, ◌≤◌, Bool, true, false, nat_lt, List, [], ◌∷◌, ◌++◌, Option, Some, None, Result, Ok, Err, length, map, reverse, refl, ap, ◌∙◌, arith}
-use Rattle.std.proofs.lemmas.List.{length-map, length-reverse, reverse-append}
+use Rattle.std.proofs.Common.{◌≡◌, ℕ, ◌<◌, ◌≤◌, Bool, true, false, nat_lt, List, [], ◌∷◌, ◌++◌, Option, Some, None, Result, Ok, Err, length, map, reverse, refl, sym, ap, ◌∙◌, arith}
+use Rattle.std.proofs.lemmas.List.{length-map, length-reverse, reverse-append, reverse-reverse}
 use Rattle.std.proofs.lemmas.Bool.{lt-ltb, ltb-true}
 use Rattle.script_grammar.specs.declared.tree.Name.{Name}
 use Rattle.script_grammar.specs.declared.tree.Function.{Function}
@@ -13,6 +13,7 @@ use Rattle.serial_meaning.specs.declared.event.FaultKind.{FaultKind}
 use Rattle.serial_meaning.specs.declared.value.Value.{Value}
 use Rattle.script_grammar.specs.declared.tree.Expr.{Expr}
 use Rattle.script_grammar.specs.declared.tree.Param.{Param}
+use Rattle.strand_meaning.specs.Machine as meaning
 use Rattle.strand_meaning.specs.Machine.{Stands, function_begun}
 use Rattle.strand_values.specs.Changes.{called_with}
 use Rattle.strand_values.specs.Environments.{EnvironmentView}
@@ -24,8 +25,7 @@ use Rattle.strand_values.specs.declared.halt.Halt as values
 use Rattle.strand_values.specs.declared.halt.Halt.TheVariants as halt
 use Rattle.strand_moves.specs.Acts.{IsCallee, StaysUnlessMemory, Stays}
 use Rattle.strand_moves.specs.Quick.{quiet}
-use Rattle.strand_moves.specs.Cursors.{statements_left}
-use Rattle.strand_moves.specs.InstanceParts.{frame_of, block_inside, body_in, body_of, levels_of, machine_of, scopes_of}
+use Rattle.strand_moves.specs.InstanceParts.{frame_of, body_in, body_of, levels_of, machine_of, scopes_of}
 use Rattle.strand_moves.proofs.Statements.Equations.{callee}
 
 -- Tests
@@ -53,17 +53,31 @@ below-more plan items a = ap (map (frame_of plan false)) (reverse-append items (
 pub scopes-more : (items : List Frame) (a : Frame) → scopes_of (reverse (items ++ a ∷ [])) ≡ reverse a.levels.items ++ scopes_of (reverse items)
 scopes-more items a = ap (λ (stack : List Frame). scopes_of stack) (reverse-append items (a ∷ []))
 
+-- What a frame that begins is, by what it is in the words of the strand's meaning
+
+-- no open scopes there are none here
+no-scopes : (body : List Stmt) (ls : List Level) → levels_of body ls ≡ [] → ls ≡ []
+no-scopes body [] h = refl
+no-scopes body (l ∷ ls) h = absurd (cc)
+
+module _ (plan : PlanView) (number : ℕ) (env : EnvironmentView) (target : Option Name) (a : Frame) (is : IsCallee number env target a) where
+  pub callee-function : a.function ≡ number
+  callee-function = ap (λ (x : meaning.Frame). x.function) (is.begins plan)
+
+  pub callee-target : a.target ≡ target
+  callee-target = ap (λ (x : meaning.Frame). x.target) (is.begins plan)
+
+  pub callee-scopes : a.levels.items ≡ []
+  callee-scopes =
+      let none = no-scopes (body_of plan a.function) (reverse a.levels.items) (ap (λ (x : meaning.Frame). x.levels) (is.begins plan)) in
+      sym (reverse-reverse a.levels.items) ∙ ap (λ (ls : List Level). reverse ls) none
+
 module _ (plan : PlanView) (number : ℕ) (f : Function) (vs : List Value) (names : List (List ℕ)) (target : Option Name) where
   abbrev pub with_params : EnvironmentView
   with_params = record { names = names; variables = bound f.params vs }
 
   pub callee-begun : (a : Frame) → IsCallee number with_params target a → function_at (functions_of plan) number ≡ Some f → frame_of plan false a ≡ callee target number f vs
-  callee-begun a is h =
-      let text = ap (λ (ls : List Level). block_inside (body_of plan a.function) (reverse ls)) is.levels in
-      let levels = ap (λ (ls : List Level). levels_of (body_of plan a.function) (reverse ls)) is.levels in
-      let left =
-      ap (λ (sts : List Stmt). statements_left sts a.cursor) text ∙ ap (λ (n : ℕ). statements_left (body_of plan n) a.cursor) is.function ∙ ap (λ (o : Option Function). statements_left (body_in o) a.cursor) h ∙ is.left f.body in
-      rw (left, levels, is.function, is.returning, is.env, is.spawned, is.faulted, is.target) refl
+  callee-begun a is h = is.begins plan ∙ ap (λ (o : Option Function). record (callee target number f vs) { left = body_in o }) h
 
   pub machine-begun : (old new : InstanceParts) → IsCallee number with_params target new.top → new.below.items ≡ old.below.items ++ old.top ∷ [] → new.rank ≡ old.rank → new.steps ≡ old.steps → new.leaving ≡ old.leaving → old.leaving ≡ false →
       function_at (functions_of plan) number ≡ Some f →
@@ -76,11 +90,11 @@ module _ (plan : PlanView) (number : ℕ) (f : Function) (vs : List Value) (name
   first-begun i is alone rank steps on to there = rw (there, on, callee-begun i.top is there, alone, rank, steps, to) refl
 
 -- a call that begins opens no scope and leaves none
-pub begun-stays : (number : ℕ) (env : EnvironmentView) (target : Option Name) (old new : InstanceParts) → IsCallee number env target new.top → new.below.items ≡ old.below.items ++ old.top ∷ [] → new.trail ≡ old.trail → new.leaving ≡ old.leaving → Stays old new
-begun-stays number env target old new is b t l =
+pub begun-stays : (plan : PlanView) (number : ℕ) (env : EnvironmentView) (target : Option Name) (old new : InstanceParts) → IsCallee number env target new.top → new.below.items ≡ old.below.items ++ old.top ∷ [] → new.trail ≡ old.trail → new.leaving ≡ old.leaving → Stays old new
+begun-stays plan number env target old new is b t l =
     record {
       trail = t;
-      scopes = ap (λ (ls : List Level). reverse ls ++ scopes_of (reverse new.below.items)) is.levels ∙ ap (λ (stack : List Frame). scopes_of (reverse stack)) b ∙ scopes-more old.below.items old.top;
+      scopes = ap (λ (ls : List Level). reverse ls ++ scopes_of (reverse new.below.items)) (callee-scopes plan number env target new.top is) ∙ ap (λ (stack : List Frame). scopes_of (reverse stack)) b ∙ scopes-more old.below.items old.top;
       leaving = l;
     }
 

@@ -38,10 +38,10 @@ module _ (plan : PlanView) (path : List ℕ) (m : Machine) where
   by_fault None h kind k = absurd (cc)
 
   -- the step of a return, and the sync that it implies
-  joined-return : (n : ℕ) → m.steps ≡ suc n → spawns_in (function_at (functions_of plan) m.top.function) ≡ true →
+  synced-return : (n : ℕ) → m.steps ≡ suc n → spawns_in (function_at (functions_of plan) m.top.function) ≡ true →
       return_move plan path m false
       ≡ went (Emitted (event.Sync (here_of path m ++ m.rank ∷ [])) ∷ sync_effects m.top.spawned) (record m { rank = m.rank + 1; steps = n; top = record m.top { returning = true; spawned = false } })
-  joined-return n h s =
+  synced-return n h s =
       rw (h, s)
       (ap (λ (effects : List Effect). went (Emitted (event.Sync (here_of path m ++ m.rank ∷ [])) ∷ effects) (record m { rank = m.rank + 1; steps = n; top = record m.top { returning = true; spawned = false } })) (append-nil (sync_effects m.top.spawned)))
 
@@ -54,16 +54,16 @@ module _ (plan : PlanView) (i : InstanceParts) (here : here_of (path_of i) (mach
     one-more : i.steps ≡ suc n
     one-more = omega arith
 
-    pub return-joined : (new : InstanceParts) → spawns_in (function_at (functions_of plan) i.top.function) ≡ true →
+    pub return-synced : (new : InstanceParts) → spawns_in (function_at (functions_of plan) i.top.function) ≡ true →
         new ≡ record paid { rank = paid.rank + 1; top = record paid.top { returning = true; spawned = false } } →
         return_move plan (path_of i) (machine_of plan i) false ≡ went (Emitted (event.Sync (present_of paid ++ paid.rank ∷ [])) ∷ sync_effects paid.top.spawned) (machine_of plan new)
-    return-joined new spawns p =
+    return-synced new spawns p =
         let after = rw is-paid at p in
         let m = machine_of plan i in
         let next = record m { rank = m.rank + 1; steps = n; top = record m.top { returning = true; spawned = false } } in
         let effects = Emitted (event.Sync (present_of i ++ i.rank ∷ [])) ∷ sync_effects i.top.spawned in
         rw is-paid
-        (joined-return plan (path_of i) m n one-more spawns ∙ ap (λ (q : List ℕ). went (Emitted (event.Sync (q ++ i.rank ∷ [])) ∷ sync_effects i.top.spawned) next) here
+        (synced-return plan (path_of i) m n one-more spawns ∙ ap (λ (q : List ℕ). went (Emitted (event.Sync (q ++ i.rank ∷ [])) ∷ sync_effects i.top.spawned) next) here
         ∙ ap (λ (x : InstanceParts). went effects (machine_of plan x)) (sym after))
 
 module _ (plan : PlanView) (i : InstanceParts) (v : Value) (known : result_of (function_at (functions_of plan) i.top.function) i.top.env.variables ≡ Ok v) where

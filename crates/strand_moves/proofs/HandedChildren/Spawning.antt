@@ -14,7 +14,7 @@ use Rattle.serial_meaning.specs.Runs.{Run}
 use Rattle.serial_meaning.specs.declared.event.Fault.{Fault}
 use Rattle.serial_meaning.specs.declared.event.FaultKind.{FaultKind}
 use Rattle.strand_meaning.specs.Machine.{Effect, Machine, Reached, statement_move}
-use Rattle.strand_values.specs.Gives.{Gives}
+use Rattle.strand_values.specs.Gives.{Calculates}
 use Rattle.strand_values.specs.declared.halt.Halt as values
 use Rattle.strand_moves.specs.declared.instance_parts.InstanceParts.{InstanceParts}
 use Rattle.strand_moves.specs.declared.effects.Spawning.{Spawning}
@@ -32,7 +32,7 @@ use Rattle.strand_moves.proofs.Statements.Equations.{faults, let-is-set}
 use Rattle.strand_moves.proofs.Statements.Paying.{shows-same, spawn-at, statement-paid}
 
 -- a spawn that is left by a `?`
-pub handed-exit : (run : Run Effect Fault Reached) (strand : List ℕ) (m : Machine) {A : Type 0} (r : Result Spawning values.Halt) (h : values.Halt) (defined : Result A FaultKind) → IsErrAnd r (λ y. y ≡ h) → Gives (Err h) defined →
+pub handed-exit : (run : Run Effect Fault Reached) (strand : List ℕ) (m : Machine) {A : Type 0} (r : Result Spawning values.Halt) (h : values.Halt) (defined : Result A FaultKind) → IsErrAnd r (λ y. y ≡ h) → Calculates (Err h) defined →
     ((kind : FaultKind) → defined ≡ Err kind → run ≡ faults kind strand) → Makes run strand m (spawn_as_move r)
 handed-exit run strand m (Ok s) h defined e g f = absurd e
 handed-exit run strand m (Err y) h defined e g f = shows-exit run strand m (Err y) h defined e g f

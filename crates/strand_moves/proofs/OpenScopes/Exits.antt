@@ -8,23 +8,23 @@ use Rattle.serial_meaning.specs.declared.event.Event.{Event}
 use Rattle.serial_meaning.specs.declared.event.Fault.{Fault}
 use Rattle.serial_meaning.specs.declared.event.FaultKind.{FaultKind}
 use Rattle.strand_meaning.specs.Machine.{Effect, Machine, Reached}
-use Rattle.strand_values.specs.Gives.{Gives}
+use Rattle.strand_values.specs.Gives.{Calculates}
 use Rattle.strand_values.specs.declared.halt.Halt as values
 use Rattle.strand_values.specs.declared.halt.Halt.TheVariants as halt
 use Rattle.strand_moves.specs.declared.effects.MoveResult.{MoveResult}
 use Rattle.strand_moves.specs.declared.instance_parts.InstanceParts.{InstanceParts}
 use Rattle.strand_moves.specs.Acts.{IsKept, KeepsInstance}
-use Rattle.strand_moves.specs.Moves.{Makes, Shows}
+use Rattle.strand_moves.specs.Moves.{Makes, HasEffects}
 use Rattle.strand_moves.specs.Quick.{emitted, quiet}
 use Rattle.strand_moves.proofs.Statements.Equations.{faults, went}
 
 module _ (run : Run Effect Fault Reached) (strand : List ℕ) (m : Machine) where
-  shows-halt : {A : Type 0} (h : values.Halt) (defined : Result A FaultKind) → Gives (Err h) defined → ((kind : FaultKind) → defined ≡ Err kind → run ≡ faults kind strand) → Makes run strand m (Err h)
+  shows-halt : {A : Type 0} (h : values.Halt) (defined : Result A FaultKind) → Calculates (Err h) defined → ((kind : FaultKind) → defined ≡ Err kind → run ≡ faults kind strand) → Makes run strand m (Err h)
   shows-halt (halt.Fault kind) defined g f = f kind g
   shows-halt halt.Memory defined g f = tt
 
   -- by what a calculation answered
-  pub shows-exit : {A : Type 0} (r : Result MoveResult values.Halt) (h : values.Halt) (defined : Result A FaultKind) → IsErrAnd r (λ y. y ≡ h) → Gives (Err h) defined →
+  pub shows-exit : {A : Type 0} (r : Result MoveResult values.Halt) (h : values.Halt) (defined : Result A FaultKind) → IsErrAnd r (λ y. y ≡ h) → Calculates (Err h) defined →
       ((kind : FaultKind) → defined ≡ Err kind → run ≡ faults kind strand) → Makes run strand m r
   shows-exit (Ok s) h defined e g f = absurd e
   shows-exit (Err y) h defined e g f = let P : values.Halt → Type 0 = λ z. Makes run strand m (Err z) in subst P (sym e) (shows-halt h defined g f)
@@ -34,19 +34,19 @@ module _ (run : Run Effect Fault Reached) (strand : List ℕ) (m : Machine) wher
   shows-fault (Err y) kind e f = let P : values.Halt → Type 0 = λ z. Makes run strand m (Err z) in subst P (sym e) f
 
   -- the same of a call that shows nothing
-  pub quiet-exit : {A : Type 0} (r : Result (Unit {0}) values.Halt) (h : values.Halt) (defined : Result A FaultKind) → IsErrAnd r (λ y. y ≡ h) → Gives (Err h) defined →
+  pub quiet-exit : {A : Type 0} (r : Result (Unit {0}) values.Halt) (h : values.Halt) (defined : Result A FaultKind) → IsErrAnd r (λ y. y ≡ h) → Calculates (Err h) defined →
       ((kind : FaultKind) → defined ≡ Err kind → run ≡ faults kind strand) → Makes run strand m (quiet r)
   quiet-exit (Ok u) h defined e g f = absurd e
   quiet-exit (Err y) h defined e g f = let P : values.Halt → Type 0 = λ z. Makes run strand m (Err z) in subst P (sym e) (shows-halt h defined g f)
 
   -- the same of a call that shows an event
-  pub emitted-exit : {A : Type 0} (r : Result Event values.Halt) (h : values.Halt) (defined : Result A FaultKind) → IsErrAnd r (λ y. y ≡ h) → Gives (Err h) defined →
+  pub emitted-exit : {A : Type 0} (r : Result Event values.Halt) (h : values.Halt) (defined : Result A FaultKind) → IsErrAnd r (λ y. y ≡ h) → Calculates (Err h) defined →
       ((kind : FaultKind) → defined ≡ Err kind → run ≡ faults kind strand) → Makes run strand m (emitted r)
   emitted-exit (Ok e) h defined x g f = absurd x
   emitted-exit (Err y) h defined x g f = let P : values.Halt → Type 0 = λ z. Makes run strand m (Err z) in subst P (sym x) (shows-halt h defined g f)
 
   -- by a call that shows these effects
-  pub shows-made : {A : Type 0} (effects : List Effect) (r : Result MoveResult values.Halt) → IfOk r (Shows effects) → OnErr r (r ≡ Err halt.Memory) → OnOk r A → (A → run ≡ went effects m) → Makes run strand m r
+  pub shows-made : {A : Type 0} (effects : List Effect) (r : Result MoveResult values.Halt) → IfOk r (HasEffects effects) → OnErr r (r ≡ Err halt.Memory) → OnOk r A → (A → run ≡ went effects m) → Makes run strand m r
   shows-made effects (Ok move_result) s f a g = g a ∙ sym (s m)
   shows-made effects (Err (halt.Fault kind)) s f a g = absurd (cc)
   shows-made effects (Err halt.Memory) s f a g = tt

@@ -187,10 +187,17 @@ module _ (i : InstanceParts) (below : List Frame) (same : scopes_of (reverse bel
   pub changed-around : (plan : PlanView) → AreAround plan (open_scopes i) i.trail.path → AreAround plan (scopes_of (i.top ∷ reverse below)) i.trail.path
   changed-around plan h = subst (λ (ls : List Level). AreAround plan ls i.trail.path) (sym changed-scopes) h
 
+-- An instance before its first move stands inside no scope.
+first-scopes : (i : InstanceParts) → i.top.levels.items ≡ [] → i.below.items ≡ [] → open_scopes i ≡ []
+first-scopes i none alone = ap (λ (ls : List Level). reverse ls ++ scopes_of (reverse i.below.items)) none ∙ ap (λ (below : List Frame). scopes_of (reverse below)) alone
+
+pub first-path : (i : InstanceParts) → i.top.levels.items ≡ [] → i.below.items ≡ [] → path_of i ≡ i.trail.path
+first-path i none alone = ap (λ (ls : List Level). path_around ls i.trail.path) (first-scopes i none alone)
+
 -- an instance before its first move
 pub first-sound : (plan : PlanView) (i : InstanceParts) → FitsGamma plan.gamma i.trail → length i.trail.path < length plan.gamma → i.rank ≡ 0 → i.steps < 2 ^ 32 → i.leaving ≡ false → i.top.levels.items ≡ [] → i.below.items ≡ [] → IsNamed plan i.top → IsInstance plan i
 first-sound plan i fits within rank steps on none alone named =
-    let scopes : open_scopes i ≡ [] = ap (λ (ls : List Level). reverse ls ++ scopes_of (reverse i.below.items)) none ∙ ap (λ (below : List Frame). scopes_of (reverse below)) alone in
+    let scopes = first-scopes i none alone in
     let ranks : ranks_after (open_scopes i) ≡ 0 = ap (λ (ls : List Level). ranks_after ls) scopes in
     let here = going-on i.leaving i.rank on in
     record {

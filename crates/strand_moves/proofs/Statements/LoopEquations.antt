@@ -9,7 +9,7 @@ use Rattle.script_grammar.specs.declared.tree.Act.TheOpen as act
 use Rattle.serial_meaning.specs.Values.{value_of, values_of, as_integer}
 use Rattle.serial_meaning.specs.Functions.{function_number}
 use Rattle.serial_meaning.specs.Plan.{PlanView, functions_of}
-use Rattle.serial_meaning.specs.Exec.{count_of, has_room, with_loop_values, fits_depth}
+use Rattle.serial_meaning.specs.Exec.{count_of, has_room, with_loop_values, loop_fits}
 use Rattle.serial_meaning.specs.Open.{is_zero}
 use Rattle.serial_meaning.specs.declared.value.Value.{Value}
 use Rattle.serial_meaning.specs.declared.event.FaultKind.{FaultKind}
@@ -18,7 +18,7 @@ use Rattle.serial_meaning.specs.declared.event.Event.TheVariants as event
 use Rattle.serial_meaning.specs.declared.origin.Origin.{Origin}
 use Rattle.serial_meaning.specs.declared.origin.Origin.TheVariants as origin
 use Rattle.strand_meaning.specs.Machine.{handing, Looped, Emitted, Handed, Loops, Machine, loop_effects}
-use Rattle.strand_moves.specs.Acts.{loop_begins, loop_fits}
+use Rattle.strand_moves.specs.Acts.{loop_begins}
 use Rattle.strand_moves.specs.Moves.{acted}
 use Rattle.strand_moves.proofs.Statements.Equations.{went, faults}
 
@@ -46,10 +46,6 @@ module _ (plan : PlanView) (path : List ℕ) (m : Machine) (st : Stmt) (var : Na
     abbrev pub looped_on : Machine
     looped_on = record m { rank = m.rank + 1; steps = m.steps - n; top = record m.top { env = with_loop_values target [] m.top.env } }
 
-    depth-same : (k : ℕ) → fits_depth (handing plan (Looped target)) plan path k ≡ loop_fits plan path k
-    depth-same zero = refl
-    depth-same (suc k) = refl
-
     on-budget : nat_lt n (m.steps + 1) ≡ false → acted plan path m st (act.Pfor var lo hi target c) ≡ faults Budget (path ++ m.rank ∷ [])
     unfolding acted
     on-budget f = rw (known-lo, known-hi, known-args, ← counted, f) refl
@@ -61,13 +57,13 @@ module _ (plan : PlanView) (path : List ℕ) (m : Machine) (st : Stmt) (var : Na
     on-depth : nat_lt n (m.steps + 1) ≡ true → has_room target n m.top.env ≡ true → loop_fits plan path n ≡ false →
         acted plan path m st (act.Pfor var lo hi target c) ≡ faults Depth (path ++ m.rank ∷ [])
     unfolding acted
-    on-depth f g h = rw (known-lo, known-hi, known-args, ← counted, f, g, depth-same n ∙ h) refl
+    on-depth f g h = rw (known-lo, known-hi, known-args, ← counted, f, g, h) refl
 
     on-loop : (b : Bool) → nat_lt n (m.steps + 1) ≡ true → has_room target n m.top.env ≡ true → loop_fits plan path n ≡ true → is_zero (n - 0) ≡ b →
         acted plan path m st (act.Pfor var lo hi target c) ≡ went (Emitted (event.Loop (path ++ m.rank ∷ [])) ∷ loop_effects b range_child (Looped target)) looped_on
     unfolding acted
-    on-loop true f g h e = rw (known-lo, known-hi, known-args, ← counted, f, g, depth-same n ∙ h, e) refl
-    on-loop false f g h e = rw (known-lo, known-hi, known-args, ← counted, f, g, depth-same n ∙ h, e) refl
+    on-loop true f g h e = rw (known-lo, known-hi, known-args, ← counted, f, g, h, e) refl
+    on-loop false f g h e = rw (known-lo, known-hi, known-args, ← counted, f, g, h, e) refl
 
     by_tests : (b1 b2 b3 : Bool) → nat_lt n (m.steps + 1) ≡ b1 → has_room target n m.top.env ≡ b2 → loop_fits plan path n ≡ b3 → (kind : FaultKind) →
         loop_begins plan path n target m.top.env m.steps ≡ Err kind → acted plan path m st (act.Pfor var lo hi target c) ≡ faults kind (path ++ m.rank ∷ [])

@@ -68,12 +68,12 @@ fn environment(alloc: Global) -> Result<Frame, Fail> {
 }
 
 /// The integer that an expression gives there, or its fault.
-fn told(alloc: Global, e: Expr) -> Result<Result<i64, FaultKind>, Fail> {
-    told_in(alloc, &environment(alloc)?, &e)
+fn value_of(alloc: Global, e: Expr) -> Result<Result<i64, FaultKind>, Fail> {
+    value_in(alloc, &environment(alloc)?, &e)
 }
 
 /// The same in this environment.
-fn told_in(alloc: Global, environment: &Frame, e: &Expr) -> Result<Result<i64, FaultKind>, Fail> {
+fn value_in(alloc: Global, environment: &Frame, e: &Expr) -> Result<Result<i64, FaultKind>, Fail> {
     match environment.value(alloc, e)? {
         Ok(value) => Ok(Ok(number(&value))),
         Err(Halt::Fault(kind)) => Ok(Err(kind)),
@@ -108,7 +108,7 @@ fn products_wrap_and_quotients_are_cut_toward_zero(rt: HostRuntime) -> Result<()
         same(
             &rt,
             format_args!("{x} {sign:?} {y}"),
-            told(rt.alloc(), e)?,
+            value_of(rt.alloc(), e)?,
             expected,
         );
     }
@@ -129,7 +129,7 @@ fn sums_wrap(rt: HostRuntime) -> Result<(), Fail> {
         same(
             &rt,
             format_args!("{x} {minus} {y}"),
-            told(rt.alloc(), e)?,
+            value_of(rt.alloc(), e)?,
             Ok(expected),
         );
     }
@@ -140,7 +140,7 @@ fn sums_wrap(rt: HostRuntime) -> Result<(), Fail> {
 fn minuses_wrap(rt: HostRuntime) -> Result<(), Fail> {
     for (x, expected) in [(7, -7), (0, 0), (LEAST, LEAST)] {
         let e = Expr::Neg(0, boxed(rt.alloc(), int(x))?);
-        same(&rt, x, told(rt.alloc(), e)?, Ok(expected));
+        same(&rt, x, value_of(rt.alloc(), e)?, Ok(expected));
     }
     Ok(())
 }
@@ -169,7 +169,7 @@ fn comparisons_are_1_or_0(rt: HostRuntime) -> Result<(), Fail> {
             same(
                 &rt,
                 format_args!("{i} {how:?} 1"),
-                told(rt.alloc(), e)?,
+                value_of(rt.alloc(), e)?,
                 Ok(expected[i]),
             );
         }
@@ -207,7 +207,7 @@ fn two_differences(alloc: Global) -> Result<Expr, Fail> {
 #[test]
 fn differences_go_from_the_left(rt: HostRuntime) -> Result<(), Fail> {
     let e = two_differences(rt.alloc())?;
-    same(&rt, "n - 3 - 4", told(rt.alloc(), e)?, Ok(0));
+    same(&rt, "n - 3 - 4", value_of(rt.alloc(), e)?, Ok(0));
     Ok(())
 }
 
@@ -230,7 +230,7 @@ fn an_operation_is_done_before_the_next_operand(rt: HostRuntime) -> Result<(), F
     same(
         &rt,
         "1 / 0 * a[9]",
-        told(rt.alloc(), e)?,
+        value_of(rt.alloc(), e)?,
         Err(FaultKind::Divide),
     );
     Ok(())
@@ -248,7 +248,7 @@ fn the_left_operand_faults_first(rt: HostRuntime) -> Result<(), Fail> {
     same(
         &rt,
         "a[9] * (1 / 0)",
-        told(rt.alloc(), e)?,
+        value_of(rt.alloc(), e)?,
         Err(FaultKind::Index),
     );
     Ok(())
@@ -263,28 +263,25 @@ fn older_ids(alloc: Global, left: &str, right: &str) -> Result<Expr, Fail> {
 }
 
 #[test]
-fn ids_are_the_same_by_their_pedigrees(rt: HostRuntime) -> Result<(), Fail> {
-    for (left, right, expected) in [("early", "early", 1), ("early", "late", 0)] {
-        let e = same_ids(rt.alloc(), left, right)?;
+fn ids_are_the_same_and_older_by_their_pedigrees(rt: HostRuntime) -> Result<(), Fail> {
+    for (left, right, is_same, is_older) in [
+        ("early", "early", 1, 0),
+        ("early", "late", 0, 1),
+        ("late", "early", 0, 0),
+    ] {
+        let compared = value_of(rt.alloc(), same_ids(rt.alloc(), left, right)?)?;
         same(
             &rt,
-            format_args!("{left} {right}"),
-            told(rt.alloc(), e)?,
-            Ok(expected),
+            format_args!("same {left} {right}"),
+            compared,
+            Ok(is_same),
         );
-    }
-    Ok(())
-}
-
-#[test]
-fn ids_are_older_by_their_pedigrees(rt: HostRuntime) -> Result<(), Fail> {
-    for (left, right, expected) in [("early", "late", 1), ("late", "early", 0)] {
-        let e = older_ids(rt.alloc(), left, right)?;
+        let compared = value_of(rt.alloc(), older_ids(rt.alloc(), left, right)?)?;
         same(
             &rt,
-            format_args!("{left} {right}"),
-            told(rt.alloc(), e)?,
-            Ok(expected),
+            format_args!("older {left} {right}"),
+            compared,
+            Ok(is_older),
         );
     }
     Ok(())
@@ -313,7 +310,7 @@ fn reads(
 ) -> Result<(), Fail> {
     let found = environment.item(rt.alloc(), &name("a"), i)?;
     same(rt, format_args!("item {i}"), found, expected.ok());
-    let given = told_in(rt.alloc(), environment, &item_of_a(rt.alloc(), i)?)?;
+    let given = value_in(rt.alloc(), environment, &item_of_a(rt.alloc(), i)?)?;
     same(rt, format_args!("item {i}"), given, expected);
     Ok(())
 }
@@ -372,7 +369,7 @@ fn scalars_are_set_by_name(rt: HostRuntime) -> Result<(), Fail> {
         same(
             &rt,
             text,
-            told_in(rt.alloc(), &environment, &e)?,
+            value_in(rt.alloc(), &environment, &e)?,
             Ok(expected),
         );
     }
@@ -396,7 +393,7 @@ fn names_differ_by_their_lengths_and_by_each_byte(rt: HostRuntime) -> Result<(),
         same(
             &rt,
             text,
-            told_in(rt.alloc(), &environment, &e)?,
+            value_in(rt.alloc(), &environment, &e)?,
             Ok(i as i64),
         );
     }
@@ -416,7 +413,7 @@ fn an_assignment_that_faults_changes_nothing(rt: HostRuntime) -> Result<(), Fail
     let halt = halt_of_assignment(rt.alloc(), &mut environment)?;
     same(&rt, "n = 1 / 0", halt, Some(Halt::Fault(FaultKind::Divide)));
     let e = variable("n");
-    same(&rt, "n", told_in(rt.alloc(), &environment, &e)?, Ok(9));
+    same(&rt, "n", value_in(rt.alloc(), &environment, &e)?, Ok(9));
     Ok(())
 }
 

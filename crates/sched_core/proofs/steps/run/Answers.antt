@@ -10,9 +10,9 @@ stop-requires c =
     let s = c.args.state.now in
     let ws = s.workers.items in
     let w = c.args.w in
-    let j = c.let_go-task.result in
+    let j = c.take_current-task.result in
     can-stop s _ c.requires.consistent w j
-    (change-at w (Lets j) ws c.index_mut.result.now c.let_go-task.new.self c.index_mut.ensures.value (is-below may_run refl ws w c.requires.lawful) c.let_go-task.ensures)
+    (change-at w (Lets j) ws c.index_mut.result.now c.take_current-task.new.self c.index_mut.ensures.value (is-below may_run refl ws w c.requires.lawful) c.take_current-task.ensures)
     (record { plan = refl; nodes = refl; given = refl; root = refl; runs = refl })
 
 pub returns : goal.returns
@@ -20,7 +20,7 @@ returns c =
     let s = c.args.state.now in
     let ws = s.workers.items in
     let w = c.args.w in
-    let j = c.let_go-task.result in
+    let j = c.take_current-task.result in
     run-goes s _ c.requires.consistent w j
-    (change-at w (Lets j) ws c.index_mut.result.now c.let_go-task.new.self c.index_mut.ensures.value (is-below may_run refl ws w c.requires.lawful) c.let_go-task.ensures)
+    (change-at w (Lets j) ws c.index_mut.result.now c.take_current-task.new.self c.index_mut.ensures.value (is-below may_run refl ws w c.requires.lawful) c.take_current-task.ensures)
     (record { plan = refl; nodes = refl; given = refl; root = refl; runs = refl }) c.requires.root c.stop.new.state _ refl refl refl refl refl refl c.in_ok-stopped.stopped c.in_ok-stopped.ensures c.in_ok-stop.ensures

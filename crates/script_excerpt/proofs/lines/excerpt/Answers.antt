@@ -6,7 +6,7 @@ use Rattle.script_excerpt.proofs.lines.excerpt.Goals as goal
 
 pub returns : goal.returns
 returns c =
-    let first : List ℕ = place_line (line_of c.args.text.now c.args.at) c.place_of-place.result.column in
+    let first : List ℕ = place_line (line_of c.args.text.now c.args.at) c.position_of-place.result.column in
     let second : List ℕ = text_lines c.args.text.now c.window-from.result.0 c.args.at c.window-from.result.1 in
     let third : List ℕ = caret_line c.args.message.now c.in_ok-advice.advice.items in
     let one : c.in_ok-lines.lines.items ≡ first = search rules in
@@ -14,11 +14,11 @@ returns c =
     let last : IfOk c.with_caret_line.result (λ lines. lines.items ≡ c.in_ok-lines-2.lines.items ++ third) = search rules in
     IfOk-weaker c.with_caret_line.result (λ lines. lines.items ≡ c.in_ok-lines-2.lines.items ++ third) (λ lines. IsExcerpt c.args.text.now c.args.at c.args.message.now lines.items)
     (λ lines three. record {
-      column = c.place_of-place.result.column;
+      column = c.position_of-place.result.column;
       from = c.window-from.result.0;
       to = c.window-from.result.1;
       advice = c.in_ok-advice.advice.items;
-      is_column = c.place_of-place.ensures.column;
+      is_column = c.position_of-place.ensures.column;
       is_window = c.window-from.ensures;
       is_advice = c.in_ok-advice.ensures;
       whole = three ∙ ap (λ xs. xs ++ third) (two ∙ ap (λ xs. xs ++ second) one);

@@ -10,10 +10,10 @@ pub returns-then-not-is_ascii : goal.returns-then-not-is_ascii
 returns-then-not-is_ascii c =
     stands_not_ascii c.args.version _ _ _ _ c.in-Some.ensures.cases.0 (not_below_128 _ _ c.is_ascii.ensures c.if-not-is_ascii.true)
 
-pub returns-in-Some-front : goal.returns-in-Some-front
-returns-in-Some-front c = token (subst (Fronts c.args.version c.args.rest.now) c.in-Some-front.is c.front.ensures)
+pub returns-in-Some-front_token : goal.returns-in-Some-front_token
+returns-in-Some-front_token c = token (subst (Fronts c.args.version c.args.rest.now) c.in-Some-front_token.is c.front_token.ensures)
 
 pub returns-in-None : goal.returns-in-None
 returns-in-None c =
     stands_no_token c.args.version _ _ _ _ c.in-Some.ensures.cases.0 (below_128 _ _ c.is_ascii.ensures c.if-not-is_ascii.false)
-    (subst (Fronts c.args.version c.args.rest.now) c.in-None.is c.front.ensures)
+    (subst (Fronts c.args.version c.args.rest.now) c.in-None.is c.front_token.ensures)

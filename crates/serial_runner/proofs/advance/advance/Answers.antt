@@ -23,15 +23,15 @@ returns-in_ok-task-in-Wait c =
     (went_whole c.args.stack.top.answers c.in-Wait.rest c.in_ok-task-in-Wait.task c.requires.top.whole c.in_ok-task-in-Wait.ensures.went)
 
 pub end_all-requires-clause-known : goal.end_all-requires-clause-known
-end_all-requires-clause-known c = known_fault c.args.stack c.requires c.finish-answer.result.0 c.finish-answer.result.1 (ended-stop _ c.in-Ended.rest _ (rw c.in-Ended.is at c.in_ok-paused.ensures) c.finish-answer.ensures)
+end_all-requires-clause-known c = known_fault c.args.stack c.requires c.into_answer-answer.result.0 c.into_answer-answer.result.1 (ended-stop _ c.in-Ended.rest _ (rw c.in-Ended.is at c.in_ok-paused.ensures) c.into_answer-answer.ensures)
 
 pub end_all-requires-clause-below : goal.end_all-requires-clause-below
-end_all-requires-clause-below c = answer_below c.args.stack c.requires c.finish-answer.result.0 c.finish-answer.result.1 (ended-stop _ c.in-Ended.rest _ (rw c.in-Ended.is at c.in_ok-paused.ensures) c.finish-answer.ensures)
+end_all-requires-clause-below c = answer_below c.args.stack c.requires c.into_answer-answer.result.0 c.into_answer-answer.result.1 (ended-stop _ c.in-Ended.rest _ (rw c.in-Ended.is at c.in_ok-paused.ensures) c.into_answer-answer.ensures)
 
 pub returns-then-is_fault : goal.returns-then-is_fault
 returns-then-is_fault c =
     subst (AnswersLowest c.args.stack) (sym c.in_ok-boxed-in-Ended.ensures)
-    (all_ended c.args.stack c.requires c.finish-answer.result.0 c.finish-answer.result.1 (ended-stop _ c.in-Ended.rest _ (rw c.in-Ended.is at c.in_ok-paused.ensures) c.finish-answer.ensures) _ c.in_ok-last-in-Ended.ensures)
+    (all_ended c.args.stack c.requires c.into_answer-answer.result.0 c.into_answer-answer.result.1 (ended-stop _ c.in-Ended.rest _ (rw c.in-Ended.is at c.in_ok-paused.ensures) c.into_answer-answer.ensures) _ c.in_ok-last-in-Ended.ensures)
 
 pub returns-else-is_fault : goal.returns-else-is_fault
-returns-else-is_fault c = ended c.args.stack c.requires c.finish-answer.result.0 c.finish-answer.result.1 (ended-stop _ c.in-Ended.rest _ (rw c.in-Ended.is at c.in_ok-paused.ensures) c.finish-answer.ensures) c.answer_below.result c.answer_below.ensures.parent c.answer_below.ensures.last
+returns-else-is_fault c = ended c.args.stack c.requires c.into_answer-answer.result.0 c.into_answer-answer.result.1 (ended-stop _ c.in-Ended.rest _ (rw c.in-Ended.is at c.in_ok-paused.ensures) c.into_answer-answer.ensures) c.answer_below.result c.answer_below.ensures.parent c.answer_below.ensures.last

@@ -1,4 +1,4 @@
-use Rattle.strand_machine.proofs.Moves.Moving.{went-sound, gave-sound, faulted-sound}
+use Rattle.strand_machine.proofs.Moves.Moving.{went-sound, returned-sound, faulted-sound}
 use Rattle.strand_machine.proofs.observe.go_observed.Goals as goal
 
 pub apply_effects-requires : goal.apply_effects-requires
@@ -8,7 +8,7 @@ apply_effects-requires c =
 
 pub pass-requires : goal.pass-requires
 pass-requires c =
-    gave-sound c.args.parts.now.state c.args.instance c.make_move.new.self _ _ c.plan.ensures c.in-Ok.ensures.moves c.requires c.steps_are_sound.ensures c.in-Returned.value c.in-Returned.is
+    returned-sound c.args.parts.now.state c.args.instance c.make_move.new.self _ _ c.plan.ensures c.in-Ok.ensures.moves c.requires c.steps_are_sound.ensures c.in-Returned.value c.in-Returned.is
 
 pub pass-requires-in-Faulted : goal.pass-requires-in-Faulted
 pass-requires-in-Faulted c =

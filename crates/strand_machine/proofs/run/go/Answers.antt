@@ -13,7 +13,7 @@ use Rattle.strand_machine.specs.Tasks.{gone, task_of, view_of}
 use Rattle.strand_machine.specs.declared.remaining.Stage.TheVariants as stage
 use Rattle.strand_machine.specs.declared.remaining.Remaining.TheVariants as remaining
 use Rattle.strand_machine.proofs.NextStops.Advancing.{leads-start}
-use Rattle.strand_machine.proofs.Moves.Moving.{IsLast, came-has, came-sound, one-more, went-sound, went-is, gave-sound, faulted-sound, syncs-sound, syncs-run, gives-run, faults-run, still-on, still-falls, tells-on, tells-falls, run-is-ok, runs-on, with_trace}
+use Rattle.strand_machine.proofs.Moves.Moving.{IsLast, came-has, came-sound, one-more, went-sound, went-is, returned-sound, faulted-sound, syncs-sound, syncs-run, gives-run, faults-run, still-on, still-falls, emits-on, emits-falls, run-is-ok, runs-on, with_trace}
 use Rattle.strand_machine.proofs.run.go.Goals as goal
 use Rattle.strand_machine.proofs.run.go.Goals.{After-instance-in-loop-next-1, in-Some+in-Ok-None, in_default}
 
@@ -103,7 +103,7 @@ pub returned-requires : goal.returned-requires
 returned-requires c =
     let m = c.in-Ok-Returned.ensures in
     let k = last (goal.at.returned-requires c).After-instance-in-loop-next-1 _ c.make.new.self m.moves m.path m.sound in
-    gave-sound (gone (with_trace c.loop-next.parts.state c.row.new.sink)) k.before c.make.new.self _ _ c.plan-plan.ensures k.last k.runs.sound c.steps_are_sound.ensures c.in-Ok-Returned.value c.in-Ok-Returned.field-0-is
+    returned-sound (gone (with_trace c.loop-next.parts.state c.row.new.sink)) k.before c.make.new.self _ _ c.plan-plan.ensures k.last k.runs.sound c.steps_are_sound.ensures c.in-Ok-Returned.value c.in-Ok-Returned.field-0-is
 
 pub faulted-requires : goal.faulted-requires
 faulted-requires c =
@@ -164,7 +164,7 @@ loop-next-smaller c =
     let m = c.in-Ok-Went-Emitted.ensures in
     let k = last (goal.at.loop-next-smaller c).After-instance-in-loop-next-1 _ c.make.new.self m.moves m.path m.sound in
     let s = c.in-Ok-Went-Emitted in
-    let falls = tells-falls (gone (with_trace c.loop-next.parts.state c.row.new.sink)) k.before c.make.new.self _ _ c.plan-plan.ensures k.last k.runs.sound c.moves_fall.ensures s.field-0-0 s.event c.emit.new.self s.field-0-is s.field-0-0-is c.in_ok-emit-in-Ok-Went-Emitted.ensures in
+    let falls = emits-falls (gone (with_trace c.loop-next.parts.state c.row.new.sink)) k.before c.make.new.self _ _ c.plan-plan.ensures k.last k.runs.sound c.moves_fall.ensures s.field-0-0 s.event c.emit.new.self s.field-0-is s.field-0-0-is c.in_ok-emit-in-Ok-Went-Emitted.ensures in
     omega (arith, falls, k.fewer)
 
 pub loop-next-preserved : goal.loop-next-preserved
@@ -172,5 +172,5 @@ loop-next-preserved c =
     let m = c.in-Ok-Went-Emitted.ensures in
     let k = last (goal.at.loop-next-preserved c).After-instance-in-loop-next-1 _ c.make.new.self m.moves m.path m.sound in
     let s = c.in-Ok-Went-Emitted in
-    tells-on (gone (with_trace c.loop-next.parts.state c.row.new.sink)) k.before c.make.new.self _ _ c.plan-plan.ensures k.last k.runs.sound c.steps_are_sound.ensures c.moves_fall.ensures _ k.runs.leads s.field-0-0 s.event c.emit.new.self s.field-0-is s.field-0-0-is
+    emits-on (gone (with_trace c.loop-next.parts.state c.row.new.sink)) k.before c.make.new.self _ _ c.plan-plan.ensures k.last k.runs.sound c.steps_are_sound.ensures c.moves_fall.ensures _ k.runs.leads s.field-0-0 s.event c.emit.new.self s.field-0-is s.field-0-0-is
     c.in_ok-emit-in-Ok-Went-Emitted.ensures k.path k.sound m.child

@@ -1,4 +1,4 @@
-use Rattle.strand_meaning.proofs.NextStops.Comes.{moves_fall}
+use Rattle.strand_meaning.proofs.NextStops.TasksReachStops.{moves_fall}
 use Rattle.strand_meaning.proofs.laws.moves_fall.Goals as goal
 
 pub returns : goal.returns

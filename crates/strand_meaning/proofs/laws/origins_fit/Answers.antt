@@ -1,4 +1,4 @@
-use Rattle.strand_meaning.proofs.SoundSteps.Depth.{origins_fit}
+use Rattle.strand_meaning.proofs.SoundSteps.OriginsFitDepth.{origins_fit}
 use Rattle.strand_meaning.proofs.laws.origins_fit.Goals as goal
 
 pub returns : goal.returns

@@ -1,4 +1,4 @@
-use Rattle.strand_meaning.proofs.SoundSteps.Ends.{steps_are_sound}
+use Rattle.strand_meaning.proofs.SoundSteps.StepsKeepTasks.{steps_are_sound}
 use Rattle.strand_meaning.proofs.laws.steps_are_sound.Goals as goal
 
 pub returns : goal.returns

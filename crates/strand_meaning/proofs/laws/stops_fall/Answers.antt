@@ -1,4 +1,4 @@
-use Rattle.strand_meaning.proofs.NextStops.Fewer.{stops_fall}
+use Rattle.strand_meaning.proofs.NextStops.StopsLeaveFewer.{stops_fall}
 use Rattle.strand_meaning.proofs.laws.stops_fall.Goals as goal
 
 pub returns : goal.returns

@@ -1,4 +1,4 @@
-use Rattle.strand_meaning.proofs.SoundSteps.Ends.{tasks_begin}
+use Rattle.strand_meaning.proofs.SoundSteps.StepsKeepTasks.{tasks_begin}
 use Rattle.strand_meaning.proofs.laws.tasks_begin.Goals as goal
 
 pub returns : goal.returns

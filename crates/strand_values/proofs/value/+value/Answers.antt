@@ -4,7 +4,7 @@ use Rattle.std.proofs.Common.{◌≡◌, map, add-one, sym, ◌∙◌, w64, rule
 use Rattle.std.proofs.lemmas.Int.{to_z-of_z}
 use Rattle.script_check.specs.Places.{has_place}
 use Rattle.serial_meaning.specs.Values.{value_of, sum_part, product_part}
-use Rattle.strand_values.specs.Gives.{numbered, integral}
+use Rattle.strand_values.specs.Gives.{integer_result, integral}
 use Rattle.strand_values.proofs.FoundOperands.{at_factor, at_summand, in_variable}
 use Rattle.strand_values.proofs.NumberLemmas.{whole_gives, comparison_is_int, sum_gives, product_gives, sum_is_int, product_is_int, product_of_one, value_of_sum, value_of_product, value_of_comparison}
 use Rattle.strand_values.proofs.Chains.{next_sum, next_product, sum_ends, product_ends, product_stops}
@@ -90,8 +90,8 @@ value-returns-else-is_empty t c =
     let d = value_of c.args.e.now env in
     let empty = rw c.as_slice.ensures at c.is_empty.ensures in
     let some = sym empty ∙ c.if-is_empty.false in
-    let whole : d ≡ integral (numbered d) = rw (c.in-Sum.is, value_of_sum env c.in-Sum.first c.in-Sum.rest) (sum_is_int env (value_of c.in-Sum.first env) c.in-Sum.rest some) in
-    rw c.whole.ensures (whole_gives c.integer.result d whole c.integer.ensures)
+    let whole : d ≡ integral (integer_result d) = rw (c.in-Sum.is, value_of_sum env c.in-Sum.first c.in-Sum.rest) (sum_is_int env (value_of c.in-Sum.first env) c.in-Sum.rest some) in
+    rw c.integral.ensures (whole_gives c.integer.result d whole c.integer.ensures)
 
 pub value-returns-then-is_empty-2 : goal.value-returns-then-is_empty-2
 value-returns-then-is_empty-2 t c =
@@ -107,12 +107,12 @@ value-returns-else-is_empty-2 t c =
     let d = value_of c.args.e.now env in
     let empty = rw c.as_slice-in-Product.ensures at c.is_empty-in-Product.ensures in
     let some = sym empty ∙ c.if-is_empty-2.false in
-    let whole : d ≡ integral (numbered d) = rw (c.in-Product.is, value_of_product env c.in-Product.first c.in-Product.rest) (product_is_int env (value_of c.in-Product.first env) c.in-Product.rest some) in
-    rw c.whole-else-is_empty-2.ensures (whole_gives c.integer-else-is_empty-2.result d whole c.integer-else-is_empty-2.ensures)
+    let whole : d ≡ integral (integer_result d) = rw (c.in-Product.is, value_of_product env c.in-Product.first c.in-Product.rest) (product_is_int env (value_of c.in-Product.first env) c.in-Product.rest some) in
+    rw c.integral-else-is_empty-2.ensures (whole_gives c.integer-else-is_empty-2.result d whole c.integer-else-is_empty-2.ensures)
 
 pub value-returns-in-Compare : goal.value-returns-in-Compare
 value-returns-in-Compare t c =
     let env = c.args.env.now.variables in
     let d = value_of c.args.e.now env in
-    let whole : d ≡ integral (numbered d) = rw (c.in-Compare.is, value_of_comparison env c.in-Compare.field-0 c.in-Compare.field-1 c.in-Compare.field-2) (comparison_is_int c.in-Compare.field-1 (value_of c.in-Compare.field-0 env) (value_of c.in-Compare.field-2 env)) in
-    rw c.whole-in-Compare.ensures (whole_gives c.integer-in-Compare.result d whole c.integer-in-Compare.ensures)
+    let whole : d ≡ integral (integer_result d) = rw (c.in-Compare.is, value_of_comparison env c.in-Compare.field-0 c.in-Compare.field-1 c.in-Compare.field-2) (comparison_is_int c.in-Compare.field-1 (value_of c.in-Compare.field-0 env) (value_of c.in-Compare.field-2 env)) in
+    rw c.integral-in-Compare.ensures (whole_gives c.integer-in-Compare.result d whole c.integer-in-Compare.ensures)

@@ -8,7 +8,7 @@ use Rattle.sched_core.proofs.Choices.Listing.{add-one, places-range}
 use Rattle.sched_core.proofs.state.CoreState.add_looks_of.Goals as goal
 
 pub loop-place-preserved : goal.loop-place-preserved
-loop-place-preserved c = add-one (core_of false c.args.self.now) (λ place. Look c.args.worker place) c.args.events.now.items c.loop-place.events.items _ c.loop-place.place c.may_resume.result c.loop-place.invariant c.may_resume.ensures c.in_ok-add_if.ensures
+loop-place-preserved c = add-one (core_of false c.args.self.now) (λ place. Look c.args.worker place) c.args.events.now.items c.loop-place.events.items _ c.loop-place.place c.may_resume.result c.loop-place.invariant c.may_resume.ensures c.in_ok-add_choice_if.ensures
 
 pub returns : goal.returns
 returns c =

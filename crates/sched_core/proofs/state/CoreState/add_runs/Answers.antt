@@ -8,7 +8,7 @@ use Rattle.sched_core.proofs.Worked.Lists.{length-map}
 use Rattle.sched_core.proofs.state.CoreState.add_runs.Goals as goal
 
 pub loop-w-preserved : goal.loop-w-preserved
-loop-w-preserved c = add-one (core_of false c.args.self.now) (λ w. Run w) c.args.events.now.items c.loop-w.events.items _ c.loop-w.w c.may_run.result c.loop-w.invariant c.may_run.ensures c.in_ok-add_if.ensures
+loop-w-preserved c = add-one (core_of false c.args.self.now) (λ w. Run w) c.args.events.now.items c.loop-w.events.items _ c.loop-w.w c.may_run.result c.loop-w.invariant c.may_run.ensures c.in_ok-add_choice_if.ensures
 
 pub returns : goal.returns
 returns c =

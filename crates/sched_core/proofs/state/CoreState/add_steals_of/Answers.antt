@@ -8,7 +8,7 @@ use Rattle.sched_core.proofs.Worked.Lists.{length-map}
 use Rattle.sched_core.proofs.state.CoreState.add_steals_of.Goals as goal
 
 pub loop-victim-preserved : goal.loop-victim-preserved
-loop-victim-preserved c = add-one (core_of false c.args.self.now) (λ victim. Steal c.args.thief victim) c.args.events.now.items c.loop-victim.events.items _ c.loop-victim.victim c.may_steal.result c.loop-victim.invariant c.may_steal.ensures c.in_ok-add_if.ensures
+loop-victim-preserved c = add-one (core_of false c.args.self.now) (λ victim. Steal c.args.thief victim) c.args.events.now.items c.loop-victim.events.items _ c.loop-victim.victim c.may_steal.result c.loop-victim.invariant c.may_steal.ensures c.in_ok-add_choice_if.ensures
 
 pub returns : goal.returns
 returns c =

@@ -9,7 +9,7 @@ use Rattle.strand_meaning.specs.Machine.{Machine}
 use Rattle.strand_moves.specs.Acts.{IsCallee}
 use Rattle.strand_moves.specs.InstanceParts.{IsNamedIn, machine_of, present_of}
 use Rattle.strand_moves.specs.Moves.{acted, call_to, present_pedigree}
-use Rattle.strand_moves.proofs.Frames.CallLemmas.{begun-stays, called-by, called-fault, is_below, is_not_below, calls-open, machine-begun, stands-quiet}
+use Rattle.strand_moves.proofs.Frames.CallLemmas.{begun-stays, callee-function, callee-target, called-by, called-fault, is_below, is_not_below, calls-open, machine-begun, stands-quiet}
 use Rattle.strand_moves.proofs.Frames.Names.{named-begun, own-names, own-names-there, params-stand, target-named}
 use Rattle.strand_moves.proofs.Statements.Naming.{there-named}
 use Rattle.strand_moves.proofs.Statements.Equations.{call, callee, call-args-fault, calls-fault, went}
@@ -73,7 +73,7 @@ returns-clause-shows c = λ st.
 pub returns-clause-stays : goal.returns-clause-stays
 returns-clause-stays c =
     let opened = c.in_ok-open_call.ensures in
-    begun-stays c.args.number c.in_ok-env.env (option_copied c.args.target) c.args.self.now c.open_call.new.self opened.top opened.below opened.trail opened.leaving
+    begun-stays c.args.plan.now c.args.number c.in_ok-env.env (option_copied c.args.target) c.args.self.now c.open_call.new.self opened.top opened.below opened.trail opened.leaving
 
 pub returns-in_err-env-clause-stays : goal.returns-in_err-env-clause-stays
 returns-in_err-env-clause-stays c = let i = c.args.self.now in stands-quiet i i c.from_residual.result (record { trail = refl; scopes = refl; leaving = refl })
@@ -90,10 +90,10 @@ returns-clause-named c =
     named-begun plan i c.open_call.new.self opened.below
     (record {
       function = f;
-      of_plan = ap (λ (n : ℕ). function_at (functions_of plan) n) top.function ∙ c.requires.there;
+      of_plan = ap (λ (n : ℕ). function_at (functions_of plan) n) (callee-function plan c.args.number c.in_ok-env.env (option_copied c.args.target) c.open_call.new.self.top top) ∙ c.requires.there;
       names = ap (λ (e : EnvironmentView). e.names) (top.env ∙ known.1.1) ∙ own-names plan c.args.number f c.requires.there names c.in-Some.ensures;
     })
-    (subst (IsNamedIn plan i.top) (sym top.target) (target-named plan c.args.places.now i.top (option_copied c.args.target) c.requires.places c.requires.target))
+    (subst (IsNamedIn plan i.top) (sym (callee-target plan c.args.number c.in_ok-env.env (option_copied c.args.target) c.open_call.new.self.top top)) (target-named plan c.args.places.now i.top (option_copied c.args.target) c.requires.places c.requires.target))
 
 pub returns-in_err-open_call-clause-named : goal.returns-in_err-open_call-clause-named
 returns-in_err-open_call-clause-named c = there-named c.args.plan.now c.args.self.now c.open_call.new.self c.in_err-open_call.ensures.err

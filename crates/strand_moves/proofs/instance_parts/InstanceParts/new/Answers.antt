@@ -6,10 +6,10 @@ use Rattle.strand_meaning.specs.Machine.{Stands}
 use Rattle.strand_values.specs.Environments.{EnvironmentView}
 use Rattle.strand_moves.specs.declared.instance_parts.InstanceParts.{InstanceParts}
 use Rattle.strand_moves.specs.Acts.{IsCallee}
-use Rattle.strand_moves.specs.InstanceParts.{IsInstance, machine_of}
-use Rattle.strand_moves.proofs.Frames.CallLemmas.{first-begun}
+use Rattle.strand_moves.specs.InstanceParts.{IsInstance, machine_of, path_of}
+use Rattle.strand_moves.proofs.Frames.CallLemmas.{callee-function, callee-scopes, first-begun}
 use Rattle.strand_moves.proofs.Frames.Names.{own-names, params-stand}
-use Rattle.strand_moves.proofs.OpenScopes.Keeping.{first-sound}
+use Rattle.strand_moves.proofs.OpenScopes.Keeping.{first-path, first-sound}
 use Rattle.strand_moves.proofs.instance_parts.InstanceParts.new.Goals as goal
 
 pub bound-requires : goal.bound-requires
@@ -26,13 +26,18 @@ returns-in-Ok-clause-begins c =
     let number = c.args.function in
     let f = c.index-functions-function.result in
     let there = slice_get_read (functions_of plan) (length (functions_of plan)) number f refl c.requires.there (rw c.functions.ensures.functions at c.index-functions-function.is) in
-    let a = c.new.ensures in
     let env = rw c.as_slice.ensures at c.in_ok-env.ensures in
-    let callee : IsCallee number c.in_ok-env.env None c.new.result = record { function = a.function; left = a.left; levels = a.levels; returning = a.returning; env = a.env; spawned = a.spawned; faulted = a.faulted; target = a.target } in
     let limits = ap (λ (p : PlanView). p.limits.budget) c.plan.view_is in
     let first : InstanceParts = record { trail = c.args.trail; rank = 0; steps = c.plan.inside.limits.budget; leaving = false; top = c.new.result; below = c.new-2.result } in
-    first-begun plan number f c.args.args.now c.in-Some.names.now None first (subst (λ (e : EnvironmentView). IsCallee number e None c.new.result) env callee) c.new-2.ensures.items refl limits refl refl there
+    first-begun plan number f c.args.args.now c.in-Some.names.now None first (subst (λ (e : EnvironmentView). IsCallee number e None c.new.result) env c.new.ensures) c.new-2.ensures.items refl limits refl refl there
     ∙ ap (λ (x : InstanceParts). Stands (machine_of plan x)) (sym c.in-Ok.ensures.ok)
+
+pub returns-in-Ok-clause-path : goal.returns-in-Ok-clause-path
+returns-in-Ok-clause-path c =
+    let a = c.new.ensures in
+    let first : InstanceParts = record { trail = c.args.trail; rank = 0; steps = c.plan.inside.limits.budget; leaving = false; top = c.new.result; below = c.new-2.result } in
+    ap (λ (x : InstanceParts). path_of x) c.in-Ok.ensures.ok
+    ∙ first-path first (callee-scopes c.args.plan.now c.args.function c.in_ok-env.env None c.new.result a) c.new-2.ensures.items
 
 pub returns-in-Ok-clause-sound : goal.returns-in-Ok-clause-sound
 returns-in-Ok-clause-sound c =
@@ -49,9 +54,9 @@ returns-in-Ok-clause-sound c =
     let first : InstanceParts = record { trail = c.args.trail; rank = 0; steps = c.plan.inside.limits.budget; leaving = false; top = c.new.result; below = c.new-2.result } in
     let steps : c.plan.inside.limits.budget < 2 ^ 32 = search rules in
     subst (λ (x : InstanceParts). IsInstance plan x) (sym c.in-Ok.ensures.ok)
-    (first-sound plan first c.requires.fits (omega (arith, depth, gamma, coefficients, within)) refl steps refl a.levels c.new-2.ensures.items
+    (first-sound plan first c.requires.fits (omega (arith, depth, gamma, coefficients, within)) refl steps refl (callee-scopes plan number c.in_ok-env.env None c.new.result a) c.new-2.ensures.items
     (record {
       function = f;
-      of_plan = ap (λ n. function_at (functions_of plan) n) a.function ∙ there;
+      of_plan = ap (λ n. function_at (functions_of plan) n) (callee-function plan number c.in_ok-env.env None c.new.result a) ∙ there;
       names = ap (λ (e : EnvironmentView). e.names) (a.env ∙ env) ∙ own-names plan number f there c.in-Some.names.now c.in-Some.ensures;
     }))

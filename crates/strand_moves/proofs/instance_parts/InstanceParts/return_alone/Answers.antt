@@ -7,7 +7,7 @@ use Rattle.strand_meaning.specs.Machine.{Emitted, sync_effects}
 use Rattle.strand_moves.specs.declared.instance_parts.InstanceParts.{InstanceParts}
 use Rattle.strand_moves.specs.InstanceParts.{machine_of, present_of}
 use Rattle.strand_moves.proofs.Statements.Equations.{went}
-use Rattle.strand_moves.proofs.Frames.Ending.{return-joined}
+use Rattle.strand_moves.proofs.Frames.Ending.{return-synced}
 use Rattle.strand_moves.proofs.Frames.Names.{still-named}
 use Rattle.strand_moves.proofs.Statements.Naming.{top-named}
 use Rattle.strand_moves.proofs.instance_parts.InstanceParts.return_alone.Goals as goal
@@ -23,7 +23,7 @@ returns-clause-shows c =
     let is : new ≡ record paid { rank = paid.rank + 1; top = record paid.top { returning = true; spawned = false } } =
     ap (λ (b : Bool). let x : InstanceParts = record paid { rank = paid.rank + 1; top = record paid.top { returning = true; spawned = b } } in x) alone in
     let spawns = ap (λ (x : InstanceParts). spawns_in (function_at (functions_of plan) x.top.function)) pays.ok in
-    return-joined plan i c.requires.here paid paid.steps pays.ok pays.paid new (sym spawns ∙ sym c.has_spawns.ensures ∙ c.if-not-has_spawns.false) is
+    return-synced plan i c.requires.here paid paid.steps pays.ok pays.paid new (sym spawns ∙ sym c.has_spawns.ensures ∙ c.if-not-has_spawns.false) is
     ∙ ap (λ (b : Bool). went (Emitted (event.Sync (present_of paid ++ paid.rank ∷ [])) ∷ sync_effects b) (machine_of plan new)) alone
     ∙ ap (λ (j : List ℕ). went (Emitted (event.Sync j) ∷ []) (machine_of plan new)) (sym c.in_ok-pedigree.ensures)
 

@@ -7,7 +7,7 @@ use Rattle.strand_moves.specs.declared.instance_parts.InstanceParts.{InstancePar
 use Rattle.strand_moves.specs.InstanceParts.{machine_of, path_of, present_of}
 use Rattle.strand_moves.specs.Moves.{present_pedigree}
 use Rattle.strand_moves.proofs.Frames.EndMoves.{emitted_if_any-stands}
-use Rattle.strand_moves.proofs.Frames.Ending.{return-joined}
+use Rattle.strand_moves.proofs.Frames.Ending.{return-synced}
 use Rattle.strand_moves.proofs.OpenScopes.Exits.{shows-made}
 use Rattle.strand_moves.proofs.Statements.Handing.{emitted_if_any-child}
 use Rattle.strand_moves.proofs.Frames.Names.{still-named}
@@ -31,7 +31,7 @@ returns-then-has_spawns-clause-shows c =
     let s = c.sync.ensures in
     let function = ap (λ (x : InstanceParts). spawns_in (function_at (functions_of plan) x.top.function)) c.in_ok-pay.ensures.ok in
     shows-made (return_move plan (path_of i) (machine_of plan i) false) (present_pedigree (present_of i) (machine_of plan i)) (machine_of plan c.sync.new.self) _ c.sync.result s.effects s.fine s.passed
-    (λ passed. return-joined plan i c.requires.here c.pay.new.self c.pay.new.self.steps c.in_ok-pay.ensures.ok c.in_ok-pay.ensures.paid c.sync.new.self (sym function ∙ sym c.has_spawns.ensures ∙ c.if-has_spawns.true) passed)
+    (λ passed. return-synced plan i c.requires.here c.pay.new.self c.pay.new.self.steps c.in_ok-pay.ensures.ok c.in_ok-pay.ensures.paid c.sync.new.self (sym function ∙ sym c.has_spawns.ensures ∙ c.if-has_spawns.true) passed)
 
 pub returns-then-has_spawns-clause-child : goal.returns-then-has_spawns-clause-child
 returns-then-has_spawns-clause-child c = c.sync.ensures.child c.args.plan.now

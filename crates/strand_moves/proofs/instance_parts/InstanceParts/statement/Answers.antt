@@ -74,10 +74,10 @@ returns-in-Sync-clause-shows c =
     let p = c.pay.new.self in
     let st = c.args.statement.now in
     let is = act-is act.Sync st.act variant.Sync c.in-Sync.is variant.rolls-Sync in
-    statement-paid plan c.args.self.now p p.steps c.in_ok-pay.ensures.ok c.in_ok-pay.ensures.paid (here-is plan c.args.self.now c.requires.instance) st act.Sync c.wait.new.self c.wait.result is (c.wait.ensures.shows plan st)
+    statement-paid plan c.args.self.now p p.steps c.in_ok-pay.ensures.ok c.in_ok-pay.ensures.paid (here-is plan c.args.self.now c.requires.instance) st act.Sync c.sync_statement.new.self c.sync_statement.result is (c.sync_statement.ensures.shows plan st)
 
 pub returns-in-Sync-clause-child : goal.returns-in-Sync-clause-child
-returns-in-Sync-clause-child c = c.wait.ensures.child c.args.plan.now
+returns-in-Sync-clause-child c = c.sync_statement.ensures.child c.args.plan.now
 
 pub returns-in-Print-clause-shows : goal.returns-in-Print-clause-shows
 returns-in-Print-clause-shows c =
@@ -160,7 +160,7 @@ returns-in-Call-clause-keeps c =
 
 pub returns-in-Sync-clause-keeps : goal.returns-in-Sync-clause-keeps
 returns-in-Sync-clause-keeps c =
-    keeps-paid c.args.plan.now c.args.self.now c.pay.new.self c.pay.new.self.steps c.requires.instance c.requires.goes_on c.in_ok-pay.ensures.ok c.in_ok-pay.ensures.paid c.wait.new.self (c.wait.ensures.named c.args.plan.now) c.wait.ensures.stays c.wait.ensures.few c.wait.result
+    keeps-paid c.args.plan.now c.args.self.now c.pay.new.self c.pay.new.self.steps c.requires.instance c.requires.goes_on c.in_ok-pay.ensures.ok c.in_ok-pay.ensures.paid c.sync_statement.new.self (c.sync_statement.ensures.named c.args.plan.now) c.sync_statement.ensures.stays c.sync_statement.ensures.few c.sync_statement.result
 
 pub returns-in-Print-clause-keeps : goal.returns-in-Print-clause-keeps
 returns-in-Print-clause-keeps c =

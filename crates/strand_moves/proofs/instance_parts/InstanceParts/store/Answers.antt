@@ -5,7 +5,7 @@ use Rattle.serial_meaning.specs.Values.{value_of}
 use Rattle.strand_moves.specs.declared.instance_parts.InstanceParts.{InstanceParts}
 use Rattle.strand_moves.specs.InstanceParts.{machine_of, present_of}
 use Rattle.strand_moves.specs.Moves.{acted, present_pedigree}
-use Rattle.strand_values.specs.Gives.{numbered}
+use Rattle.strand_values.specs.Gives.{integer_result}
 use Rattle.strand_moves.proofs.Statements.Conditions.{number-known, number-fault}
 use Rattle.strand_moves.proofs.Statements.Naming.{names-stay, top-named, variables-are}
 use Rattle.strand_moves.proofs.Statements.Equations.{store, store-fault, store-index-fault, store-value-fault}
@@ -18,7 +18,7 @@ returns-in_err-index-clause-shows c = λ plan st.
     let i = c.args.self.now in
     let d = value_of c.args.i.now i.top.env.variables in
     quiet-exit (acted plan (present_of i) (machine_of plan i) st (act.Store c.args.x.now c.args.i.now c.args.e.now)) (present_pedigree (present_of i) (machine_of plan i)) _ c.from_residual.result c.in_err-index.field-0.0
-    (numbered d) c.from_residual.ensures.1 c.in_err-index.ensures (λ kind h. store-index-fault plan (present_of i) (machine_of plan i) st c.args.x.now c.args.i.now c.args.e.now kind (number-fault d kind h))
+    (integer_result d) c.from_residual.ensures.1 c.in_err-index.ensures (λ kind h. store-index-fault plan (present_of i) (machine_of plan i) st c.args.x.now c.args.i.now c.args.e.now kind (number-fault d kind h))
 
 pub returns-then-is_none-clause-shows : goal.returns-then-is_none-clause-shows
 returns-then-is_none-clause-shows c = λ plan st.

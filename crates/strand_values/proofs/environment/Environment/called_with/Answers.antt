@@ -4,7 +4,7 @@ use Rattle.script_check.specs.Places.{has_place}
 use Rattle.serial_meaning.specs.declared.event.FaultKind.{FaultKind}
 use Rattle.strand_values.specs.Changes.{called_with}
 use Rattle.strand_values.specs.Environments.{held}
-use Rattle.strand_values.specs.Gives.{Gives}
+use Rattle.strand_values.specs.Gives.{Calculates}
 use Rattle.strand_values.specs.declared.halt.Halt.{Halt}
 use Rattle.strand_values.proofs.BoundLemmas.{called-begins, called-ends, called-fails, called-more, called-past, place_for}
 use Rattle.strand_values.proofs.FoundOperands.{at_argument}
@@ -42,9 +42,9 @@ loop-i-preserved c =
     ]
 
 -- the halt that is met is the answer
-halts : {A : Type 0} (r : Result A Halt) (h : Halt) (defined : Result A FaultKind) → IsErrAnd r (λ y. y ≡ h) → Gives {A = A} (Err h) defined → Gives r defined
+halts : {A : Type 0} (r : Result A Halt) (h : Halt) (defined : Result A FaultKind) → IsErrAnd r (λ y. y ≡ h) → Calculates {A = A} (Err h) defined → Calculates r defined
 halts (Ok a) h defined is g = absurd is
-halts {A} (Err y) h defined is g = let P : Halt → Type 0 = λ z. Gives {A = A} (Err z) defined in subst P (sym is) g
+halts {A} (Err y) h defined is g = let P : Halt → Type 0 = λ z. Calculates {A = A} (Err z) defined in subst P (sym is) g
 
 pub returns-in_err-value : goal.returns-in_err-value
 returns-in_err-value c =

@@ -28,10 +28,10 @@ use Rattle.strand_meaning.proofs.UnfilledPending.PendingAnswers.{alike-pending}
 use Rattle.strand_meaning.proofs.FoundTargets.FoundParts.{found-nowhere, found-alike}
 use Rattle.strand_meaning.proofs.FoundTargets.FoundMoves.{FoundEnd, found-move, functions-after}
 use Rattle.strand_meaning.proofs.UnfilledPending.AlikeButEvents.{Alike, alike-effects, alike-takes, alike-parts, alike-stage}
-use Rattle.strand_meaning.proofs.SoundSteps.Depth.{loop-of-plan, same-answer}
+use Rattle.strand_meaning.proofs.SoundSteps.OriginsFitDepth.{loop-of-plan, same-answer}
 use Rattle.strand_meaning.proofs.SoundSteps.ChildrenFollowEvents.{own-move}
-use Rattle.strand_meaning.proofs.SoundSteps.Begun.{Shows, effects-fault, move-shows}
-use Rattle.strand_meaning.proofs.SoundSteps.Closing.{after-then}
+use Rattle.strand_meaning.proofs.SoundSteps.EventsShowChildren.{KeepsShown, effects-fault, move-shows}
+use Rattle.strand_meaning.proofs.SoundSteps.ChildrenCloseNodes.{after-then}
 use Rattle.strand_meaning.proofs.SoundSteps.Finishing.{NotHalf, so_far, played, effects-so_far, SameChild, played-closed}
 use Rattle.strand_meaning.proofs.Unfilled.UntouchedStays.{first-contained, later-contained}
 
@@ -143,7 +143,7 @@ module _ (t : Task) (is : IsTask t) (m : Machine) (own-known : IsOriginOf t.plan
           (Contains-append_left (far.front ++ effect_items ts) (rest then all_of).items (Child c) (Contains-append_right far.front (effect_items ts) (Child c) k))
 
   -- the task after the move
-  next-task : (ts : List Effect) → Each NotHalf ts → Shows t.plan t.origin ts → (rest : Run Item NodeFault Value) → Leaves ts rest → (stage : Stage) →
+  next-task : (ts : List Effect) → Each NotHalf ts → KeepsShown t.plan t.origin ts → (rest : Run Item NodeFault Value) → Leaves ts rest → (stage : Stage) →
       rest ≡ rest_open t.plan kids path (ps ++ effect_parts ts) stage → IsSoundStage t.plan (ps ++ effect_parts ts) stage → UnfilledArePending t.plan (ps ++ effect_parts ts) stage →
       (IsFoundPlan t.plan → FindsTargets t.plan (functions_at stage) (ps ++ effect_parts ts)) → IsTask (passing t ts (Runs stage))
   next-task ts own-effects shows rest leaves stage lands fits stands finds = record {
@@ -179,8 +179,8 @@ module _ (t : Task) (is : IsTask t) (m : Machine) (own-known : IsOriginOf t.plan
           ∙ ap (λ (w : Remaining). so_far (eval t.plan) t.trace t.values (remaining_run t.plan t.origin ps w)) (sym at)
           ∙ is.finishes
 
-  sound-moved : (ts : List Effect) (e : Result Reached Fault) → Each NotHalf ts → Shows t.plan t.origin ts → Leaves ts (shown_with t.plan kids path ps ts e) → SoundEnd t.plan ps ts e → PendingEnd t.plan ps ts e → (IsFoundPlan t.plan → FoundEnd t.plan ps ts e) → IsSoundStep t (step_result t ts e)
-  sound-moved ts (Ok (Stands k)) own-effects shows leaves fits stands finds = by_child (child_in ts) refl
+  sound-result : (ts : List Effect) (e : Result Reached Fault) → Each NotHalf ts → KeepsShown t.plan t.origin ts → Leaves ts (shown_with t.plan kids path ps ts e) → SoundEnd t.plan ps ts e → PendingEnd t.plan ps ts e → (IsFoundPlan t.plan → FoundEnd t.plan ps ts e) → IsSoundStep t (step_result t ts e)
+  sound-result ts (Ok (Stands k)) own-effects shows leaves fits stands finds = by_child (child_in ts) refl
     where
       next : Task
       next = passing t ts (Runs (stage_after ts k))
@@ -194,12 +194,12 @@ module _ (t : Task) (is : IsTask t) (m : Machine) (own-known : IsOriginOf t.plan
       by_child (Some c) h =
           let k = child-known t.plan t.origin ts c (known ts (rest_open t.plan kids path (ps ++ effect_parts ts) (stage_after ts k)) leaves) h in
           (k.0, is-next)
-  sound-moved ts (Ok (Gives v)) own-effects shows leaves fits stands finds =
+  sound-result ts (Ok (Gives v)) own-effects shows leaves fits stands finds =
       next-task ts own-effects shows (done v) leaves (Ended (Ok v)) (sym (ended-rest t.plan kids path 0 (ps ++ effect_parts ts) (halves-places (ps ++ effect_parts ts) halves) (Ok v))) halves tt (λ plan-found. found-nowhere t.plan (ps ++ effect_parts ts))
     where
       halves : AreHalves (ps ++ effect_parts ts)
       halves = subst AreHalves (sym (ap (λ (l : List AwaitedChild). ps ++ l) fits.0 ∙ append-nil ps)) fits.1
-  sound-moved ts (Err f) own-effects shows leaves fits stands finds =
+  sound-result ts (Err f) own-effects shows leaves fits stands finds =
       next-task ts own-effects shows (run_ends_by (Own f)) leaves (Ended (Err (Own f))) (sym (ended-rest t.plan kids path fits.1 (ps ++ effect_parts ts) places (Err (Own f)))) (fits.1, places) tt (λ plan-found. found-nowhere t.plan (ps ++ effect_parts ts))
     where
       places : AreDestinations fits.1 (ps ++ effect_parts ts)
@@ -208,7 +208,7 @@ module _ (t : Task) (is : IsTask t) (m : Machine) (own-known : IsOriginOf t.plan
   pub sound-going : IsSoundStep t (step_result t (move t.plan path m).items (move t.plan path m).ending)
   sound-going =
       let r = move t.plan path m in
-      sound-moved r.items r.ending (own-move t.plan path m) (move-shows t.plan t.origin m)
+      sound-result r.items r.ending (own-move t.plan path m) (move-shows t.plan t.origin m)
       (open-move t.plan kids path (length m.below) ps sound.0 m (sound-free t.plan ps m sound) (none-known kids ps m sound.1.spawned sound.1.faulted) (λ h. (sound.1.leaving h).1))
       (sound-move t.plan path is.clear ps m sound) (pending-move t.plan path ps m sound pends)
       (λ plan-found. found-move t.plan path ps m sound.0 (subst (λ (w : Remaining). FindsTargets t.plan (functions_left w) ps) at (is.found plan-found)) plan-found pends)

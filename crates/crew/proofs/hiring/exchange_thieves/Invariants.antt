@@ -2,7 +2,7 @@ use Rattle.std.proofs.Common.{◌≡◌, List, length, map}
 use Rattle.steal_deck.specs.Ends.{DeckId}
 use Rattle.crew.specs.Crews.{new_hand}
 use Rattle.crew.proofs.Meeting.{IsMeeting}
-use Rattle.crew.proofs.hiring.meet.Given as goal
+use Rattle.crew.proofs.hiring.exchange_thieves.Given as goal
 
 abbrev pub invariant-loop-own : goal.invariant-loop-own
 invariant-loop-own l = record {

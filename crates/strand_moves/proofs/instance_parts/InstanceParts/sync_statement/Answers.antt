@@ -7,7 +7,7 @@ use Rattle.strand_moves.specs.InstanceParts.{machine_of, present_of}
 use Rattle.strand_moves.specs.Moves.{acted, present_pedigree}
 use Rattle.strand_moves.proofs.OpenScopes.Exits.{shows-made}
 use Rattle.strand_moves.proofs.Statements.Equations.{sync, went}
-use Rattle.strand_moves.proofs.instance_parts.InstanceParts.wait.Goals as goal
+use Rattle.strand_moves.proofs.instance_parts.InstanceParts.sync_statement.Goals as goal
 
 pub returns-clause-shows : goal.returns-clause-shows
 returns-clause-shows c = λ plan st.

@@ -16,7 +16,7 @@ use Rattle.serial_meaning.specs.Runs.{Run, done, happens, after_items, ◌then�
 use Rattle.serial_meaning.specs.Values.{Env, value_of, values_of, slot_of, items_of, as_integer, is_true, at_index}
 use Rattle.serial_meaning.specs.Functions.{function_number, function_at}
 use Rattle.serial_meaning.specs.Plan.{PlanView, functions_of}
-use Rattle.serial_meaning.specs.Exec.{State, Manner, strand, fault, unless_fault, paid_from, tested, has_room, fits_depth, with_loop_values, spawn, sync_here, leaves, goes_out, scoped, implied, frame, called, right_side, found, store, looped, does, statement, exec, count_of, bound}
+use Rattle.serial_meaning.specs.Exec.{State, Manner, strand, fault, unless_fault, paid_from, tested, has_room, loop_fits, with_loop_values, spawn, sync_here, leaves, goes_out, scoped, implied, frame, called, right_side, found, store, looped, does, statement, exec, count_of, bound}
 use Rattle.serial_meaning.specs.Exec.{all_happen as passes}
 use Rattle.serial_meaning.specs.Eval.{Evaluation, first_value}
 use Rattle.serial_meaning.specs.Open.{Item, Happened, Child, Opened, Closed, NodeFault, put_off, put_off_all, unless_child_faulted, loop_end, is_empty_loop, filler}
@@ -65,36 +65,36 @@ module _ (plan : PlanView) (child : Origin → Evaluation) (path : List ℕ) whe
   module _ (now : List ℕ) (m : Machine) (on : State Bool → Machine) (into : List Stmt → State Bool → Machine) (go : State (Option Fault) → Run Item NodeFault Value)
       (same : (s : State Bool) → go (opens m.top.faulted s) ≡ rest_of_machine plan child path (on s)) where
     -- the open run q and then go, is what the run r of the machine shows and leaves
-    abbrev pub Shows : Run Effect Exit (State Bool) → Run Item NodeFault (State (Option Fault)) → Type 0
-    Shows r q = (q then go) ≡ after_items (effect_items r.items) (after_effects plan child path r.items (reached plan on into r.ending))
+    abbrev pub IsMirrored : Run Effect Exit (State Bool) → Run Item NodeFault (State (Option Fault)) → Type 0
+    IsMirrored r q = (q then go) ≡ after_items (effect_items r.items) (after_effects plan child path r.items (reached plan on into r.ending))
 
-    pub at-done : (s : State Bool) → Shows (done s) (done (opens m.top.faulted s))
+    pub at-done : (s : State Bool) → IsMirrored (done s) (done (opens m.top.faulted s))
     at-done s = same s
 
-    pub at-event : (destination : Destination) (e : Event) (s : State Bool) → Shows (happens (Emitted e) s) (happens (Happened e) (opens m.top.faulted s))
+    pub at-event : (destination : Destination) (e : Event) (s : State Bool) → IsMirrored (happens (Emitted e) s) (happens (Happened e) (opens m.top.faulted s))
     at-event destination e s = ap (after_items (Happened e ∷ [])) (same s)
 
-    pub at-fault : (destination : Destination) (kind : FaultKind) (s : State Bool) → Shows (fault (what destination) plan now kind s) (fault tree plan now kind (opens m.top.faulted s))
+    pub at-fault : (destination : Destination) (kind : FaultKind) (s : State Bool) → IsMirrored (fault (what destination) plan now kind s) (fault tree plan now kind (opens m.top.faulted s))
     at-fault destination kind s = refl
 
-    pub at-given : (destination : Destination) {A : Type 0} (o : Result A FaultKind) (s : State Bool) (f : A → Run Effect Exit (State Bool)) (g : A → Run Item NodeFault S) → ((a : A) → Shows (f a) (g a)) →
-        Shows (unless_fault (what destination) plan now o s f) (unless_fault tree plan now o (opens m.top.faulted s) g)
+    pub at-given : (destination : Destination) {A : Type 0} (o : Result A FaultKind) (s : State Bool) (f : A → Run Effect Exit (State Bool)) (g : A → Run Item NodeFault S) → ((a : A) → IsMirrored (f a) (g a)) →
+        IsMirrored (unless_fault (what destination) plan now o s f) (unless_fault tree plan now o (opens m.top.faulted s) g)
     at-given destination (Ok a) s f g h = h a
     at-given destination (Err k) s f g h = refl
 
-    pub at-tested : (destination : Destination) (b : Bool) (k : FaultKind) (s : State Bool) (f : Run Effect Exit (State Bool)) (g : Run Item NodeFault S) → Shows f g →
-        Shows (tested (what destination) plan now b k s f) (tested tree plan now b k (opens m.top.faulted s) g)
+    pub at-tested : (destination : Destination) (b : Bool) (k : FaultKind) (s : State Bool) (f : Run Effect Exit (State Bool)) (g : Run Item NodeFault S) → IsMirrored f g →
+        IsMirrored (tested (what destination) plan now b k s f) (tested tree plan now b k (opens m.top.faulted s) g)
     at-tested destination true k s f g h = h
     at-tested destination false k s f g h = refl
 
     pub at-paid : (destination : Destination) (n : ℕ) (s : State Bool) (f : State Bool → Run Effect Exit (State Bool)) (g : S → Run Item NodeFault S) →
-        ((k : ℕ) → Shows (f (record s { steps = k })) (g (record (opens m.top.faulted s) { steps = k }))) → Shows (paid_from (what destination) plan now n s f) (paid_from tree plan now n (opens m.top.faulted s) g)
+        ((k : ℕ) → IsMirrored (f (record s { steps = k })) (g (record (opens m.top.faulted s) { steps = k }))) → IsMirrored (paid_from (what destination) plan now n s f) (paid_from tree plan now n (opens m.top.faulted s) g)
     at-paid destination zero s f g h = refl
     at-paid destination (suc n) s f g h = h n
 
     -- a sync, where a frame that spawned nothing knows of no fault
     pub at-sync : (destination : Destination) (s : State Bool) → ((s : State Bool) → (on s).top.faulted ≡ m.top.faulted) → (s.spawned ≡ false → m.top.faulted ≡ None) →
-        Shows (sync_here (what destination) plan now s) (sync_here tree plan now (opens m.top.faulted s))
+        IsMirrored (sync_here (what destination) plan now s) (sync_here tree plan now (opens m.top.faulted s))
     at-sync destination s keeps none = by_spawned s.spawned refl m.top.faulted refl
       where
         e : Event
@@ -136,7 +136,7 @@ module _ (plan : PlanView) (child : Origin → Evaluation) (path : List ℕ) whe
     there n = opens m.top.faulted (here n)
 
     abbrev Moves : (List Stmt → State Bool → Machine) → Run Effect Exit (State Bool) → Run Item NodeFault S → Type 0
-    Moves into = Shows now m on into go (λ s. refl)
+    Moves into = IsMirrored now m on into go (λ s. refl)
 
     -- a variable set to a value
     abbrev sets : {K : Type 0} → Option Name → Value × State K → State K
@@ -296,7 +296,7 @@ module _ (plan : PlanView) (child : Origin → Evaluation) (path : List ℕ) whe
         Moves into (looped (what (Looped target)) plan now lo hi vs target c (here n)) (looped tree plan now lo hi vs target c (there n))
     loop-shows into target c lo hi vs n =
         at-tested now m on into go (λ s. refl) destination (nat_lt hi (n + 1)) Budget (here n) _ _ (at-tested now m on into go (λ s. refl) destination (has_room target hi m.top.env) Index (here (n - hi)) _ _
-        (at-tested now m on into go (λ s. refl) destination (fits_depth tree plan now hi) Depth (here (n - hi)) _ _ (by_size (is_empty_loop o))))
+        (at-tested now m on into go (λ s. refl) destination (loop_fits plan now hi) Depth (here (n - hi)) _ _ (by_size (is_empty_loop o))))
       where
         destination : Destination
         destination = Looped target
@@ -440,7 +440,7 @@ module _ (plan : PlanView) (child : Origin → Evaluation) (path : List ℕ) whe
       a : Act-F Act Stmt
       a = out-Act (out-Stmt st).act
 
-      paid-shows : Shows (here_of path k) k (with_left k left) (machine_inside plan st a left k) (later k left) (λ s. refl) (act_run plan path k st a) (statement tree plan (here_of path k) (exec tree plan) (length m.below) st (open_state plan child path k))
+      paid-shows : IsMirrored (here_of path k) k (with_left k left) (machine_inside plan st a left k) (later k left) (λ s. refl) (act_run plan path k st a) (statement tree plan (here_of path k) (exec tree plan) (length m.below) st (open_state plan child path k))
       paid-shows =
           at-paid (here_of path k) k (with_left k left) (machine_inside plan st a left k) (later k left) (λ s. refl) (child_destination (length m.below) a) m.steps (state_of k) _ _ (does-shows k left st a refl none)
 
@@ -495,7 +495,7 @@ module _ (plan : PlanView) (child : Origin → Evaluation) (path : List ℕ) whe
       after s = valued plan child path (present path m.below) (function_of m) s then remains_below plan child path m.below m.top.target
 
       Returns : Run Effect Exit (State Bool) → Run Item NodeFault S → Type 0
-      Returns = Shows (present path m.below) k (with_returning k) (λ inner s. k) after same
+      Returns = IsMirrored (present path m.below) k (with_returning k) (λ inner s. k) after same
 
       by_text : (b : Bool) (s : State Bool) → (s.spawned ≡ false → m.top.faulted ≡ None) →
           Returns (implied (what (Spawned (length m.below) None)) plan (present path m.below) b s) (implied tree plan (present path m.below) b (opens m.top.faulted s))

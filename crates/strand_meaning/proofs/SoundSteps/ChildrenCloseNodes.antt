@@ -17,7 +17,7 @@ pub after-then : {I E A B : Type 0} (xs : List I) (r : Run I E A) (f : A → Run
 after-then xs r f = goes_on-after xs r.items r.ending f
 
 module _ (child : Origin → Evaluation) where
-  -- a piece and how it ends
+  -- a prefix and how it ends
   abbrev ends_by : {A : Type 0} → List Event → Option Fault → Result A NodeFault → Run Event Fault A
   ends_by es (Some f) e = record { items = es; ending = Err f }
   ends_by es None e = record { items = es; ending = closed_end child e }

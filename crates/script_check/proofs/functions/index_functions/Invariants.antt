@@ -3,7 +3,7 @@ use Rattle.script_check.specs.Tables.{table_of}
 use Rattle.script_check.specs.Valid.{functions_twice}
 use Rattle.script_check.specs.Violations.{earliest}
 use Rattle.script_check.specs.Walk.{IsIndex}
-use Rattle.script_check.proofs.functions.index.Given as goal
+use Rattle.script_check.proofs.functions.index_functions.Given as goal
 
 abbrev pub invariant-loop-i : goal.invariant-loop-i
 invariant-loop-i l =

@@ -3,7 +3,7 @@ use Rattle.std.specs.Prelude.{unwrap_or}
 use Rattle.script_tokens.specs.declared.token.Word.TheVariants.{Name}
 use Rattle.script_tokens.specs.Lexing.{BeginsNoToken, Fronts}
 use Rattle.script_tokens.proofs.Longest.{letter_front, digit_front, long_front, short_front, no_symbol_front}
-use Rattle.script_tokens.proofs.front.front.Goals as goal
+use Rattle.script_tokens.proofs.front.front_token.Goals as goal
 
 pub returns-then-is_letter : goal.returns-then-is_letter
 returns-then-is_letter c =

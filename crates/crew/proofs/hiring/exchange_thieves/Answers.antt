@@ -1,6 +1,6 @@
 use Rattle.std.proofs.Common.{rules}
-use Rattle.crew.proofs.Meeting.{starts-meeting, meets-next, all-meet}
-use Rattle.crew.proofs.hiring.meet.Goals as goal
+use Rattle.crew.proofs.Meeting.{starts-meeting, meets-next, all-exchange_thieves}
+use Rattle.crew.proofs.hiring.exchange_thieves.Goals as goal
 
 pub loop-own-init : goal.loop-own-init
 loop-own-init c = record { count = search rules; meeting = λ decks e. starts-meeting decks c.args.hands.now e }
@@ -19,4 +19,4 @@ loop-own-preserved c =
     }
 
 pub returns-clause-met : goal.returns-clause-met
-returns-clause-met c = λ decks e. all-meet c.loop-own.own decks c.loop-own.hands (c.loop-own.invariant.meeting decks e) (search rules)
+returns-clause-met c = λ decks e. all-exchange_thieves c.loop-own.own decks c.loop-own.hands (c.loop-own.invariant.meeting decks e) (search rules)

@@ -15,7 +15,7 @@ use Rattle.strand_meaning.specs.Machine.{Effect, Opens, Closes, Emitted, Handed,
 use Rattle.strand_meaning.specs.Trace.{AwaitedChild}
 use Rattle.strand_meaning.specs.Task.{Stage, Running, AtSync, AtLoop, Ended, Remaining, Splits, Runs, Finished, Task, begun_stage, own_instance, begins_last, MoveOrStop, Passes, Stops, Stop, IsNext, Now, Later, stage_after, child_in, stops_at, passing, step_result, ends_unless, faults_after, returned, stage_step, split_step, over_step, remaining_step, step}
 use Rattle.strand_meaning.specs.Left.{moves_of, stage_moves, remaining_moves, moves_left}
-use Rattle.strand_meaning.proofs.NextStops.Falls.{Falls, move-falls}
+use Rattle.strand_meaning.proofs.NextStops.MovesUseSteps.{Falls, move-falls}
 
 -- a step to another task leaves fewer
 abbrev StepFalls : ℕ → MoveOrStop → Type 0
@@ -40,25 +40,25 @@ module _ (t : Task) where
   at-falls n None next h = h
   at-falls n (Some o) next h = tt
 
-  moved-falls : (m : Machine) (ts : List Effect) (e : Result Reached Fault) → Falls m e → StepFalls (2 + moves_of m) (step_result t ts e)
-  moved-falls m ts (Ok (Stands k)) h = at-falls (2 + moves_of m) (child_in ts) (passing t ts (Runs (stage_after ts k))) (stage-after-falls ts k (2 + moves_of m) (omega arith))
-  moved-falls m ts (Ok (Gives v)) h = omega arith
-  moved-falls m ts (Err f) h = omega arith
+  result-falls : (m : Machine) (ts : List Effect) (e : Result Reached Fault) → Falls m e → StepFalls (2 + moves_of m) (step_result t ts e)
+  result-falls m ts (Ok (Stands k)) h = at-falls (2 + moves_of m) (child_in ts) (passing t ts (Runs (stage_after ts k))) (stage-after-falls ts k (2 + moves_of m) (omega arith))
+  result-falls m ts (Ok (Gives v)) h = omega arith
+  result-falls m ts (Err f) h = omega arith
 
   faults-fall : (ps : List AwaitedChild) (f : Fault) → StepFalls 1 (faults_after ps t f)
   faults-fall [] f = ends-fall 1 t.trace.fault _
   faults-fall (p ∷ ps) f = tt
 
-  gave-falls : (o : Origin) (v : Value) → StepFalls 1 (returned t o v)
-  gave-falls (Instance function args path) v = ends-fall 1 t.trace.fault _
-  gave-falls (Loop function rest first path range) v = omega arith
+  returned-falls : (o : Origin) (v : Value) → StepFalls 1 (returned t o v)
+  returned-falls (Instance function args path) v = ends-fall 1 t.trace.fault _
+  returned-falls (Loop function rest first path range) v = omega arith
 
   stage-falls : (stage : Stage) → StepFalls (stage_moves stage) (stage_step t stage)
   stage-falls (Running m) =
-      let path = path_of (own_instance t.origin) in moved-falls m (move t.plan path m).items (move t.plan path m).ending (move-falls t.plan path m)
+      let path = path_of (own_instance t.origin) in result-falls m (move t.plan path m).items (move t.plan path m).ending (move-falls t.plan path m)
   stage-falls (AtSync m) = tt
   stage-falls (AtLoop m) = tt
-  stage-falls (Ended (Ok v)) = gave-falls t.origin v
+  stage-falls (Ended (Ok v)) = returned-falls t.origin v
   stage-falls (Ended (Err (Own f))) = faults-fall t.trace.handed f
   stage-falls (Ended (Err (ChildFaulted f))) = ends-fall 1 t.trace.fault _
 

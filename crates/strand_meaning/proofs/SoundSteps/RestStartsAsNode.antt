@@ -26,7 +26,7 @@ use Rattle.strand_meaning.specs.Rest.{children_of, closes, rest_of_stage, rest_o
 use Rattle.strand_meaning.specs.Pending.{Here, Outside}
 use Rattle.strand_meaning.specs.Sound.{unfilled, is_by, any_by, IsHalf, AreHalves, IsSoundStage, UnfilledArePending}
 use Rattle.strand_meaning.proofs.Unfilled.Clears.{none-contained, none-unfilled}
-use Rattle.strand_meaning.proofs.SoundSteps.Steps.{halves-places}
+use Rattle.strand_meaning.proofs.SoundSteps.MovesKeepTasks.{halves-places}
 
 clash : true ≡ false → ⊥
 clash h = absurd (cc)

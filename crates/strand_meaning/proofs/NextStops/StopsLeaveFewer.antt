@@ -26,9 +26,9 @@ use Rattle.strand_meaning.proofs.Unfilled.MovesBeforeAnswers.{shown_with, open-m
 use Rattle.strand_meaning.proofs.Unfilled.SoundMoves.{sound-free}
 use Rattle.strand_meaning.proofs.UnfilledPending.AlikeButEvents.{alike-effects, alike-takes}
 use Rattle.strand_meaning.proofs.SoundSteps.ChildrenFollowEvents.{EffectRules, effects-move}
-use Rattle.strand_meaning.proofs.SoundSteps.Starts.{halves-rest}
+use Rattle.strand_meaning.proofs.SoundSteps.RestStartsAsNode.{halves-rest}
 use Rattle.strand_meaning.proofs.TakenAnswers.AnswersKeepTasks.{rest-same, none-handed}
-use Rattle.strand_meaning.proofs.SoundSteps.Ends.{steps_are_sound}
+use Rattle.strand_meaning.proofs.SoundSteps.StepsKeepTasks.{steps_are_sound}
 
 -- What a move shows pays for its waits
 
@@ -184,8 +184,8 @@ module _ (t : Task) (is : IsTask t) (idle : t.waiting ≡ false) where
             2 ≤ item_stops (effect_items ts) → waits_in ts ≤ 1 → stops_left (passing t ts (Runs stage)) < stops_left t
         fewer e f g k = omega arith
 
-    fewer-moved : (ts : List Effect) (e : Result Reached Fault) → Paid ts → rest_open t.plan kids path ps (Running m) ≡ after_items (effect_items ts) (shown_with t.plan kids path ps ts e) → FewerStep t (step_result t ts e)
-    fewer-moved ts (Ok (Stands k)) p h =
+    fewer-result : (ts : List Effect) (e : Result Reached Fault) → Paid ts → rest_open t.plan kids path ps (Running m) ≡ after_items (effect_items ts) (shown_with t.plan kids path ps ts e) → FewerStep t (step_result t ts e)
+    fewer-result ts (Ok (Stands k)) p h =
         let rest : Run Item NodeFault Value = rest_open t.plan kids path (ps ++ effect_parts ts) (stage_after ts k) in
         let after = (with_effects ts t.trace).handed in
         let same : rest ≡ rest_open t.plan kids path after (stage_after ts k) = ap (λ s. rest_of_stage t.plan kids path (resumed s)) (alike-takes kids (alike-effects ts t.trace) (stage_after ts k)) in
@@ -199,12 +199,12 @@ module _ (t : Task) (is : IsTask t) (idle : t.waiting ≡ false) where
 
         inside : (p r b : ℕ) → b ≡ p + r → p ≤ b
         inside p r b e = omega arith
-    fewer-moved ts (Ok (Gives v)) p h = (few (end-few (with_effects ts t.trace).handed) (next-is (with_effects ts t.trace).handed (Runs (Ended (Ok v)))) now-is, idle)
+    fewer-result ts (Ok (Gives v)) p h = (few (end-few (with_effects ts t.trace).handed) (next-is (with_effects ts t.trace).handed (Runs (Ended (Ok v)))) now-is, idle)
       where
         few : at_end false (with_effects ts t.trace).handed ≤ 2 → stops_of t.plan t.origin t.waiting (with_effects ts t.trace).handed (Runs (Ended (Ok v))) ≡ 2 + at_end false (with_effects ts t.trace).handed → stops_left t ≡ 2 + (3 + before) →
             stops_left (passing t ts (Runs (Ended (Ok v)))) ≤ stops_left t
         few e f g = omega arith
-    fewer-moved ts (Err x) p h = (few (end-few (with_effects ts t.trace).handed) (next-is (with_effects ts t.trace).handed (Runs (Ended (Err (Own x))))) now-is, idle)
+    fewer-result ts (Err x) p h = (few (end-few (with_effects ts t.trace).handed) (next-is (with_effects ts t.trace).handed (Runs (Ended (Err (Own x))))) now-is, idle)
       where
         few : at_end false (with_effects ts t.trace).handed ≤ 2 → stops_of t.plan t.origin t.waiting (with_effects ts t.trace).handed (Runs (Ended (Err (Own x)))) ≡ 2 + at_end false (with_effects ts t.trace).handed → stops_left t ≡ 2 + (3 + before) →
             stops_left (passing t ts (Runs (Ended (Err (Own x))))) ≤ stops_left t
@@ -213,7 +213,7 @@ module _ (t : Task) (is : IsTask t) (idle : t.waiting ≡ false) where
     fewer-going : IsSoundStage t.plan ps (Running m) → FewerStep t (step_result t (move t.plan path m).items (move t.plan path m).ending)
     fewer-going sound =
         let r = move t.plan path m in
-        fewer-moved r.items r.ending (effects-move Paid t.plan path (paid path) m)
+        fewer-result r.items r.ending (effects-move Paid t.plan path (paid path) m)
         (open-move t.plan kids path (length m.below) ps sound.0 m (sound-free t.plan ps m sound) (none-known kids ps m sound.1.spawned sound.1.faulted) (λ h. (sound.1.leaving h).1))
 
   -- a wait that the task comes to
@@ -238,9 +238,9 @@ module _ (t : Task) (is : IsTask t) (idle : t.waiting ≡ false) where
       no_more : stops_left t ≡ of_remaining ps remaining → stops_of t.plan t.origin t.waiting ps next ≡ of_remaining ps next → stops_of t.plan t.origin t.waiting ps next ≤ stops_left t
       no_more e f = omega arith
 
-  fewer-gave : (o : Origin) (v : Value) → t.remaining ≡ Runs (Ended (Ok v)) → FewerStep t (returned t o v)
-  fewer-gave (Instance function args path) v at = fewer-ends t.trace.fault _
-  fewer-gave (Loop function rest first path range) v at = fewer-remaining (Runs (Ended (Ok v))) (Finished v false) at (from ps)
+  fewer-returned : (o : Origin) (v : Value) → t.remaining ≡ Runs (Ended (Ok v)) → FewerStep t (returned t o v)
+  fewer-returned (Instance function args path) v at = fewer-ends t.trace.fault _
+  fewer-returned (Loop function rest first path range) v at = fewer-remaining (Runs (Ended (Ok v))) (Finished v false) at (from ps)
     where
       from : (qs : List AwaitedChild) → 1 + 1 ≤ 2 + at_end false qs
       from [] = omega arith
@@ -250,7 +250,7 @@ module _ (t : Task) (is : IsTask t) (idle : t.waiting ≡ false) where
   fewer-stage (Running m) at sound = fewer-going m at sound
   fewer-stage (AtSync m) at sound = fewer-wait (Runs (AtSync m)) at (omega arith)
   fewer-stage (AtLoop m) at sound = fewer-wait (Runs (AtLoop m)) at (omega arith)
-  fewer-stage (Ended (Ok v)) at sound = fewer-gave t.origin v at
+  fewer-stage (Ended (Ok v)) at sound = fewer-returned t.origin v at
   fewer-stage (Ended (Err (Own f))) at sound = fewer-faults f ps refl at
   fewer-stage (Ended (Err (ChildFaulted f))) at sound = fewer-ends t.trace.fault _
 

@@ -16,7 +16,7 @@ use Rattle.strand_meaning.specs.Trace.{AwaitedChild}
 use Rattle.strand_meaning.specs.Task.{Stage, Running, AtSync, AtLoop, Ended, Remaining, Splits, Runs, Finished, Task, own_instance, MoveOrStop, Passes, Stops, Stop, Spawn, Wait, End, IsNext, Now, Later, stage_after, child_in, stops_at, passing, step_result, ends_unless, faults_after, returned, stage_step, split_step, over_step, remaining_step, step}
 use Rattle.strand_meaning.specs.Sound.{IsTask}
 use Rattle.strand_meaning.specs.Laws.{IsSoundStop, IsSoundStep, IsFaultOf, IsSameTask, KeepsOrigin}
-use Rattle.strand_meaning.proofs.SoundSteps.Ends.{steps_are_sound}
+use Rattle.strand_meaning.proofs.SoundSteps.StepsKeepTasks.{steps_are_sound}
 
 abbrev pub KeepsStep : Task → MoveOrStop → Type 0
 KeepsStep t (Passes next) = IsSameTask t next
@@ -31,24 +31,24 @@ module _ (t : Task) where
   keeps-at None next h = h
   keeps-at (Some o) next h = h
 
-  keeps-moved : (ts : List Effect) (e : Result Reached Fault) → KeepsStep t (step_result t ts e)
-  keeps-moved ts (Ok (Stands m)) = keeps-at (child_in ts) (passing t ts (Runs (stage_after ts m))) (refl, refl)
-  keeps-moved ts (Ok (Gives v)) = (refl, refl)
-  keeps-moved ts (Err f) = (refl, refl)
+  keeps-result : (ts : List Effect) (e : Result Reached Fault) → KeepsStep t (step_result t ts e)
+  keeps-result ts (Ok (Stands m)) = keeps-at (child_in ts) (passing t ts (Runs (stage_after ts m))) (refl, refl)
+  keeps-result ts (Ok (Gives v)) = (refl, refl)
+  keeps-result ts (Err f) = (refl, refl)
 
   keeps-faults : (ps : List AwaitedChild) (f : Fault) → KeepsStep t (faults_after ps t f)
   keeps-faults [] f = keeps-ends t.trace.fault _
   keeps-faults (p ∷ ps) f = (refl, refl)
 
-  keeps-gave : (o : Origin) (v : Value) → KeepsStep t (returned t o v)
-  keeps-gave (Instance function args path) v = keeps-ends t.trace.fault _
-  keeps-gave (Loop function rest first path range) v = (refl, refl)
+  keeps-returned : (o : Origin) (v : Value) → KeepsStep t (returned t o v)
+  keeps-returned (Instance function args path) v = keeps-ends t.trace.fault _
+  keeps-returned (Loop function rest first path range) v = (refl, refl)
 
   keeps-stage : (stage : Stage) → KeepsStep t (stage_step t stage)
-  keeps-stage (Running m) = let r = move t.plan (path_of (own_instance t.origin)) m in keeps-moved r.items r.ending
+  keeps-stage (Running m) = let r = move t.plan (path_of (own_instance t.origin)) m in keeps-result r.items r.ending
   keeps-stage (AtSync m) = (refl, refl)
   keeps-stage (AtLoop m) = (refl, refl)
-  keeps-stage (Ended (Ok v)) = keeps-gave t.origin v
+  keeps-stage (Ended (Ok v)) = keeps-returned t.origin v
   keeps-stage (Ended (Err (Own f))) = keeps-faults t.trace.handed f
   keeps-stage (Ended (Err (ChildFaulted f))) = keeps-ends t.trace.fault _
 

@@ -15,7 +15,7 @@ use Rattle.serial_meaning.specs.declared.origin.Origin.{Origin}
 use Rattle.serial_meaning.specs.declared.origin.Origin.TheVariants.{Instance, Loop}
 use Rattle.strand_meaning.specs.Task.{own_instance}
 use Rattle.strand_meaning.specs.Sound.{IsInstanceOrLoop}
-use Rattle.strand_meaning.proofs.SoundSteps.Depth.{longer}
+use Rattle.strand_meaning.proofs.SoundSteps.OriginsFitDepth.{longer}
 use Rattle.strand_meaning.proofs.Unfilled.UntouchedStays.{first-contained, later-contained}
 
 pub then-done : {I E A : Type 0} (r : Run I E A) → (r then λ a. done a) ≡ r

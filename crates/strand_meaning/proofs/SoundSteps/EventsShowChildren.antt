@@ -107,14 +107,14 @@ module _ (plan : PlanView) (o : Origin) where
       there = subst (λ (l : List (List ℕ)). Contains l (path_of c)) (sym (ap raising_pedigrees (front-prefix e trace none) ∙ places-append old (e ∷ []) ∙ ap (λ (l : List (List ℕ)). raising_pedigrees old ++ l) b.raised_at)) last
 
   -- effects after which all is still shown
-  abbrev pub Shows : List Effect → Type 0
-  Shows ts = (trace : Trace) → trace.fault ≡ None → Shown trace → Shown (with_effects ts trace)
+  abbrev pub KeepsShown : List Effect → Type 0
+  KeepsShown ts = (trace : Trace) → trace.fault ≡ None → Shown trace → Shown (with_effects ts trace)
 
-  shows-more : (xs ys : List Effect) → Shows xs → Shows ys → Shows (xs ++ ys)
+  shows-more : (xs ys : List Effect) → KeepsShown xs → KeepsShown ys → KeepsShown (xs ++ ys)
   shows-more xs ys h k trace none s =
       subst Shown (sym (effects-one-by-one xs ys trace)) (k (with_effects xs trace) (effects-fault xs trace ∙ none) (h trace none s))
 
-  shows : EffectRules own_path Shows
+  shows : EffectRules own_path KeepsShown
   shows = record {
     none = λ trace none s. s;
     more = shows-more;
@@ -126,14 +126,14 @@ module _ (plan : PlanView) (o : Origin) where
     closed = λ j trace none s. s;
   }
     where
-      at_sync : (j : List ℕ) (b : Bool) → Shows (Emitted (event.Sync j) ∷ sync_effects b)
+      at_sync : (j : List ℕ) (b : Bool) → KeepsShown (Emitted (event.Sync j) ∷ sync_effects b)
       at_sync j true trace none s = emit-shown (event.Sync j) trace s
       at_sync j false trace none s = emit-shown (event.Sync j) trace s
 
-      at_loop : (e : Event) (c : Origin) (target : Option Name) (b : Bool) → Begins own_path e c → Shows (Emitted e ∷ loop_effects b c (Looped target))
+      at_loop : (e : Event) (c : Origin) (target : Option Name) (b : Bool) → Begins own_path e c → KeepsShown (Emitted e ∷ loop_effects b c (Looped target))
       at_loop e c target true begins trace none s = emit-shown e trace s
       at_loop e c target false begins trace none s = begun-shown e c (Looped target) (λ front events b. b) begins trace none s
 
   -- A move hands out no child but after the event by which it begins.
-  pub move-shows : (m : Machine) → Shows (move plan own_path m).items
-  move-shows m = effects-move Shows plan own_path shows m
+  pub move-shows : (m : Machine) → KeepsShown (move plan own_path m).items
+  move-shows m = effects-move KeepsShown plan own_path shows m

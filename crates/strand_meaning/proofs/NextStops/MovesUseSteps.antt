@@ -14,7 +14,7 @@ use Rattle.serial_meaning.specs.Runs.{Run, done, continued, ◌then◌}
 use Rattle.serial_meaning.specs.Values.{value_of, values_of, slot_of, items_of, as_integer, is_true, at_index}
 use Rattle.serial_meaning.specs.Functions.{function_number, function_at}
 use Rattle.serial_meaning.specs.Plan.{PlanView, functions_of}
-use Rattle.serial_meaning.specs.Exec.{State, Manner, unless_fault, paid_from, tested, has_room, fits_depth, spawn, implied, frame, called, right_side, found, looped, does, count_of}
+use Rattle.serial_meaning.specs.Exec.{State, Manner, unless_fault, paid_from, tested, has_room, loop_fits, spawn, implied, frame, called, right_side, found, looped, does, count_of}
 use Rattle.serial_meaning.specs.declared.value.Value.{Value}
 use Rattle.serial_meaning.specs.declared.value.Value.TheVariants.{Int}
 use Rattle.serial_meaning.specs.declared.event.FaultKind.{FaultKind}
@@ -86,7 +86,7 @@ module _ (plan : PlanView) (path : List ℕ) where
 
     looped-within : (destination : Destination) (lo : ℤ) (hi : ℕ) (vs : List Value) (target : Option Name) (c : CallText) (s : State Bool) → s.steps ≤ n → Within steps_of n (looped (what destination) plan path lo hi vs target c s).ending
     looped-within destination lo hi vs target c s h =
-        within-tested steps_of n destination (nat_lt hi (s.steps + 1)) Budget s _ (within-tested steps_of n destination (has_room target hi s.env) Index _ _ (within-tested steps_of n destination (fits_depth (what destination) plan path hi) Depth _ _ fewer))
+        within-tested steps_of n destination (nat_lt hi (s.steps + 1)) Budget s _ (within-tested steps_of n destination (has_room target hi s.env) Index _ _ (within-tested steps_of n destination (loop_fits plan path hi) Depth _ _ fewer))
       where
         fewer : s.steps - hi ≤ n
         fewer = omega arith

@@ -2,7 +2,7 @@ use Rattle.std.proofs.Common.{sym, ap, ◌∙◌, subst}
 use Rattle.strand_machine.specs.Tasks.{HoldsOfTask, view_of}
 use Rattle.strand_machine.specs.declared.parts.Parts.{Parts}
 use Rattle.strand_machine.proofs.NextStops.Advancing.{is-short, short-answers, short-ends}
-use Rattle.strand_machine.proofs.task.Task.finish.Goals as goal
+use Rattle.strand_machine.proofs.task.Task.into_answer.Goals as goal
 
 pub unreachable-requires : goal.unreachable-requires
 unreachable-requires c =

@@ -104,7 +104,7 @@ module _ (child : Origin → Evaluation) (under : (c : Origin) → StaysUnder (p
     later (Opened k ∷ is) r = later is r
     later (Closed k ∷ is) r = later is r
 
-  -- What the piece of the items has of the pedigree: all that the child's evaluation has, unless a fault before it cut it off.
+  -- What the prefix of the items has of the pedigree: all that the child's evaluation has, unless a fault before it cut it off.
   abbrev Through : List Event → Option Fault → Evaluation → Type 0
   Through es None s = (events_at j es ≡ events_at j s.items) × (vs : List Value) × (s.ending ≡ Ok vs)
   Through es (Some f) s =
@@ -197,7 +197,7 @@ module _ (child : Origin → Evaluation) (under : (c : Origin) → StaysUnder (p
   abbrev BelowNone : List Origin → Type 0
   BelowNone os = Each (λ o. NotBelow j (path_of o)) os
 
-  -- What the piece of the items has of the pedigree: the own events, unless the fault of a child left of it cut it off.
+  -- What the prefix of the items has of the pedigree: the own events, unless the fault of a child left of it cut it off.
   abbrev OwnAlone : List Event → List Item → Option Fault → Type 0
   OwnAlone es is None = events_at j es ≡ events_at j (own_events is)
   OwnAlone es is (Some f) = (IsBefore f.at j → ⊥) → (events_at j es ≡ events_at j (own_events is)) × (f.at ≡ j → ⊥) × ((c : Origin) × Contains (children is) c × (LeftOf (path_of c) j → ⊥))

@@ -26,14 +26,14 @@ use Rattle.strand_meaning.specs.Sound.{IsHalf, AreHalves, IsPartAfter, IsSoundSt
 use Rattle.strand_meaning.specs.Found.{FindsTargets, functions_left}
 use Rattle.strand_meaning.specs.Laws.{IsFaultOf, IsSoundStep}
 use Rattle.strand_meaning.proofs.FoundTargets.FoundParts.{found-nowhere, found-halves}
-use Rattle.strand_meaning.proofs.SoundSteps.Steps.{so_far-same, parts-append, ended-rest, halves-places, sound-going}
-use Rattle.strand_meaning.proofs.SoundSteps.Starts.{begun-whole, begun-sound, begun-pending, halves-rest}
-use Rattle.strand_meaning.proofs.SoundSteps.Closing.{closed-then, eval-closed}
+use Rattle.strand_meaning.proofs.SoundSteps.MovesKeepTasks.{so_far-same, parts-append, ended-rest, halves-places, sound-going}
+use Rattle.strand_meaning.proofs.SoundSteps.RestStartsAsNode.{begun-whole, begun-sound, begun-pending, halves-rest}
+use Rattle.strand_meaning.proofs.SoundSteps.ChildrenCloseNodes.{closed-then, eval-closed}
 use Rattle.strand_meaning.proofs.SoundSteps.Finishing.{add_child-so_far}
-use Rattle.strand_meaning.proofs.SoundSteps.Begun.{shown-more}
+use Rattle.strand_meaning.proofs.SoundSteps.EventsShowChildren.{shown-more}
 use Rattle.strand_meaning.proofs.SoundSteps.LoopsEndByRest.{ends-later}
-use Rattle.strand_meaning.proofs.SoundSteps.Depth.{loop-of-plan}
-use Rattle.strand_meaning.proofs.SoundSteps.Loops.{then-done, eval-loop, halves-turns, own-of-plan, part-of-loop}
+use Rattle.strand_meaning.proofs.SoundSteps.OriginsFitDepth.{loop-of-plan}
+use Rattle.strand_meaning.proofs.SoundSteps.HalvesMakeLoops.{then-done, eval-loop, halves-turns, own-of-plan, part-of-loop}
 
 -- The end of a task
 
@@ -116,8 +116,8 @@ module _ (t : Task) (is : IsTask t) where
   run_at parts remaining values = remaining_run t.plan t.origin parts remaining values
 
   -- an instance that has ended
-  gave-sound : (v : Value) → t.remaining ≡ Runs (Ended (Ok v)) → AreHalves ps → IsInstanceOrLoop t.origin → IsSoundStep t (returned t t.origin v)
-  gave-sound v at halves is-loop = by_origin t.origin refl
+  returned-sound : (v : Value) → t.remaining ≡ Runs (Ended (Ok v)) → AreHalves ps → IsInstanceOrLoop t.origin → IsSoundStep t (returned t t.origin v)
+  returned-sound v at halves is-loop = by_origin t.origin refl
     where
       by_origin : (o : Origin) → t.origin ≡ o → IsSoundStep t (returned t o v)
       by_origin (Instance function args path) h =
@@ -147,7 +147,7 @@ module _ (t : Task) (is : IsTask t) where
   stage-sound (Running m) at is-loop far sound = sound-going t is m (own-of-plan t.plan t.origin is.known is-loop) is-loop far sound (subst (UnfilledArePendingIn t.plan ps) at is.pending) at
   stage-sound (AtSync m) at is-loop far sound = waits-sound t is
   stage-sound (AtLoop m) at is-loop far sound = waits-sound t is
-  stage-sound (Ended (Ok v)) at is-loop far sound = gave-sound v at sound is-loop
+  stage-sound (Ended (Ok v)) at is-loop far sound = returned-sound v at sound is-loop
   stage-sound (Ended (Err (Own f))) at is-loop far sound = fault-sound f at ps refl
   stage-sound (Ended (Err (ChildFaulted f))) at is-loop far sound =
       end-alone t is sound (Err f) (ap (λ (w : Remaining). run_at [] w t.values) at) (outcome.Fault f) (sym (err-outcome t.origin f))
