@@ -1,5 +1,6 @@
 -- Which statements of a function's body, or of a scope's block, are left, by the blocks that were entered and the place in the innermost one.
-use Rattle.std.specs.Prelude.{◌≡◌, ℕ, ◌-◌, ◌<◌, List, [], ◌∷◌, ◌++◌, Option, Some, None, slice_get, drop}
+use Rattle.std.specs.Prelude.{◌≡◌, ℕ, ◌-◌, ◌<◌, List, [], ◌∷◌, ◌++◌, Option, Some, None, length, slice_get, drop}
+use Rattle.script_grammar.specs.declared.tree.Expr.{Expr}
 use Rattle.script_grammar.specs.declared.tree.Stmt.{Stmt, out-Stmt}
 use Rattle.script_grammar.specs.declared.tree.Act.{Act, out-Act}
 use Rattle.script_grammar.specs.declared.tree.Act.TheOpen as act
@@ -65,3 +66,23 @@ pub record IsAfterStatement (body : List Stmt) (c : Cursor) (st : Stmt) : Type 0
 pub record PassesStatement (body : List Stmt) (old new : Cursor) (st : Stmt) : Type 0 where
   pub first : statements_left body old ≡ st ∷ statements_left body new
   pub after : IsAfterStatement body new st
+
+-- The innermost block is the body of a loop with this condition.
+pub record IsInLoop (body : List Stmt) (c : Cursor) (e : Expr) : Type 0 where
+  pub around : List Entered
+  pub last : Entered
+  pub entered : c.entered.items ≡ around ++ last ∷ []
+  pub of_loop : last.branch ≡ branch.LoopBody
+  pub loop : Stmt
+  pub there : slice_get (block_of body around) last.back ≡ Some loop
+  pub is : out-Act (out-Stmt loop).act ≡ act.While e (block_of body c.entered.items)
+
+-- the same where the condition is known
+abbrev pub IsAround : List Stmt → Cursor → Option Expr → Type 0
+IsAround body c None = Unit {0}
+IsAround body c (Some e) = IsInLoop body c e
+
+-- and where a statement of its body is left, which is this block
+abbrev pub IsStillIn : List Stmt → List Stmt → Cursor → Option Expr → Type 0
+IsStillIn body block c None = Unit {0}
+IsStillIn body block c (Some e) = IsInLoop body c e × (c.next < length block)

@@ -1,5 +1,7 @@
 -- Moves that show nothing, or an event alone.
 use Rattle.std.specs.Prelude.{◌≡◌, ◌+◌, ◌*◌, ◌<◌, ◌⊎◌, Bool, true, false, [], Option, Some, None, Result, Ok, Err, length}
+use Rattle.script_grammar.specs.declared.tree.Expr.{Expr}
+use Rattle.script_grammar.specs.declared.tree.Name.{Name}
 use Rattle.script_grammar.specs.declared.tree.Right.{Right}
 use Rattle.script_grammar.specs.declared.tree.Right.TheVariants as right
 use Rattle.script_grammar.specs.declared.tree.Stmt.{Stmt, out-Stmt}
@@ -60,6 +62,10 @@ is_value (right.Draw at) = false
 is_value (right.New at) = false
 is_value (right.Call at c) = false
 is_value (right.Spawn at c) = false
+
+-- `let x = E` or `x = E`
+abbrev pub GivesValue : Act-F Act Stmt → Name → Expr → Type 0
+GivesValue a x e = (a ≡ act.Let x (right.Value e)) ⊎ (a ≡ act.Set x (right.Value e))
 
 abbrev pub is_plain : Act-F Act Stmt → Bool
 is_plain (act.Let x r) = is_value r

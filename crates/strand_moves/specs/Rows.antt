@@ -1,5 +1,5 @@
 -- Moves in a row that show nothing, or an event alone.
-use Rattle.std.specs.Prelude.{◌≡◌, false, List, [], ◌∷◌, Option, Some, None}
+use Rattle.std.specs.Prelude.{◌≡◌, ◌≤◌, ◌+◌, Bool, true, false, List, [], ◌∷◌, Option, Some, None}
 use Rattle.script_grammar.specs.declared.tree.Stmt.{Stmt}
 use Rattle.serial_meaning.specs.Plan.{PlanView}
 use Rattle.serial_meaning.specs.declared.event.Event.{Event}
@@ -53,3 +53,34 @@ pub record ComesToStatement {S : Type 0} (after : Event → S → S) (plan : Pla
   pub path : path_of before ≡ path_of first
   pub passed : now ≡ record before { top = record before.top { cursor = now.top.cursor } }
   pub at : IsNextStatement (statements_of plan before.top) before.top.cursor now.top.cursor next
+
+-- A move that showed nothing, and left an instance on its path.
+pub record IsQuietMove (plan : PlanView) (old new : InstanceParts) : Type 0 where
+  pub moves : move plan (path_of old) (machine_of plan old) ≡ run_of (move_result.Went effect.Nothing) (machine_of plan new)
+  pub path : path_of new ≡ path_of old
+  pub sound : IsInstance plan new
+
+-- Such moves lead from the first of these instances to the other.
+pub data QuietRow (plan : PlanView) (first : InstanceParts) : InstanceParts → Type 0 where
+  Here : (now : InstanceParts) → now ≡ first → QuietRow plan first now
+  Then : (before now : InstanceParts) → QuietRow plan first before → IsQuietMove plan before now → QuietRow plan first now
+
+-- The innermost frame stands in the same block, over the same frames, and no step came back.
+pub record StaysInBlock (old new : InstanceParts) : Type 0 where
+  pub below : new.below.items ≡ old.below.items
+  pub function : new.top.function ≡ old.top.function
+  pub levels : new.top.levels.items ≡ old.top.levels.items
+  pub entered : new.top.cursor.entered.items ≡ old.top.cursor.entered.items
+  pub few : new.steps ≤ old.steps
+
+-- A move that showed nothing was made in the same block, and its step paid. Or nothing changed.
+abbrev pub IsMoveInBlock : PlanView → InstanceParts → InstanceParts → Bool → Type 0
+IsMoveInBlock plan old new true = IsQuietMove plan old new × StaysInBlock old new × (new.steps + 1 ≡ old.steps)
+IsMoveInBlock plan old new false = new ≡ old
+
+-- Moves that showed nothing led there, in the same block.
+pub record GoesOnInBlock (plan : PlanView) (old new : InstanceParts) : Type 0 where
+  pub row : QuietRow plan old new
+  pub path : path_of new ≡ path_of old
+  pub sound : IsInstance plan new
+  pub stays : StaysInBlock old new

@@ -1,15 +1,16 @@
 // Places in a block: a function's body, or that of a scope.
 
-ghost use Rattle.std.specs.Prelude.{◌≡◌, false, List, [], ◌∷◌, ◌++◌, IfOk, MatchOption, if◌then◌else◌};
+ghost use Rattle.std.specs.Prelude.{◌≡◌, ◌<◌, length, false, List, [], ◌∷◌, ◌++◌, IfOk, MatchOption, if◌then◌else◌};
+ghost use Rattle.std.specs.Option.{option_copied};
 ghost use Rattle.script_grammar.specs.declared.tree.Stmt.{Stmt, out-Stmt};
 ghost use Rattle.script_grammar.specs.declared.tree.Act.{out-Act};
 ghost use Rattle.strand_moves.specs.declared.cursor.Branch.TheVariants as branch;
 ghost use Rattle.strand_moves.specs.Quick.{is_fork};
-ghost use Rattle.strand_moves.specs.Cursors.{branch_of, block_in, block_of, statements_left, scope_after, scope_of, IsAfterStatement, PassesStatement};
+ghost use Rattle.strand_moves.specs.Cursors.{branch_of, block_in, block_of, IsAround, statements_left, scope_after, scope_of, IsAfterStatement, PassesStatement};
 
 use crate::memory::Memory;
 use crate::narrow::narrowed;
-use script_grammar::{Act, Stmt};
+use script_grammar::{Act, Expr, Stmt};
 use smallvec::SmallVec;
 use std::alloc::Global;
 
@@ -56,7 +57,7 @@ fn branch_in<'a>(statement: &'a Stmt, branch: Branch) -> &'a [Stmt]
 }
 
 /// Whether a statement may enter a block: it is an `if` or a `while`.
-fn is_fork(statement: &Stmt) -> bool
+pub(crate) fn is_fork(statement: &Stmt) -> bool
     ensures { result ≡ is_fork (out-Act (out-Stmt statement.now).act) }
 {
     match &statement.act {
@@ -118,21 +119,23 @@ impl Cursor {
         innermost(body, self.entered.as_slice())
     }
 
-    /// The same after this statement was done, before which the innermost block was this one.
-    pub(crate) fn block_after<'a>(
-        &self,
-        body: &'a [Stmt],
-        statement: &Stmt,
-        block: &'a [Stmt],
-    ) -> &'a [Stmt]
-        requires { is_fork (out-Act (out-Stmt statement.now).act) ≡ false → block.now ≡ block_of body.now self.now.entered.items }
-        ensures { result.now ≡ block_of body.now self.now.entered.items }
+    /// The same, and the condition of the loop whose body it is, if it is one.
+    pub(crate) fn loop_around<'a>(&self, body: &'a [Stmt]) -> (&'a [Stmt], Option<&'a Expr>)
+        ensures block { result.0.now ≡ block_of body.now self.now.entered.items }
+        ensures around { IsAround body.now self.now (option_copied result.1) }
     {
-        if is_fork(statement) {
-            self.block(body)
-        } else {
-            block
+        let [around @ .., last] = self.entered.as_slice() else {
+            return (body, None);
+        };
+        let block = innermost(body, around);
+        if let Branch::LoopBody = last.branch {
+            if let Some(statement) = block.get(last.back as usize) {
+                if let Act::While(condition, inner) = &statement.act {
+                    return (inner.as_slice(), Some(condition));
+                }
+            }
         }
+        (block_in(block, *last), None)
     }
 
     /// Goes after the next statement of this body, and gives it.
@@ -154,7 +157,8 @@ impl Cursor {
         block: &'a [Stmt],
     ) -> Option<(&'a Stmt, &'a [Stmt])>
         requires { block.now ≡ block_of body.now self.old.entered.items }
-        ensures { MatchOption result ((statements_left body.now self.old ≡ []) × (statements_left body.now self.new ≡ [])) (λ r. PassesStatement body.now self.old self.new r.0.now × (r.1.now ≡ block_of body.now self.new.entered.items)) }
+        ensures passes { MatchOption result ((statements_left body.now self.old ≡ []) × (statements_left body.now self.new ≡ [])) (λ r. PassesStatement body.now self.old self.new r.0.now × (r.1.now ≡ block_of body.now self.new.entered.items)) }
+        ensures stays { self.old.next < length block.now → self.new.entered.items ≡ self.old.entered.items }
     {
         if let Some(statement) = block.get(self.next) {
             self.next += 1;

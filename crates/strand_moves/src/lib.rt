@@ -15,6 +15,7 @@ mod instance;
 mod instance_parts;
 mod memory;
 mod narrow;
+mod plain_row;
 mod quick;
 mod right;
 mod scopes;

@@ -14,11 +14,12 @@ ghost use Rattle.strand_moves.specs.InstanceParts.{IsInstance, IsStrand, KeepsNa
 ghost use Rattle.strand_moves.specs.Quick.{HasCalled, HasEmitted, EndsFrame, HasGone, IsDone, IsQuiet, IsEmittedTo, IsWent, StaysThere, emitted, is_fork, quiet, emitted_if_any};
 ghost use Rattle.strand_moves.specs.Rows.{ComesToStatement};
 
+use crate::cursor::is_fork;
 use crate::effects::{Effects, MoveResult};
 use crate::event_sink::EventSink;
 use crate::instance_parts::InstanceParts;
 use crate::memory::Memory;
-use script_grammar::{Act, Name, Right, Stmt};
+use script_grammar::{Act, Expr, Name, Right, Stmt};
 use serial_meaning::{Event, Plan};
 use std::alloc::Global;
 use strand_values::Halt;
@@ -131,11 +132,15 @@ impl InstanceParts {
         let places = plan.places();
         let mut text = self.top.statements(plan);
         let mut block = self.top.cursor.block(text);
+        // the condition of the loop whose body the block is, where it is known
+        let mut around: Option<&'a Expr> = None;
         loop {
+            around = self.loop_in_place(plan, block, around);
             let Some(passed) = self.top.cursor.pass_in(text, block) else {
                 if !self.frame_end(alloc, plan, sink)? {
                     return Ok(None);
                 }
+                around = None;
                 text = self.top.statements(plan);
                 block = self.top.cursor.block(text);
                 continue;
@@ -146,12 +151,19 @@ impl InstanceParts {
             }
             self.steps -= 1;
             if self.quiet_statement(alloc, places, statement)? {
-                block = self.top.cursor.block_after(text, statement, passed.1);
+                if is_fork(statement) {
+                    let inside = self.top.cursor.loop_around(text);
+                    block = inside.0;
+                    around = inside.1;
+                    continue;
+                }
+                block = passed.1;
                 continue;
             }
             match self.other_statement(alloc, plan, places, statement, sink)? {
                 Form::Emitting => block = passed.1,
                 Form::Calling => {
+                    around = None;
                     text = self.top.statements(plan);
                     block = self.top.cursor.block(text);
                 }

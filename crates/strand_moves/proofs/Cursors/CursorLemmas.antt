@@ -55,7 +55,7 @@ drop-next : (block : List Stmt) (n : ℕ) (st : Stmt) → slice_get block n ≡ 
 drop-next block n st h =
     drop_more block n st (slice_get_within block n st h) ∙ ap (λ (s : Stmt). s ∷ drop (n + 1) block) (get_or_from_slice_get block n st st h)
 
-rest-next : (body : List Stmt) (es : List Entered) (n : ℕ) (st : Stmt) → slice_get (block_of body es) n ≡ Some st → rest_of body es n ≡ st ∷ rest_of body es (n + 1)
+pub rest-next : (body : List Stmt) (es : List Entered) (n : ℕ) (st : Stmt) → slice_get (block_of body es) n ≡ Some st → rest_of body es n ≡ st ∷ rest_of body es (n + 1)
 rest-next body es n st h = ap (λ (l : List Stmt). l ++ left_around body es) (drop-next (block_of body es) n st h)
 
 -- back to the statement that stands before this place

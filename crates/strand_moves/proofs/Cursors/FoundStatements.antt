@@ -105,12 +105,19 @@ module _ (plan : PlanView) (places : List ℕ) (a : Frame) (all : ArePlaces plac
       ∙ ap (λ (ns : List (List ℕ)). every_in_block (has_place places ns) has_callee named.function.body) named.names
       ∙ own
 
+  -- a statement of these blocks
+  pub at-found : (es : List Entered) (n : ℕ) (st : Stmt) → slice_get (block_of (statements_of plan a) es) n ≡ Some st → FindsStatement plan places a.env st
+  at-found es n st there =
+      one-of (every_in_statement has_own has_callee) (block_of (statements_of plan a) es) n st
+      (block-found has_own has_callee (statements_of plan a) es (inside-found has_own has_callee (body_of plan a.function) (reverse a.levels.items) body-found)) there
+
   pub statement-found : (st : Stmt) → IsAfterStatement (statements_of plan a) a.cursor st → FindsStatement plan places a.env st
-  statement-found st after =
-      one-of (every_in_statement has_own has_callee) (block_of (statements_of plan a) a.cursor.entered.items) (a.cursor.next - 1) st
-      (block-found has_own has_callee (statements_of plan a) a.cursor.entered.items (inside-found has_own has_callee (body_of plan a.function) (reverse a.levels.items) body-found))
-      after.there
+  statement-found st after = at-found a.cursor.entered.items (a.cursor.next - 1) st after.there
 
 -- the same of an instance's innermost frame
 pub next-found : (plan : PlanView) (places : List ℕ) (i : InstanceParts) → ArePlaces places plan → AreNamed plan i → (st : Stmt) → IsAfterStatement (statements_of plan i.top) i.top.cursor st → FindsStatement plan places i.top.env st
 next-found plan places i all named st after = statement-found plan places i.top all (All-head (IsNamed plan) i.top i.below.items named.each) st after
+
+-- and one of the blocks in which it stands
+pub there-found : (plan : PlanView) (places : List ℕ) (i : InstanceParts) → ArePlaces places plan → AreNamed plan i → (es : List Entered) (n : ℕ) (st : Stmt) → slice_get (block_of (statements_of plan i.top) es) n ≡ Some st → FindsStatement plan places i.top.env st
+there-found plan places i all named es n st there = at-found plan places i.top all (All-head (IsNamed plan) i.top i.below.items named.each) es n st there

@@ -7,15 +7,16 @@ use Rattle.serial_meaning.specs.declared.event.Event.{Event}
 use Rattle.strand_meaning.specs.Machine.{Emitted, Machine, end_move, move, statement_move}
 use Rattle.strand_moves.specs.declared.frame.Level.{Level}
 use Rattle.strand_moves.specs.declared.cursor.Cursor.{Cursor}
+use Rattle.strand_moves.specs.declared.cursor.Entered.{Entered}
 use Rattle.strand_moves.specs.declared.instance_parts.InstanceParts.{InstanceParts}
 use Rattle.strand_moves.specs.declared.effects.MoveResult.{MoveResult}
 use Rattle.strand_moves.specs.declared.effects.MoveResult.TheVariants as move_result
 use Rattle.strand_moves.specs.declared.effects.Effects.TheVariants as effect
 use Rattle.strand_moves.specs.Acts.{Costs, Stays}
-use Rattle.strand_moves.specs.Cursors.{statements_left, PassesStatement}
+use Rattle.strand_moves.specs.Cursors.{block_of, statements_left, PassesStatement}
 use Rattle.strand_moves.specs.Moves.{acted, run_of}
 use Rattle.strand_moves.specs.Quick.{EndsFrame, IsSentMove}
-use Rattle.strand_moves.specs.Rows.{ComesToStatement, HasPassedStatement, IsNextStatement, More, Row, RunsOn, Emits, unpassed}
+use Rattle.strand_moves.specs.Rows.{ComesToStatement, GoesOnInBlock, HasPassedStatement, Here, IsNextStatement, More, QuietRow, Row, RunsOn, Emits, Then, unpassed}
 use Rattle.strand_moves.specs.InstanceParts.{IsInstance, KeepsNames, block_inside, body_of, machine_of, path_of, present_of, statements_of}
 use Rattle.strand_moves.proofs.Statements.Going.{moves-on}
 use Rattle.strand_moves.proofs.Statements.Naming.{top-named}
@@ -85,6 +86,30 @@ module _ {S : Type 0} (after : Event → S → S) (plan : PlanView) (first : Ins
 pub text-same : (plan : PlanView) (old new : InstanceParts) → new.top.function ≡ old.top.function → new.top.levels.items ≡ old.top.levels.items → statements_of plan new.top ≡ statements_of plan old.top
 text-same plan old new function levels =
     ap (λ (ls : List Level). block_inside (body_of plan new.top.function) (reverse ls)) levels ∙ ap (λ (f : ℕ). block_inside (body_of plan f) (reverse old.top.levels.items)) function
+
+-- where moves in a row came to, and the block there
+pub record InRow {S : Type 0} (after : Event → S → S) (plan : PlanView) (first : InstanceParts) (start : S) (i : InstanceParts) (sent : S) (statements within : List Stmt) : Type 0 where
+  pub row : Row after plan first start i sent
+  pub sound : IsInstance plan i
+  pub path : path_of i ≡ path_of first
+  pub text : statements ≡ statements_of plan i.top
+  pub block : within ≡ block_of statements i.top.cursor.entered.items
+
+-- and moves in place after them
+module _ {S : Type 0} (after : Event → S → S) (plan : PlanView) (first : InstanceParts) (start : S) (i : InstanceParts) (sent : S) (row : Row after plan first start i sent) where
+  row-quietly : (new : InstanceParts) → QuietRow plan i new → Row after plan first start new sent
+  row-quietly new (Here _ e) = subst (λ (x : InstanceParts). Row after plan first start x sent) (sym e) row
+  row-quietly new (Then before _ quiet m) = More before new sent (row-quietly before quiet) m.moves m.path m.sound
+
+  pub in-place : path_of i ≡ path_of first → (text block : List Stmt) → text ≡ statements_of plan i.top → block ≡ block_of text i.top.cursor.entered.items → (new : InstanceParts) → GoesOnInBlock plan i new → InRow after plan first start new sent text block
+  in-place path text block text-is block-is new h =
+      record {
+        row = row-quietly new h.row;
+        sound = h.sound;
+        path = h.path ∙ path;
+        text = text-is ∙ sym (text-same plan i new h.stays.function h.stays.levels);
+        block = block-is ∙ ap (λ (es : List Entered). block_of text es) (sym h.stays.entered);
+      }
 
 -- a statement whose step was taken back after moves in a row, and that the cursor still stands after
 pub comes-undone : {S : Type 0} (after : Event → S → S) (plan : PlanView) (first : InstanceParts) (start : S) (i : InstanceParts) (sent : S) → Row after plan first start i sent → IsInstance plan i → path_of i ≡ path_of first → (st : Stmt) (cursor : Cursor) (n : ℕ) → PassesStatement (statements_of plan i.top) i.top.cursor cursor st → n + 1 ≡ i.steps →

@@ -1,5 +1,5 @@
 -- Where the tables have each variable that a statement names and each function that it calls, they have those of its parts.
-use Rattle.std.proofs.Common.{◌≡◌, ℕ, Bool, true, ◌&&◌, List, Option, Some, None, refl, sym, subst}
+use Rattle.std.proofs.Common.{◌≡◌, ℕ, Bool, true, ◌&&◌, inl, inr, List, Option, Some, None, refl, sym, subst}
 use Rattle.std.proofs.lemmas.Bool.{and_parts}
 use Rattle.script_grammar.specs.declared.tree.Name.{Name}
 use Rattle.script_grammar.specs.declared.tree.Number.{Number}
@@ -14,6 +14,7 @@ use Rattle.script_check.specs.Places.{every_in, every_in_all, every_in_block, ev
 use Rattle.serial_meaning.specs.Plan.{PlanView}
 use Rattle.strand_moves.specs.declared.instance_parts.InstanceParts.{InstanceParts}
 use Rattle.strand_moves.specs.Found.{EveryInSpawn, FindsStatement}
+use Rattle.strand_moves.specs.Quick.{GivesValue}
 use Rattle.strand_meaning.proofs.FoundTargets.LeftStatements.{opened-found}
 
 module _ (is calls : Name → Bool) where
@@ -33,6 +34,10 @@ module _ (is calls : Name → Bool) where
 
     pub in_set : (x : Name) (r : Right) → out-Act (out-Stmt st).act ≡ act.Set x r → (is x ≡ true) × (every_in_right is calls r ≡ true)
     in_set x r e = and_parts (is x) (every_in_right is calls r) (opened-found is calls st (act.Set x r) e h)
+
+    pub in_given : (x : Name) (e : Expr) → GivesValue (out-Act (out-Stmt st).act) x e → (is x ≡ true) × (every_in is e ≡ true)
+    in_given x e (inl let-is) = in_let x (right.Value e) let-is
+    in_given x e (inr set-is) = in_set x (right.Value e) set-is
 
     pub in_array : (x : Name) (n : Number) → out-Act (out-Stmt st).act ≡ act.Array x n → is x ≡ true
     in_array x n e = opened-found is calls st (act.Array x n) e h
