@@ -1,6 +1,8 @@
 -- A hand may go to another thread, with the tasks that it has.
 use denote.Param.Send.{IsSend, IsSync, sendable, view_send}
-use denote.Param.SendFields.{declared_send}
+use denote.Param.SendFields.{declared_send, variants_send}
+use denote.RattleType.{RattleType}
+use mir.Syntax.{Dict, given}
 use Rattle.once_cell.proofs.race.once_box.OnceBox.TheSendSync as cell_shared
 use Rattle.once_cell.specs.contracts.race.once_box.OnceBox as cell
 use Rattle.std.proofs.Crossing.{Arc-send, Box-send, Vec-send, Vec-sync, Deque-send}
@@ -9,24 +11,24 @@ use Rattle.crossbeam_utils.proofs.cache_padded.CachePadded.TheSendSync as padded
 use Rattle.script_grammar.proofs.items.Items.TheSendSync as items_shared
 use Rattle.serial_meaning.proofs.CodeLemmas.Shares.{answer_sends, known_sends, known_syncs}
 use Rattle.serial_meaning.specs.contracts.answer.Answer as answer
+use Rattle.serial_meaning.specs.contracts.keep.All as all
+use Rattle.serial_meaning.specs.contracts.keep.AllKeep.TheImpl.{ghosts as all_ghosts}
+use Rattle.serial_meaning.specs.contracts.keep.Prints as prints
+use Rattle.serial_meaning.specs.contracts.keep.PrintsKeep.TheImpl.{ghosts as prints_ghosts}
 use Rattle.serial_meaning.specs.contracts.known.Known as known
+use Rattle.serial_meaning.specs.declared.keep.Keep.{Ghosts}
 use Rattle.steal_deck.proofs.deck.Deck.TheSendSync as deck_shared
 use Rattle.steal_deck.proofs.thief.Thief.TheSendSync as thief_shared
 use Rattle.steal_deck.specs.contracts.thief.Thief as thief
 use Rattle.strand_machine.proofs.CodeLemmas.Shares.{task_sends}
 use Rattle.strand_machine.specs.contracts.task.Task as task
+use Rattle.crew.specs.contracts.any_hand.AnyHand as any_hand
 use Rattle.crew.specs.contracts.faults.Faults as faults
 use Rattle.crew.specs.contracts.hand.Hand as hand
 use Rattle.crew.specs.contracts.hand.Hand.TheInside as hand_inside
 use Rattle.crew.specs.contracts.held.Held as held
 use Rattle.crew.specs.contracts.stalled.Stalled as stalled
 use Rattle.crew.specs.contracts.stalled.Stalled.TheInside as stalled_inside
-
-stalled_inside_sends : IsSend stalled_inside.the_row
-stalled_inside_sends = declared_send stalled_inside.the_type (task_sends, tt)
-
-stalled_sends : IsSend stalled.the_row
-stalled_sends = view_send stalled_inside.the_row _ _ _ _ stalled_inside_sends
 
 cell_sends : IsSend (cell.the_row known.the_row)
 cell_sends = cell_shared.the_send known.the_row known_sends
@@ -40,23 +42,38 @@ faults_sends = declared_send faults.the_type (
   (search sendable, (Vec-send _ (search sendable), (option_shared.the_send _ (Box-send known.the_row known_sends), (search sendable, tt)))),
 )
 
-held_sends : IsSend held.the_row
-held_sends = declared_send held.the_type (
-  option_shared.the_send task.the_row task_sends,
-  (
-    Vec-send task.the_row task_sends,
-    (
-      deck_shared.the_send task.the_row task_sends,
-      (
-        Deque-send stalled.the_row stalled_sends,
-        (Vec-send (thief.the_row task.the_row) (thief_shared.the_send task.the_row task_sends), (option_shared.the_send _ (items_shared.the_send answer.the_row answer_sends), (faults_sends, tt))),
-      ),
-    ),
-  ),
-)
+module _ (K : RattleType) (keeps : Ghosts K.Denot) (dict : Dict) where
+  stalled_inside_sends : IsSend (stalled_inside.the_row K keeps)
+  stalled_inside_sends = declared_send (stalled_inside.the_type K keeps) (task_sends K keeps dict, tt)
 
-hand_inside_sends : IsSend hand_inside.the_row
-hand_inside_sends = declared_send hand_inside.the_type (padded_shared.the_send held.the_row held_sends, tt)
+  stalled_sends : IsSend (stalled.the_row K keeps)
+  stalled_sends = view_send (stalled_inside.the_row K keeps) _ _ _ _ stalled_inside_sends
 
-pub hand_sends : IsSend hand.the_row
-hand_sends = view_send hand_inside.the_row _ _ _ _ hand_inside_sends
+  held_sends : IsSend (held.the_row K keeps)
+  held_sends =
+      let tasks = task_sends K keeps dict in
+      declared_send (held.the_type K keeps) (
+        option_shared.the_send (task.the_row K keeps) tasks,
+        (
+          Vec-send (task.the_row K keeps) tasks,
+          (
+            deck_shared.the_send (task.the_row K keeps) tasks,
+            (
+              Deque-send (stalled.the_row K keeps) stalled_sends,
+              (
+                Vec-send (thief.the_row (task.the_row K keeps)) (thief_shared.the_send (task.the_row K keeps) tasks),
+                (option_shared.the_send _ (items_shared.the_send (answer.the_row K keeps) (answer_sends K keeps)), (faults_sends, tt)),
+              ),
+            ),
+          ),
+        ),
+      )
+
+  hand_inside_sends : IsSend (hand_inside.the_row K keeps)
+  hand_inside_sends = declared_send (hand_inside.the_type K keeps) (padded_shared.the_send (held.the_row K keeps) held_sends, tt)
+
+  hand_sends : IsSend (hand.the_row K keeps)
+  hand_sends = view_send (hand_inside.the_row K keeps) _ _ _ _ hand_inside_sends
+
+pub any_hand_sends : IsSend any_hand.the_row
+any_hand_sends = variants_send any_hand.enum ((hand_sends all.the_row all_ghosts (given 0), tt), ((hand_sends prints.the_row prints_ghosts (given 0), tt), tt))

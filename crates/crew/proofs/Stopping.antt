@@ -7,6 +7,7 @@ use Rattle.serial_meaning.specs.Open.{Own, ChildFaulted}
 use Rattle.serial_meaning.specs.Plan.{PlanView}
 use Rattle.serial_meaning.specs.declared.value.Value.{Value}
 use Rattle.serial_meaning.specs.declared.event.Fault.{Fault}
+use Rattle.serial_meaning.specs.declared.keep.All.{All}
 use Rattle.serial_meaning.specs.declared.origin.Origin.{Origin}
 use Rattle.serial_meaning.specs.declared.origin.Origin.TheVariants.{Instance, Loop}
 use Rattle.serial_meaning.specs.declared.answer.Outcome.{Outcome}
@@ -92,17 +93,17 @@ stands-in t stop (Now h) = subst StandsInStep h (at-remaining t t.remaining)
 stands-in t stop (Later next h n) = stands-in next stop n
 
 -- Only its end comes of a task that took a cut.
-by_cut : {X : Type 0} (t : TaskView) (ended : Outcome) (rest : TaskView) → IsCutEnd t ended (stop.Wait rest) → X
+by_cut : {K X : Type 0} (t : TaskView) (ended : Outcome) (rest : TaskView) → IsCutEnd {K = K} t ended (stop.Wait rest) → X
 by_cut t ended rest at = absurd (let e = at.is in (cc))
 
-waits-as : (c : Option Outcome) (t rest : TaskView) → advances c t (stop.Wait rest) → rest.task.waiting ≡ true
-waits-as None t rest at = let w : StandsIn (Wait rest.task) = stands-in t.task (Wait rest.task) at.next in w
-waits-as (Some ended) t rest at = by_cut t ended rest at
+waits-as : (K : Type 0) (c : Option Outcome) (t rest : TaskView) → advances {K = K} c t (stop.Wait rest) → rest.task.waiting ≡ true
+waits-as K None t rest at = let w : StandsIn (Wait rest.task) = stands-in t.task (Wait rest.task) at.next in w
+waits-as K (Some ended) t rest at = by_cut t ended rest at
 
-pub waits_there : (t rest : TaskView) → Advances t (stop.Wait rest) → rest.task.waiting ≡ true
-waits_there t rest at = waits-as t.cut t rest (advances-at t (stop.Wait rest) at t.cut refl)
+pub waits_there : {K : Type 0} (t rest : TaskView) → Advances {K = K} t (stop.Wait rest) → rest.task.waiting ≡ true
+waits_there {K} t rest at = waits-as K t.cut t rest (advances-at {K = K} t (stop.Wait rest) at t.cut refl)
 
-pub waits_still : (t same : TaskView) → t.task.waiting ≡ true → IsResumed t (resumed.NotYet same) → same.task.waiting ≡ true
+pub waits_still : (t same : TaskView) → t.task.waiting ≡ true → IsResumed {K = All} t (resumed.NotYet same) → same.task.waiting ≡ true
 waits_still t same h at = rw at.0 h
 
 -- What a task gives at its end
@@ -119,9 +120,9 @@ by-fault plan (outcome.Values vs) h = h
 by-fault plan (outcome.Fault f) h = h
 by-fault plan (outcome.Cut f) h = absurd h
 
-gives-as : (c : Option Outcome) (t : TaskView) (answer : AnswerView) (give : AnswerTag) → advances c t (stop.Done answer give) → GivesOwn t answer give
-gives-as None t answer give at = record { plan = at.keeps.0; origin = at.keeps.1; given = at.keeps.2; known = by-fault t.task.plan answer.outcome at.known }
-gives-as (Some ended) t answer give at =
+gives-as : (K : Type 0) (c : Option Outcome) (t : TaskView) (answer : AnswerView) (give : AnswerTag) → advances {K = K} c t (stop.Done answer give) → GivesOwn t answer give
+gives-as K None t answer give at = record { plan = at.keeps.0; origin = at.keeps.1; given = at.keeps.2; known = by-fault t.task.plan answer.outcome at.known }
+gives-as K (Some ended) t answer give at =
     let e = at.is in
     record {
       plan = (cc);
@@ -130,23 +131,23 @@ gives-as (Some ended) t answer give at =
       known = subst (IsByFaultOf t.task.plan) (let o : ended ≡ answer.outcome = (cc) in o) at.known;
     }
 
-gives : (t : TaskView) (answer : AnswerView) (give : AnswerTag) → Advances t (stop.Done answer give) → GivesOwn t answer give
-gives t answer give at = gives-as t.cut t answer give (advances-at t (stop.Done answer give) at t.cut refl)
+gives : {K : Type 0} (t : TaskView) (answer : AnswerView) (give : AnswerTag) → Advances {K = K} t (stop.Done answer give) → GivesOwn t answer give
+gives {K} t answer give at = gives-as K t.cut t answer give (advances-at {K = K} t (stop.Done answer give) at t.cut refl)
 
-pub gives_its_own : (t : TaskView) (answer : AnswerView) (give : AnswerTag) → Advances t (stop.Done answer give) → tag answer.plan answer.origin ≡ give
+pub gives_its_own : {K : Type 0} (t : TaskView) (answer : AnswerView) (give : AnswerTag) → Advances {K = K} t (stop.Done answer give) → tag answer.plan answer.origin ≡ give
 gives_its_own t answer give at =
     let g = gives t answer give at in ap (λ (p : PlanView). tag p answer.origin) g.plan ∙ ap (tag t.task.plan) g.origin ∙ sym g.given
 
-pub ends_by_its_plans : (t : TaskView) (answer : AnswerView) (give : AnswerTag) → Advances t (stop.Done answer give) → IsByFaultOf answer.plan answer.outcome
+pub ends_by_its_plans : {K : Type 0} (t : TaskView) (answer : AnswerView) (give : AnswerTag) → Advances {K = K} t (stop.Done answer give) → IsByFaultOf answer.plan answer.outcome
 ends_by_its_plans t answer give at = let g = gives t answer give at in subst (λ (p : PlanView). IsByFaultOf p answer.outcome) (sym g.plan) g.known
 
 -- What was put
 
-pub has_put : (t : TaskView) (answer : AnswerView) (give : AnswerTag) (turn : Turn) → Advances t (stop.Done answer give) → TurnAnswers give turn → HasPut t turn
+pub has_put : {K : Type 0} (t : TaskView) (answer : AnswerView) (give : AnswerTag) (turn : Turn K) → Advances {K = K} t (stop.Done answer give) → TurnAnswers give turn → HasPut t turn
 has_put t answer give turn at put = ((answer, give, at), subst (λ (g : AnswerTag). TurnAnswers g turn) (gives t answer give at).given put)
 
 -- what is left of a task that has ended answers for it
-put-for : (t rest : TaskView) (turn : Turn) → t.cut ≡ None → Pauses t (paused.Ended rest) → HasPut rest turn → HasPut t turn
+put-for : {K : Type 0} (t rest : TaskView) (turn : Turn K) → t.cut ≡ None → Pauses {K = K} t (paused.Ended rest) → HasPut rest turn → HasPut t turn
 put-for t rest turn goes h put =
     let a = put.0 in (
       (a.0, a.1, ends-so t (paused.Ended rest) h rest (stop.Done a.0 a.1) goes refl a.2),
@@ -157,7 +158,7 @@ module _ (t : TaskView) (old new : HandView) (none : old.current ≡ None) (same
   still : new ≡ record old { current = None }
   still = same ∙ ap (λ (o : Option TaskView). record old { current = o }) none
 
-  advances-by : (turn : Turn) → HasPut t turn → AdvancesCurrent t old turn new
+  advances-by : {K : Type 0} (turn : Turn K) → HasPut t turn → AdvancesCurrent t old turn new
   advances-by Ran put = absurd put.1
   advances-by (Answered arrived) put = (inl put.0, put.1, still)
   advances-by (EndedRoot arrived) put = (inl put.0, put.1, still)
@@ -167,10 +168,10 @@ module _ (t : TaskView) (old new : HandView) (none : old.current ≡ None) (same
   advances-by Stole put = absurd put.1
   advances-by Idle put = absurd put.1
 
-  pub put_advances : {E : Type 0} (r : Result Turn E) → IfOk r (HasPut t) → IfOk r (λ turn. AdvancesCurrent t old turn new)
+  pub put_advances : {K E : Type 0} (r : Result (Turn K) E) → IfOk r (HasPut t) → IfOk r (λ turn. AdvancesCurrent t old turn new)
   put_advances (Ok turn) put = advances-by turn put
   put_advances (Err e) put = tt
 
-  pub end_advances : {E : Type 0} (rest : TaskView) (r : Result Turn E) → t.cut ≡ None → Pauses t (paused.Ended rest) → IfOk r (HasPut rest) → IfOk r (λ turn. AdvancesCurrent t old turn new)
+  pub end_advances : {K E : Type 0} (rest : TaskView) (r : Result (Turn K) E) → t.cut ≡ None → Pauses {K = K} t (paused.Ended rest) → IfOk r (HasPut rest) → IfOk r (λ turn. AdvancesCurrent t old turn new)
   end_advances rest (Ok turn) goes h put = advances-by turn (put-for t rest turn goes h put)
   end_advances rest (Err e) goes h put = tt

@@ -3,6 +3,7 @@ use Rattle.std.proofs.Common.{◌≡◌, ◌⊎◌, inl, inr, ℕ, zero, suc, �
 use Rattle.std.proofs.lemmas.List.{map-append, length-append}
 use Rattle.serial_meaning.specs.Answer.{AnswerView, AnswerTag}
 use Rattle.serial_meaning.specs.declared.answer.Outcome.{Outcome}
+use Rattle.serial_meaning.specs.declared.keep.All.{All}
 use Rattle.strand_meaning.proofs.NextStops.OneSoundStop.{stops_keep_origins}
 use Rattle.strand_meaning.specs.Task.{Task, start, Stop, Spawn, Wait, End}
 use Rattle.sched_meaning.specs.Core.{Worker}
@@ -50,7 +51,7 @@ module _ (t : TaskView) (old new : HandView) (now : old.current ≡ Some t) wher
   current-was : task-of old.current ≡ Some t.task
   current-was = ap task-of now
 
-  ran-to-spawn : (child rest : TaskView) → IsStop t (stop.Spawn child rest) → RunsOnward (stop.Spawn child rest) old new → RunsTo IsNoEnd old new
+  ran-to-spawn : {K : Type 0} (child rest : TaskView) → IsStop {K = K} t (stop.Spawn child rest) → RunsOnward {K = K} (stop.Spawn child rest) old new → RunsTo IsNoEnd old new
   ran-to-spawn child rest at h = (t.task, at-child, (λ (no : ⊥). no), λ left. by left h.0)
     where
       at-child : Stop
@@ -88,7 +89,7 @@ module _ (t : TaskView) (old new : HandView) (now : old.current ≡ Some t) wher
         },
       )
 
-  ran-to-wait : (rest : TaskView) → IsStop t (stop.Wait rest) → RunsOnward (stop.Wait rest) old new → RunsTo IsNoEnd old new
+  ran-to-wait : {K : Type 0} (rest : TaskView) → IsStop {K = K} t (stop.Wait rest) → RunsOnward {K = K} (stop.Wait rest) old new → RunsTo IsNoEnd old new
   ran-to-wait rest at h = (
     t.task,
     Wait rest.task,
@@ -106,7 +107,7 @@ module _ (t : TaskView) (old new : HandView) (now : old.current ≡ Some t) wher
     ),
   )
 
-  ran-to-end : (answer : AnswerView) (give : AnswerTag) → IsStop t (stop.Done answer give) → new ≡ record old { current = None } → RunsTo IsEnd old new
+  ran-to-end : {K : Type 0} (answer : AnswerView) (give : AnswerTag) → IsStop {K = K} t (stop.Done answer give) → new ≡ record old { current = None } → RunsTo IsEnd old new
   ran-to-end answer give at h = (
     t.task,
     End answer.out answer.outcome,
@@ -125,7 +126,7 @@ module _ (t : TaskView) (old new : HandView) (now : old.current ≡ Some t) wher
   )
 
   -- Only its end comes of a task that took a cut.
-  ran : (c : Option Outcome) (s : Stops) → advances c t s → RunsOnward s old new → RunsTo IsNoEnd old new
+  ran : {K : Type 0} (c : Option Outcome) (s : Stops K) → advances c t s → RunsOnward s old new → RunsTo IsNoEnd old new
   ran None (stop.Spawn child rest) at h = ran-to-spawn child rest at h
   ran None (stop.Wait rest) at h = ran-to-wait rest at h
   ran None (stop.Done answer give) at h = absurd h
@@ -133,16 +134,16 @@ module _ (t : TaskView) (old new : HandView) (now : old.current ≡ Some t) wher
   ran (Some ended) (stop.Wait rest) at h = absurd (let e = at.is in (cc))
   ran (Some ended) (stop.Done answer give) at h = absurd h
 
-  ended : (c : Option Outcome) → t.cut ≡ c → (answer : AnswerView) (give : AnswerTag) → advances c t (stop.Done answer give) → new ≡ record old { current = None } →
+  ended : (K : Type 0) (c : Option Outcome) → t.cut ≡ c → (answer : AnswerView) (give : AnswerTag) → advances {K = K} c t (stop.Done answer give) → new ≡ record old { current = None } →
       RunsTo IsEnd old new ⊎ EndsByCut old new
-  ended None e answer give at h = inl (ran-to-end answer give at h)
-  ended (Some o) e answer give at h = inr (t, now, inr (o, e), h)
+  ended K None e answer give at h = inl (ran-to-end answer give at h)
+  ended K (Some o) e answer give at h = inr (t, now, inr (o, e), h)
 
-  put : (turn : Turn) → EndsTask t old turn new → RunsTo IsEnd old new ⊎ EndsByCut old new
-  put turn (inl (answer, give, at), arrived, h) = ended t.cut refl answer give (advances-at t (stop.Done answer give) at t.cut refl) h
-  put turn (inr cut, arrived, h) = inr (t, now, inl cut, h)
+  put : {K : Type 0} (turn : Turn K) → EndsTask t old turn new → RunsTo IsEnd old new ⊎ EndsByCut old new
+  put {K} turn (inl (answer, give, at), arrived, h) = ended K t.cut refl answer give (advances-at {K = K} t (stop.Done answer give) at t.cut refl) h
+  put {K} turn (inr cut, arrived, h) = inr (t, now, inl cut, h)
 
-  advanced : (turn : Turn) → AdvancesCurrent t old turn new → IsTied old turn new
+  advanced : {K : Type 0} (turn : Turn K) → AdvancesCurrent t old turn new → IsTied old turn new
   advanced Ran (s, at, h) = ran t.cut s (advances-at t s at t.cut refl) h
   advanced (Answered a) h = put (Answered a) h
   advanced (Ended a) h = put (Ended a) h
@@ -214,7 +215,7 @@ module _ (old new : HandView) (free : old.current ≡ None) where
         );
   }
 
-  resumes-at : (place : ℕ) (left : List TaskView) (t next : TaskView) → slice_get old.stalled place ≡ Some t → IsResumed t (resumed.On next) →
+  resumes-at : (place : ℕ) (left : List TaskView) (t next : TaskView) → slice_get old.stalled place ≡ Some t → IsResumed {K = All} t (resumed.On next) →
       new ≡ record old { current = Some next; deck = new.deck; stalled = remove old.stalled place } → ResumesAt place left old new
   resumes-at place left t next there (answers, are, is, passed) h = by (any_cut answers) refl
     where
@@ -264,7 +265,7 @@ module _ (old new : HandView) (free : old.current ≡ None) where
   looks-first (inl (none, still)) = inl (ap tasks none, ap (λ l. worker_of [] (record old { stalled = l })) (still ∙ sym none))
   looks-first (inr over) = inr (passed (record old { stalled = new.stalled }) refl refl old.stalled refl over)
 
-  sought : (turn : Turn) → Seeks old turn new → IsTied old turn new
+  sought : {K : Type 0} (turn : Turn K) → Seeks old turn new → IsTied old turn new
   sought Popped (t, newest, h) = popped t newest h
   sought Resumed (t, none, on, h) = (none.1, goes t old.stalled refl on h)
   sought Stole (t, none, over, steals, h) = (
@@ -296,11 +297,11 @@ module _ (old new : HandView) (free : old.current ≡ None) where
   sought (Answered a) h = absurd h
   sought (Ended a) h = absurd h
 
-tied-from : (current : Option TaskView) (old : HandView) (turn : Turn) (new : HandView) → old.current ≡ current → IsTurnFrom current old turn new → IsTied old turn new
+tied-from : {K : Type 0} (current : Option TaskView) (old : HandView) (turn : Turn K) (new : HandView) → old.current ≡ current → IsTurnFrom current old turn new → IsTied old turn new
 tied-from None old turn new now h = sought old new now turn h
 tied-from (Some t) old turn new now h = advanced t old new now turn h
 
-pub tied : (old : HandView) (turn : Turn) (new : HandView) → IsTurn old turn new → IsTied old turn new
+pub tied : {K : Type 0} (old : HandView) (turn : Turn K) (new : HandView) → IsTurn old turn new → IsTied old turn new
 tied old turn new h = tied-from old.current old turn new refl h
 
 -- Looks between turns

@@ -3,6 +3,7 @@ use Rattle.std.specs.Prelude.{◌≡◌, ℕ, ◌<◌, ◌≤◌, ◌⊎◌, sli
 use Rattle.serial_meaning.specs.Answer.{AnswerView, AnswerTag, IsCut}
 use Rattle.serial_meaning.specs.Eval.{main_origin}
 use Rattle.serial_meaning.specs.declared.event.Fault.{Fault}
+use Rattle.serial_meaning.specs.declared.keep.All.{All}
 use Rattle.steal_deck.specs.Ends.{OwnerEnd, ThiefEnd, risen, Pushes, Pops, FindsNone, Steals}
 use Rattle.strand_machine.specs.Family.{tag}
 use Rattle.strand_machine.specs.Stops.{IsResumed, Advances as AdvancesTo}
@@ -27,7 +28,7 @@ pub record HandView : Type 0 where
   pub stalled : List TaskView
   pub thieves : List (ThiefEnd TaskView)
 
-abbrev pub view_of : Held → HandView
+abbrev pub view_of : {K : Type 0} → Held K → HandView
 view_of h = record { current = h.current; overflow = h.overflow.items; deck = h.deck; stalled = h.stalled.items; thieves = h.thieves.items }
 
 -- The steps of a turn
@@ -47,7 +48,7 @@ abbrev pub KeepsLate : HandView → HandView → Type 0
 KeepsLate old new = IsLate old.overflow old.deck → IsLate new.overflow new.deck
 
 -- A stop that is no end: the rest goes after the others and the child becomes current, or the task goes to the end of the stalled tasks.
-abbrev pub RunsOnward : Stop → HandView → HandView → Type 0
+abbrev pub RunsOnward : {K : Type 0} → Stop K → HandView → HandView → Type 0
 RunsOnward (stop.Spawn child rest) old new =
     IsPut rest old.overflow old.deck new.overflow new.deck × (new ≡ record old { current = Some child; overflow = new.overflow; deck = new.deck })
 RunsOnward (stop.Wait rest) old new = new ≡ record old { current = None; stalled = old.stalled ++ rest ∷ [] }
@@ -58,30 +59,30 @@ abbrev pub IsRoots : AnswerTag → Type 0
 IsRoots asked = asked.origin ≡ main_origin asked.plan
 
 -- The answer for this tag was put, a root's or another's.
-abbrev pub TurnAnswers : AnswerTag → Turn → Type 0
+abbrev pub TurnAnswers : {K : Type 0} → AnswerTag → Turn K → Type 0
 TurnAnswers asked (Answered arrived) = (arrived ≡ asked) × (IsRoots asked → ⊥)
 TurnAnswers asked (Ended arrived) = (arrived ≡ asked) × IsRoots asked
 TurnAnswers asked _ = ⊥
 
 -- The task came to its end.
-abbrev pub ComesToEnd : TaskView → Type 0
-ComesToEnd t = (answer : AnswerView) × (give : AnswerTag) × AdvancesTo t (stop.Done answer give)
+abbrev pub ComesToEnd : (K : Type 0) → TaskView → Type 0
+ComesToEnd K t = (answer : AnswerView) × (give : AnswerTag) × AdvancesTo {K = K} t (stop.Done answer give)
 
 -- It did, and its answer was put.
-abbrev pub HasPut : TaskView → Turn → Type 0
-HasPut t turn = ComesToEnd t × TurnAnswers (tag t.task.plan t.task.origin) turn
+abbrev pub HasPut : {K : Type 0} → TaskView → Turn K → Type 0
+HasPut {K} t turn = ComesToEnd K t × TurnAnswers (tag t.task.plan t.task.origin) turn
 
 -- The task is cut, and nothing of it was done: a fault of its plan stands before all that its origin answers for.
 abbrev pub MayBeCut : TaskView → Type 0
 MayBeCut t = (by : Fault) × (t.task.advanced ≡ false) × IsCut t.task.plan t.task.origin by
 
-abbrev pub EndsTask : TaskView → HandView → Turn → HandView → Type 0
-EndsTask t old turn new = (ComesToEnd t ⊎ MayBeCut t) × TurnAnswers (tag t.task.plan t.task.origin) turn × (new ≡ record old { current = None })
+abbrev pub EndsTask : {K : Type 0} → TaskView → HandView → Turn K → HandView → Type 0
+EndsTask {K} t old turn new = (ComesToEnd K t ⊎ MayBeCut t) × TurnAnswers (tag t.task.plan t.task.origin) turn × (new ≡ record old { current = None })
 
 -- What a turn does with the current task. One that took a cut for an answer comes to no other stop than its end.
-abbrev pub AdvancesCurrent : TaskView → HandView → Turn → HandView → Type 0
-AdvancesCurrent t old Ran new = (stop : Stop) × AdvancesTo t stop × RunsOnward stop old new
-AdvancesCurrent t old turn new = EndsTask t old turn new
+abbrev pub AdvancesCurrent : {K : Type 0} → TaskView → HandView → Turn K → HandView → Type 0
+AdvancesCurrent {K} t old Ran new = (stop : Stop K) × AdvancesTo t stop × RunsOnward stop old new
+AdvancesCurrent {K} t old turn new = EndsTask t old turn new
 
 -- The task is the last of the private list, or else the newest of the deck.
 abbrev pub IsNewest : TaskView → List TaskView → OwnerEnd TaskView → List TaskView → OwnerEnd TaskView → Type 0
@@ -96,18 +97,18 @@ FindsNoTask old new = (old.overflow ≡ []) × FindsNone old.deck new.deck
 -- The task at the front of the stalled tasks still waits, and went to their end.
 abbrev pub IsTurnedOver : List TaskView → List TaskView → Type 0
 IsTurnedOver [] after = ⊥
-IsTurnedOver (t ∷ ts) after = (same : TaskView) × IsResumed t (resumed.NotYet same) × (after ≡ ts ++ same ∷ [])
+IsTurnedOver (t ∷ ts) after = (same : TaskView) × IsResumed {K = All} t (resumed.NotYet same) × (after ≡ ts ++ same ∷ [])
 
 -- It goes on, and is stalled no more.
 abbrev pub ResumesFirst : List TaskView → TaskView → List TaskView → Type 0
 ResumesFirst [] next after = ⊥
-ResumesFirst (t ∷ ts) next after = IsResumed t (resumed.On next) × (after ≡ ts)
+ResumesFirst (t ∷ ts) next after = IsResumed {K = All} t (resumed.On next) × (after ≡ ts)
 
 -- What a look at a task that was stalled made of the hand.
 abbrev pub TakesUp : TaskView → HandView → TakeUp → HandView → Type 0
 TakesUp t old found.NoneThere new = ⊥
-TakesUp t old found.Waits new = (same : TaskView) × IsResumed t (resumed.NotYet same) × (new ≡ record old { stalled = old.stalled ++ same ∷ [] })
-TakesUp t old found.Resumes new = (next : TaskView) × IsResumed t (resumed.On next) × (new ≡ record old { current = Some next })
+TakesUp t old found.Waits new = (same : TaskView) × IsResumed {K = All} t (resumed.NotYet same) × (new ≡ record old { stalled = old.stalled ++ same ∷ [] })
+TakesUp t old found.Resumes new = (next : TaskView) × IsResumed {K = All} t (resumed.On next) × (new ≡ record old { current = Some next })
 
 -- What a look at the front of the stalled tasks found.
 abbrev pub Looks : HandView → TakeUp → HandView → Type 0
@@ -134,13 +135,13 @@ pub record FirstSteals (before : List (ThiefEnd TaskView)) (t : TaskView) (after
   pub rest : (k : ℕ) (d : ThiefEnd TaskView) → fruitless < k → slice_index_or after k d ≡ slice_index_or before k d
 
 -- A task was stolen and became current; or there was none, and the turn was this.
-abbrev pub StealsOr : Turn → HandView → Turn → HandView → Type 0
+abbrev pub StealsOr : {K : Type 0} → Turn K → HandView → Turn K → HandView → Type 0
 StealsOr otherwise old turn new =
     ((t : TaskView) × (turn ≡ Stole) × FirstSteals old.thieves t new.thieves × (new ≡ record old { current = Some t; thieves = new.thieves }))
     ⊎ ((turn ≡ otherwise) × AllMiss old.thieves new.thieves × (new ≡ record old { thieves = new.thieves }))
 
 -- A turn of a hand that has no current task.
-abbrev pub Seeks : HandView → Turn → HandView → Type 0
+abbrev pub Seeks : {K : Type 0} → HandView → Turn K → HandView → Type 0
 Seeks old Popped new =
     (t : TaskView) × IsNewest t old.overflow old.deck new.overflow new.deck × (new ≡ record old { current = Some t; overflow = new.overflow; deck = new.deck })
 Seeks old ResumedOne new =
@@ -156,11 +157,11 @@ Seeks old Idle new =
 Seeks old _ new = ⊥
 
 -- A turn, by what it did: with the current task, or else to get one.
-abbrev pub IsTurnFrom : Option TaskView → HandView → Turn → HandView → Type 0
+abbrev pub IsTurnFrom : {K : Type 0} → Option TaskView → HandView → Turn K → HandView → Type 0
 IsTurnFrom (Some t) old turn new = AdvancesCurrent t old turn new
 IsTurnFrom None old turn new = Seeks old turn new
 
-abbrev pub IsTurn : HandView → Turn → HandView → Type 0
+abbrev pub IsTurn : {K : Type 0} → HandView → Turn K → HandView → Type 0
 IsTurn old turn new = IsTurnFrom old.current old turn new
 
 -- A look between turns
@@ -168,11 +169,11 @@ IsTurn old turn new = IsTurnFrom old.current old turn new
 -- The task at the end of the stalled tasks still waits, and stays there.
 abbrev pub StaysLast : List TaskView → List TaskView → Type 0
 StaysLast before after =
-    (ts : List TaskView) × (t same : TaskView) × (before ≡ ts ++ t ∷ []) × IsResumed t (resumed.NotYet same) × (after ≡ ts ++ same ∷ [])
+    (ts : List TaskView) × (t same : TaskView) × (before ≡ ts ++ t ∷ []) × IsResumed {K = All} t (resumed.NotYet same) × (after ≡ ts ++ same ∷ [])
 
 -- It goes on, and is stalled no more.
 abbrev pub LastGoesOn : List TaskView → TaskView → List TaskView → Type 0
-LastGoesOn before next after = (t : TaskView) × (before ≡ after ++ t ∷ []) × IsResumed t (resumed.On next)
+LastGoesOn before next after = (t : TaskView) × (before ≡ after ++ t ∷ []) × IsResumed {K = All} t (resumed.On next)
 
 -- What a look at the end of the stalled tasks found. No hand looks that has a current task.
 abbrev pub LooksNewest : HandView → Looked → HandView → Type 0

@@ -73,7 +73,7 @@ abbrev pub LooksBefore : Worker → Worker → Type 0
 LooksBefore w looked = ((w.stalled ≡ []) × (looked ≡ w)) ⊎ ((t : Task) × WorkerPasses 0 t w looked)
 
 -- A turn is this event. Those that come after a pop that found nothing are told of the moment at which nothing was left in the deque.
-abbrev pub IsTied : HandView → Turn → HandView → Type 0
+abbrev pub IsTied : {K : Type 0} → HandView → Turn K → HandView → Type 0
 IsTied old Ran new = RunsTo IsNoEnd old new
 IsTied old (Answered arrived) new = RunsTo IsEnd old new ⊎ EndsByCut old new
 IsTied old (Ended arrived) new = RunsTo IsEnd old new ⊎ EndsByCut old new

@@ -7,7 +7,7 @@ ghost use Rattle.serial_meaning.specs.Open.{faults};
 
 use crate::memory::Memory;
 use once_cell::race::OnceBox;
-use serial_meaning::{Fault, Known, Plan};
+use serial_meaning::{Fault, Keep, Known, Plan};
 use std::alloc::Global;
 use std::sync::Arc;
 use strand_machine::Task;
@@ -81,7 +81,7 @@ fn is_of(known: &Known, plan: &Plan) -> bool
 }
 
 /// The fault, where the task may be cut by it.
-fn cutting(known: &Known, task: &Task) -> Option<Fault>
+fn cutting<K: Keep>(known: &Known, task: &Task<K>) -> Option<Fault>
     ensures { IfSome result (λ by. IsCut task.now.task.plan task.now.task.origin by) }
 {
     if !task.may_cut(&known.fault) {
@@ -211,7 +211,7 @@ impl Faults {
 
     /// The fault that the hand knows by which it may cut the task, if there is one.
     #[inline(never)]
-    fn cutting(&self, task: &Task) -> Option<Fault>
+    fn cutting<K: Keep>(&self, task: &Task<K>) -> Option<Fault>
         ensures { IfSome result (λ by. IsCut task.now.task.plan task.now.task.origin by) }
     {
         if let Some(own) = &self.own {
@@ -231,7 +231,7 @@ impl Faults {
 
     /// The fault by which the task is cut, if the hand knows one that may cut it.
     #[inline(always)]
-    pub fn cut(&mut self, task: &Task) -> Option<Fault>
+    pub fn cut<K: Keep>(&mut self, task: &Task<K>) -> Option<Fault>
         ensures { IfSome result (λ by. IsCut task.now.task.plan task.now.task.origin by) }
     {
         self.read_on();

@@ -6,7 +6,7 @@ use crate::steps;
 use crossbeam_utils::CachePadded;
 use meet_block::Arrived;
 use script_grammar::Items;
-use serial_meaning::Answer;
+use serial_meaning::{All, Answer, Keep};
 use std::alloc::Global;
 use std::collections::VecDeque;
 use std::marker::Model;
@@ -15,13 +15,13 @@ use strand_machine::Task;
 
 /// What a turn of a hand did.
 #[derive(Drop)]
-pub enum Turn {
+pub enum Turn<K: Keep = All> {
     /// The current task ran to its next stop, and hasn't ended.
     Ran,
     /// The current task ended, and its answer was put. It wasn't a root's.
-    Answered(Arrived<Answer>),
+    Answered(Arrived<Answer<K>>),
     /// A root's task ended, and its answer was put. With the last root the run is over.
-    Ended(Arrived<Answer>),
+    Ended(Arrived<Answer<K>>),
     /// A task of the hand's own was taken up, the newest.
     Popped,
     /// The task at the front of the stalled tasks goes on, since all of its children have answered.
@@ -47,17 +47,17 @@ pub enum Looked {
 
 /// The hands of a crew, by number from 0.
 #[derive(Drop)]
-pub struct Hands(pub Items<Hand>);
+pub struct Hands<K: Keep = All>(pub Items<Hand<K>>);
 
 /// One worker of a crew, with the tasks that it has. It goes to one thread at a time, and stands on cache lines of its own.
 ///
 /// A clause sees it as a `HandView` (`specs/Hands.antt`).
 #[derive(Drop)]
-pub struct Hand {
-    pub(crate) held: CachePadded<Held>,
+pub struct Hand<K: Keep = All> {
+    pub(crate) held: CachePadded<Held<K>>,
 }
 
-impl Model for Hand {
+impl<K: Keep> Model for Hand<K> {
     ghost use Rattle.std.specs.Coded.{codes};
     ghost use Rattle.script_grammar.specs.contracts.tree.Stmt as statement_type;
     ghost use Rattle.serial_meaning.specs.contracts.plan.Plan as plan_type;
@@ -73,7 +73,7 @@ impl Model for Hand {
     ghost invariant = { λ h. let v = view_of (padded_value h.held) in IsLate v.overflow v.deck };
 }
 
-impl Hand {
+impl<K: Keep> Hand<K> {
     ghost use Rattle.std.specs.Prelude.{◌≡◌, [], IfOk, OnOk, OnErr, Some, None, length};
     ghost use Rattle.steal_deck.specs.Ends.{new_thief};
     ghost use Rattle.crew.specs.Crews.{new_hand, with_thief, IsDealt};
@@ -81,7 +81,7 @@ impl Hand {
     ghost use Rattle.crew.specs.Ties.{IsTied, IsTiedLook};
 
     /// A hand without a task. It has no thieves yet.
-    pub(crate) fn new(alloc: Global, faults: Faults) -> Result<Hand, Memory>
+    pub(crate) fn new(alloc: Global, faults: Faults) -> Result<Hand<K>, Memory>
         ensures { IfOk result (λ hand. hand ≡ new_hand hand.deck.deck) }
     {
         let Ok(deck) = Deck::new(alloc) else {
@@ -102,7 +102,7 @@ impl Hand {
     }
 
     /// A thief of this hand's deck.
-    pub(crate) fn thief(&mut self) -> Result<Thief<Task>, Memory>
+    pub(crate) fn thief(&mut self) -> Result<Thief<Task<K>>, Memory>
         ensures thief { IfOk result (λ thief. thief ≡ new_thief self.old.deck.deck) }
         ensures made { OnOk result (self.new ≡ with_thief self.old) }
     {
@@ -110,7 +110,7 @@ impl Hand {
     }
 
     /// These are its thieves.
-    pub(crate) fn set_thieves(&mut self, thieves: Vec<Thief<Task>>)
+    pub(crate) fn set_thieves(&mut self, thieves: Vec<Thief<Task<K>>>)
         ensures { self.new ≡ record self.old { thieves = thieves.items } }
     {
         self.held.thieves = thieves;
@@ -129,19 +129,19 @@ impl Hand {
     }
 
     /// The task is its current one.
-    pub(crate) fn set_current(&mut self, task: Task)
+    pub(crate) fn set_current(&mut self, task: Task<K>)
         ensures { self.new ≡ record self.old { current = Some task } }
     {
         self.held.current = Some(task);
     }
 
     /// These are its tasks, to be taken up in this order. On `Memory` some of them are dropped, and their answers never come.
-    pub(crate) fn take_on(&mut self, tasks: Vec<Task>) -> Result<(), Memory>
+    pub(crate) fn take_on(&mut self, tasks: Vec<Task<K>>) -> Result<(), Memory>
         requires overflow { self.old.overflow ≡ [] }
         requires pushed { self.old.deck.pushed ≡ [] }
         ensures { OnOk result (IsDealt tasks.items self.old self.new) }
     {
-        let held: &mut Held = &mut self.held;
+        let held: &mut Held<K> = &mut self.held;
         steps::put_all(&mut held.deck, &mut held.overflow, tasks)
     }
 
@@ -162,13 +162,13 @@ impl Hand {
     /// No turn waits for another thread. On `Memory` the tasks in use are dropped, and their answers never come, but an answer that was there
     /// was put: the run has failed.
     #[tactic(auto, using(crate::proofs::Tying::tied))]
-    pub fn turn<G: Gate>(&mut self, alloc: Global, gate: &G) -> Result<Turn, Memory>
+    pub fn turn<G: Gate>(&mut self, alloc: Global, gate: &G) -> Result<Turn<K>, Memory>
         ensures ok { IfOk result (λ turn. IsTurn self.old turn self.new) }
         ensures tied { IfOk result (λ turn. IsTied self.old turn self.new) }
         ensures late { IsLate self.new.overflow self.new.deck }
         ensures err { OnErr result (self.new.current ≡ None) }
     {
-        let held: &mut Held = &mut self.held;
+        let held: &mut Held<K> = &mut self.held;
         steps::turn(held, alloc, gate)
     }
 
@@ -183,7 +183,7 @@ impl Hand {
         ensures tied { IfOk result (λ looked. IsTiedLook self.old looked self.new) }
         ensures err { OnErr result (self.new.current ≡ None) }
     {
-        let held: &mut Held = &mut self.held;
+        let held: &mut Held<K> = &mut self.held;
         steps::look_newest(held, alloc)
     }
 }

@@ -9,7 +9,7 @@ use crate::memory::Memory;
 use crate::root::{Root, Roots};
 use meet_block::Join;
 use script_grammar::Items;
-use serial_meaning::{Answer, AnswerKey, Plan};
+use serial_meaning::{Answer, AnswerKey, Keep, Plan};
 use std::alloc::Global;
 use std::sync::Arc;
 use steal_deck::Thief;
@@ -20,7 +20,7 @@ pub struct Crew;
 
 /// The root's task, and the end at which its answer comes.
 #[tactic(auto, using(crate::proofs::Mains::main_known))]
-fn begin_root(alloc: Global, plan: &Arc<Plan>) -> Result<(Root, Task), Memory>
+fn begin_root<K: Keep>(alloc: Global, plan: &Arc<Plan>) -> Result<(Root<K>, Task<K>), Memory>
     ensures root { IfOk result (λ begun. begun.0 ≡ new_root (arc_value plan.now)) }
     ensures task { IfOk result (λ begun. begun.1 ≡ root_task (arc_value plan.now)) }
 {
@@ -28,7 +28,7 @@ fn begin_root(alloc: Global, plan: &Arc<Plan>) -> Result<(Root, Task), Memory>
         plan: Arc::try_clone(plan)?,
         origin: plan.main_origin(alloc)?,
     };
-    let mut join: Join<Answer> = Join::new(alloc)?;
+    let mut join: Join<Answer<K>> = Join::new(alloc)?;
     let give = join.hand(alloc, &key)?;
     let AnswerKey { plan, origin } = key;
     let task = Task::start(alloc, plan, origin, give)?;
@@ -36,7 +36,10 @@ fn begin_root(alloc: Global, plan: &Arc<Plan>) -> Result<(Root, Task), Memory>
 }
 
 /// The roots of these plans and their tasks, in order.
-fn begin_roots(alloc: Global, plans: &[Arc<Plan>]) -> Result<(Vec<Root>, Vec<Task>), Memory>
+fn begin_roots<K: Keep>(
+    alloc: Global,
+    plans: &[Arc<Plan>],
+) -> Result<(Vec<Root<K>>, Vec<Task<K>>), Memory>
     ensures roots { IfOk result (λ begun. begun.0.items ≡ map new_root (map arc_value plans.now)) }
     ensures tasks { IfOk result (λ begun. begun.1.items ≡ map root_task (map arc_value plans.now)) }
 {
@@ -51,14 +54,14 @@ fn begin_roots(alloc: Global, plans: &[Arc<Plan>]) -> Result<(Vec<Root>, Vec<Tas
 }
 
 /// One more hand without a task. It shares these faults.
-fn one_more(alloc: Global, faults: &Faults) -> Result<Hand, Memory>
+fn one_more<K: Keep>(alloc: Global, faults: &Faults) -> Result<Hand<K>, Memory>
     ensures { IfOk result (λ hand. hand ≡ new_hand hand.deck.deck) }
 {
     Hand::new(alloc, faults.share(alloc)?)
 }
 
 /// So many of them.
-fn hands_with(alloc: Global, faults: &Faults, workers: u32) -> Result<Vec<Hand>, Memory>
+fn hands_with<K: Keep>(alloc: Global, faults: &Faults, workers: u32) -> Result<Vec<Hand<K>>, Memory>
     ensures { IfOk result (λ hands. AreNew workers hands.items) }
 {
     let mut hands = Vec::new(alloc);
@@ -69,7 +72,7 @@ fn hands_with(alloc: Global, faults: &Faults, workers: u32) -> Result<Vec<Hand>,
 }
 
 /// So many hands without a task.
-fn new_hands(alloc: Global, workers: u32) -> Result<Vec<Hand>, Memory>
+fn new_hands<K: Keep>(alloc: Global, workers: u32) -> Result<Vec<Hand<K>>, Memory>
     ensures { IfOk result (λ hands. AreNew workers hands.items) }
 {
     let faults = Faults::new(alloc)?;
@@ -79,7 +82,10 @@ fn new_hands(alloc: Global, workers: u32) -> Result<Vec<Hand>, Memory>
 }
 
 /// One more thief of each of these hands' decks.
-fn add_thieves(thieves: &mut Vec<Thief<Task>>, hands: &mut [Hand]) -> Result<(), Memory>
+fn add_thieves<K: Keep>(
+    thieves: &mut Vec<Thief<Task<K>>>,
+    hands: &mut [Hand<K>],
+) -> Result<(), Memory>
     ensures thieves { OnOk result (thieves.new.items ≡ thieves.old.items ++ map thief_of hands.old) }
     ensures hands { OnOk result (hands.new ≡ map with_thief hands.old) }
 {
@@ -90,11 +96,11 @@ fn add_thieves(thieves: &mut Vec<Thief<Task>>, hands: &mut [Hand]) -> Result<(),
 }
 
 /// Gives a hand its thieves of the others' decks: those after it first, and then those before it.
-fn introduce(
+fn introduce<K: Keep>(
     alloc: Global,
-    front: &mut [Hand],
-    hand: &mut Hand,
-    back: &mut [Hand],
+    front: &mut [Hand<K>],
+    hand: &mut Hand<K>,
+    back: &mut [Hand<K>],
 ) -> Result<(), Memory>
     ensures front { OnOk result (front.new ≡ map with_thief front.old) }
     ensures hand { OnOk result (hand.new ≡ record hand.old { thieves = map thief_of back.old ++ map thief_of front.old }) }
@@ -108,7 +114,7 @@ fn introduce(
 }
 
 /// Gives each hand its thieves of the others' decks.
-fn exchange_thieves(alloc: Global, hands: &mut [Hand]) -> Result<(), Memory>
+fn exchange_thieves<K: Keep>(alloc: Global, hands: &mut [Hand<K>]) -> Result<(), Memory>
     ensures count { length hands.new ≡ length hands.old }
     ensures met { OnOk result (HaveMet hands.old hands.new) }
 {
@@ -121,7 +127,7 @@ fn exchange_thieves(alloc: Global, hands: &mut [Hand]) -> Result<(), Memory>
 }
 
 /// So many hands without a task, each with one thief of each other hand's deck.
-fn hire(alloc: Global, workers: u32) -> Result<Vec<Hand>, Memory>
+fn hire<K: Keep>(alloc: Global, workers: u32) -> Result<Vec<Hand<K>>, Memory>
     ensures idle { IfOk result (λ hands. AreIdle workers hands.items) }
     ensures count { IfOk result (λ hands. length hands.items ≡ workers) }
 {
@@ -134,6 +140,19 @@ impl Crew {
     /// A crew of so many hands. The task of main is the current one of hand 0, and nothing else is there. Each hand has one thief of each
     /// other hand's deck, from its own number upwards and round, and no other thief was made.
     pub fn new(alloc: Global, plan: &Arc<Plan>, workers: u32) -> Result<(Root, Hands), Memory>
+        requires { (1 ≤ workers) × (workers ≤ 64) }
+        ensures root { IfOk result (λ crew. crew.0 ≡ new_root (arc_value plan.now)) }
+        ensures hands { IfOk result (λ crew. IsNewCrew (arc_value plan.now) workers crew.1.0) }
+    {
+        Crew::new_keeping(alloc, plan, workers)
+    }
+
+    /// The same, whatever the tasks keep.
+    pub fn new_keeping<K: Keep>(
+        alloc: Global,
+        plan: &Arc<Plan>,
+        workers: u32,
+    ) -> Result<(Root<K>, Hands<K>), Memory>
         requires { (1 ≤ workers) × (workers ≤ 64) }
         ensures root { IfOk result (λ crew. crew.0 ≡ new_root (arc_value plan.now)) }
         ensures hands { IfOk result (λ crew. IsNewCrew (arc_value plan.now) workers crew.1.0) }
@@ -154,6 +173,20 @@ impl Crew {
         plans: &Items<Arc<Plan>>,
         workers: u32,
     ) -> Result<(Roots, Hands), Memory>
+        requires plans { (1 ≤ length plans.now) × (length plans.now ≤ 256) }
+        requires workers { (1 ≤ workers) × (workers ≤ 64) }
+        ensures roots { IfOk result (λ crew. crew.0.0 ≡ map new_root (map arc_value plans.now)) }
+        ensures hands { IfOk result (λ crew. IsCrewOf (map arc_value plans.now) workers crew.1.0) }
+    {
+        Crew::many_keeping(alloc, plans, workers)
+    }
+
+    /// The same, whatever the tasks keep.
+    pub fn many_keeping<K: Keep>(
+        alloc: Global,
+        plans: &Items<Arc<Plan>>,
+        workers: u32,
+    ) -> Result<(Roots<K>, Hands<K>), Memory>
         requires plans { (1 ≤ length plans.now) × (length plans.now ≤ 256) }
         requires workers { (1 ≤ workers) × (workers ≤ 64) }
         ensures roots { IfOk result (λ crew. crew.0.0 ≡ map new_root (map arc_value plans.now)) }

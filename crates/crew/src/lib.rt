@@ -6,6 +6,7 @@
 //! run main under many plans at once (`Crew::many`, `run_roots`).
 #![tactic(auto)]
 
+mod any_hand;
 mod faults;
 mod gate;
 mod hand;
@@ -20,17 +21,18 @@ mod stalled;
 mod steps;
 mod threads;
 
+use any_hand::AnyHand;
 pub use gate::{Gate, OpenGate};
 pub use hand::{Hand, Hands, Looked, Turn};
 pub use hiring::Crew;
 pub use memory::Memory;
 pub use root::{Root, Roots};
-pub use run::{run_crew, run_roots};
-pub use serial_runner::{Node, run_serial, walk_node};
+pub use run::{run_crew, run_crew_of_prints, run_roots, run_roots_of_prints};
+pub use serial_runner::{Node, run_serial, run_serial_keeping, walk_node};
 
 fn is_sent<T: Send>() {}
 
 /// A hand may go to any thread, with the tasks that it has. The body asks for it, so that a field which forbids it fails the build.
 fn all_are_sent() {
-    is_sent::<Hand>();
+    is_sent::<AnyHand>();
 }

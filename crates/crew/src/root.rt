@@ -1,15 +1,15 @@
 use meet_block::{Join, Look};
 use script_grammar::Items;
-use serial_meaning::{Answer, laws};
+use serial_meaning::{All, Answer, Keep, laws};
 use std::marker::Model;
 
 /// The end at which the answer of a whole run comes: a join whose one child is main, the run's root. A clause sees it as the join.
 #[derive(Drop)]
-pub struct Root {
-    pub(crate) join: Join<Answer>,
+pub struct Root<K: Keep = All> {
+    pub(crate) join: Join<Answer<K>>,
 }
 
-impl Model for Root {
+impl<K: Keep> Model for Root<K> {
     ghost use Rattle.std.specs.Prelude.{◌≡◌, ◌∷◌, [], false};
     ghost use Rattle.std.specs.Coded.{codes};
     ghost use Rattle.serial_meaning.specs.contracts.plan.Plan as plan_type;
@@ -28,9 +28,9 @@ impl Model for Root {
 
 /// The roots of a run, by the numbers of their plans.
 #[derive(Drop)]
-pub struct Roots(pub Items<Root>);
+pub struct Roots<K: Keep = All>(pub Items<Root<K>>);
 
-impl Root {
+impl<K: Keep> Root<K> {
     ghost use Rattle.std.specs.Prelude.{◌≡◌, ◌∷◌, [], true};
     ghost use Rattle.meet_block.specs.Joined.{LookAnswers};
     ghost use Rattle.serial_meaning.specs.Render.{IsWhole};
@@ -45,7 +45,7 @@ impl Root {
     }
 
     /// Takes the answer, which has to be there. It is no cut: nothing stands before main's path.
-    pub fn take(self) -> Answer
+    pub fn take(self) -> Answer<K>
         requires { self.ready ≡ true }
         ensures tag { self.tags ≡ tag result.plan result.origin ∷ [] }
         ensures whole { IsWhole result.outcome }

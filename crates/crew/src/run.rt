@@ -9,6 +9,7 @@ ghost use Rattle.strand_meaning.specs.Laws.{IsFaultOf};
 ghost use Rattle.strand_machine.specs.Family.{tag};
 ghost use Rattle.crew.specs.Crews.{AreRootAnswers};
 
+use crate::any_hand::AnyHand;
 use crate::gate::Gate;
 use crate::hand::{Hand, Hands, Looked, Turn};
 use crate::heap::Heap;
@@ -20,14 +21,14 @@ use crate::threads::at_each;
 use crossbeam_utils::Backoff;
 use meet_block::Look;
 use script_grammar::Items;
-use serial_meaning::{Answer, Plan, laws};
+use serial_meaning::{Answer, Keep, Plan, Prints, laws};
 use std::alloc::Global;
 use std::sync::{Arc, Wait};
 use std::thread::Threads;
 
 /// Looks at the newest stalled task, since its last child may have answered in the turn before.
 #[inline(always)]
-fn look_newest_on(alloc: Global, signals: &Signals, hand: &mut Hand) -> Option<Looked> {
+fn look_newest_on<K: Keep>(alloc: Global, signals: &Signals, hand: &mut Hand<K>) -> Option<Looked> {
     match hand.look_newest(alloc) {
         Ok(looked) => Some(looked),
         Err(_) => {
@@ -40,12 +41,12 @@ fn look_newest_on(alloc: Global, signals: &Signals, hand: &mut Hand) -> Option<L
 /// After a turn in which the current task came to a stop: where it handed out a child, its rest can be stolen. Else it waits, and a hand
 /// that cuts all that it begins sleeps for a while.
 #[inline(always)]
-fn keep_turning<R: Wait>(
+fn keep_turning<R: Wait, K: Keep>(
     rt: &R,
     alloc: Global,
     naps: &mut Naps,
     signals: &Signals,
-    hand: &mut Hand,
+    hand: &mut Hand<K>,
     cuts: bool,
 ) {
     match look_newest_on(alloc, signals, hand) {
@@ -60,12 +61,12 @@ fn keep_turning<R: Wait>(
 ///
 /// Where all tasks that a hand begins are cut, it sleeps after each that it leaves waiting, and neither its pushes nor its steals wake
 /// anyone: the hands from which it steals come to the ends of their tasks faster by themselves.
-fn take_turns<R: Wait, G: Gate>(
+fn take_turns<R: Wait, G: Gate, K: Keep>(
     rt: &R,
     alloc: Global,
     mut naps: Naps,
     signals: &Signals,
-    hand: &mut Hand,
+    hand: &mut Hand<K>,
     gate: &G,
 ) {
     let mut heap = Heap::new(alloc);
@@ -96,8 +97,23 @@ fn take_turns<R: Wait, G: Gate>(
     }
 }
 
+/// The same, whatever the hand's tasks keep.
+fn take_any_turns<R: Wait, G: Gate>(
+    rt: &R,
+    alloc: Global,
+    naps: Naps,
+    signals: &Signals,
+    hand: &mut AnyHand,
+    gate: &G,
+) {
+    match hand {
+        AnyHand::All(hand) => take_turns(rt, alloc, naps, signals, hand, gate),
+        AnyHand::Prints(hand) => take_turns(rt, alloc, naps, signals, hand, gate),
+    }
+}
+
 /// Looks until the answer is there.
-fn wait_ready<R: Wait>(rt: &R, root: &mut Root)
+fn wait_ready<R: Wait, K: Keep>(rt: &R, root: &mut Root<K>)
     ensures ready { root.new.ready ≡ true }
     ensures tags { root.new.tags ≡ root.old.tags }
 {
@@ -112,7 +128,7 @@ fn wait_ready<R: Wait>(rt: &R, root: &mut Root)
 }
 
 /// An answer that is no cut is the serial meaning.
-fn is_meant(answer: &Answer)
+fn is_meant<K: Keep>(answer: &Answer<K>)
     requires { IsWhole answer.now.outcome }
     ensures { IsEval answer.now.plan answer.now.origin answer.now.out answer.now.outcome }
 {
@@ -122,7 +138,7 @@ fn is_meant(answer: &Answer)
 }
 
 /// Looks until the root's answer is there, and takes it.
-fn roots_answer<R: Wait>(rt: &R, mut root: Root) -> Answer
+fn roots_answer<R: Wait, K: Keep>(rt: &R, mut root: Root<K>) -> Answer<K>
     ensures tag { root.tags ≡ tag result.plan result.origin ∷ [] }
     ensures whole { IsWhole result.outcome }
     ensures meant { IsEval result.plan result.origin result.out result.outcome }
@@ -134,7 +150,7 @@ fn roots_answer<R: Wait>(rt: &R, mut root: Root) -> Answer
 }
 
 /// Where it is the answer of an origin of the plan and no cut, no fault but one of the plan's ends it.
-fn ends_within_faults(answer: &Answer)
+fn ends_within_faults<K: Keep>(answer: &Answer<K>)
     requires known { IsOriginOf answer.now.plan answer.now.origin }
     requires whole { IsWhole answer.now.outcome }
     ensures { IsFaultOf answer.now.plan answer.now.outcome }
@@ -150,18 +166,18 @@ fn ends_within_faults(answer: &Answer)
 fn run_hands<R: Threads + Wait + Sync, G: Gate + Sync>(
     rt: &R,
     alloc: Global,
-    hands: Hands,
+    hands: Vec<AnyHand>,
     roots: u64,
     gate: &G,
 ) -> Result<(), Memory> {
     let signals = Signals::new(roots);
     let shared = &signals;
-    let workers = hands.0.0.len() as u64;
+    let workers = hands.len() as u64;
     at_each(
         rt,
         alloc,
-        hands.0.0,
-        &|hand| { take_turns(rt, alloc, Naps::new(workers), shared, hand, gate) },
+        hands,
+        &|hand| { take_any_turns(rt, alloc, Naps::new(workers), shared, hand, gate) },
     );
     let is_ended = signals.is_ended();
     drop(signals);
@@ -185,6 +201,29 @@ pub fn run_crew<R: Threads + Wait + Sync, G: Gate + Sync>(
     ensures fault { IfOk result (λ answer. IsFaultOf (arc_value plan.now) answer.outcome) }
 {
     let (root, hands) = Crew::new(alloc, plan, workers)?;
+    let hands = AnyHand::of_all(alloc, hands)?;
+    run_hands(rt, alloc, hands, 1, gate)?;
+    let answer = roots_answer(rt, root);
+    ends_within_faults(&answer);
+    Ok(answer)
+}
+
+/// The same by hands whose answer keeps its prints alone.
+#[tactic(auto, using(crate::proofs::Rooted::root_is))]
+pub fn run_crew_of_prints<R: Threads + Wait + Sync, G: Gate + Sync>(
+    rt: &R,
+    alloc: Global,
+    plan: &Arc<Plan>,
+    workers: u32,
+    gate: &G,
+) -> Result<Answer<Prints>, Memory>
+    requires { (1 ≤ workers) × (workers ≤ 64) }
+    ensures plan { IfOk result (λ answer. answer.plan ≡ arc_value plan.now) }
+    ensures origin { IfOk result (λ answer. answer.origin ≡ main_origin (arc_value plan.now)) }
+    ensures fault { IfOk result (λ answer. IsFaultOf (arc_value plan.now) answer.outcome) }
+{
+    let (root, hands) = Crew::new_keeping(alloc, plan, workers)?;
+    let hands = AnyHand::of_prints(alloc, hands)?;
     run_hands(rt, alloc, hands, 1, gate)?;
     let answer = roots_answer(rt, root);
     ends_within_faults(&answer);
@@ -192,7 +231,11 @@ pub fn run_crew<R: Threads + Wait + Sync, G: Gate + Sync>(
 }
 
 /// Takes the answers of these roots, each once it is there.
-fn answers_of<R: Wait>(rt: &R, alloc: Global, roots: Vec<Root>) -> Result<Items<Answer>, Memory>
+fn answers_of<R: Wait, K: Keep>(
+    rt: &R,
+    alloc: Global,
+    roots: Vec<Root<K>>,
+) -> Result<Items<Answer<K>>, Memory>
     ensures { IfOk result (λ answers. AreRootAnswers roots.items answers) }
 {
     let mut answers = Vec::new(alloc);
@@ -214,6 +257,23 @@ pub fn run_roots<R: Threads + Wait + Sync, G: Gate + Sync>(
     ensures { IfOk result (λ answers. AreRootAnswers roots.0 answers) }
 {
     let roots = roots.0.0;
+    let hands = AnyHand::of_all(alloc, hands)?;
+    run_hands(rt, alloc, hands, roots.len() as u64, gate)?;
+    answers_of(rt, alloc, roots)
+}
+
+/// The same for roots whose answers keep their prints alone, which `Crew::many_keeping` made.
+pub fn run_roots_of_prints<R: Threads + Wait + Sync, G: Gate + Sync>(
+    rt: &R,
+    alloc: Global,
+    roots: Roots<Prints>,
+    hands: Hands<Prints>,
+    gate: &G,
+) -> Result<Items<Answer<Prints>>, Memory>
+    ensures { IfOk result (λ answers. AreRootAnswers roots.0 answers) }
+{
+    let roots = roots.0.0;
+    let hands = AnyHand::of_prints(alloc, hands)?;
     run_hands(rt, alloc, hands, roots.len() as u64, gate)?;
     answers_of(rt, alloc, roots)
 }

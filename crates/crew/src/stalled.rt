@@ -1,13 +1,14 @@
+use serial_meaning::Keep;
 use std::marker::Model;
 use strand_machine::Task;
 
 /// A task that stands in a wait.
 #[derive(Drop)]
-pub(crate) struct Stalled {
-    pub task: Task,
+pub(crate) struct Stalled<K: Keep> {
+    pub task: Task<K>,
 }
 
-impl Model for Stalled {
+impl<K: Keep> Model for Stalled<K> {
     ghost use Rattle.std.specs.Prelude.{◌≡◌, true};
     ghost use Rattle.std.specs.Coded.{codes};
     ghost use Rattle.script_grammar.specs.contracts.tree.Stmt as statement_type;

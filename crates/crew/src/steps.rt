@@ -16,7 +16,7 @@ use crate::memory::Memory;
 use crate::stalled::Stalled;
 use meet_block::Give;
 use script_grammar::Items;
-use serial_meaning::{Answer, Fault, Outcome};
+use serial_meaning::{Answer, Fault, Keep, Outcome};
 use std::alloc::Global;
 use std::collections::VecDeque;
 use steal_deck::{Deck, Steal, Thief};
@@ -34,7 +34,7 @@ pub(crate) enum TakeUp {
 }
 
 /// The rest goes to the end of the private list.
-fn push_overflow(overflow: &mut Vec<Task>, rest: Task) -> Result<(), Memory>
+fn push_overflow<K: Keep>(overflow: &mut Vec<Task<K>>, rest: Task<K>) -> Result<(), Memory>
     ensures ok { OnOk result (overflow.new.items ≡ overflow.old.items ++ rest ∷ []) }
     ensures err { OnErr result (overflow.new.items ≡ overflow.old.items) }
 {
@@ -44,7 +44,11 @@ fn push_overflow(overflow: &mut Vec<Task>, rest: Task) -> Result<(), Memory>
 
 /// The rest of a task that handed out a child goes after all others.
 #[inline(always)]
-fn put_rest(deck: &mut Deck<Task>, overflow: &mut Vec<Task>, rest: Task) -> Result<(), Memory>
+fn put_rest<K: Keep>(
+    deck: &mut Deck<Task<K>>,
+    overflow: &mut Vec<Task<K>>,
+    rest: Task<K>,
+) -> Result<(), Memory>
     ensures ok { OnOk result (IsPut rest overflow.old.items deck.old overflow.new.items deck.new) }
     ensures late { IsLate overflow.old.items deck.old → IsLate overflow.new.items deck.new }
 {
@@ -58,10 +62,10 @@ fn put_rest(deck: &mut Deck<Task>, overflow: &mut Vec<Task>, rest: Task) -> Resu
 }
 
 /// Puts all of these tasks after all others, the last of them first. So the first of them is taken up before the others.
-pub(crate) fn put_all(
-    deck: &mut Deck<Task>,
-    overflow: &mut Vec<Task>,
-    tasks: Vec<Task>,
+pub(crate) fn put_all<K: Keep>(
+    deck: &mut Deck<Task<K>>,
+    overflow: &mut Vec<Task<K>>,
+    tasks: Vec<Task<K>>,
 ) -> Result<(), Memory>
     requires pushed { deck.old.pushed ≡ [] }
     requires overflow { overflow.old.items ≡ [] }
@@ -78,9 +82,9 @@ pub(crate) fn put_all(
 
 /// The child becomes current, and the rest of the task that handed it out goes after all others.
 #[inline(always)]
-fn hand_out(held: &mut Held, child: Task, rest: Task) -> Result<(), Memory>
+fn hand_out<K: Keep>(held: &mut Held<K>, child: Task<K>, rest: Task<K>) -> Result<(), Memory>
     requires { held.old.current ≡ None }
-    ensures ok { OnOk result (RunsOnward (stop.Spawn child rest) (view_of held.old) (view_of held.new)) }
+    ensures ok { OnOk result (RunsOnward {K = K} (stop.Spawn child rest) (view_of held.old) (view_of held.new)) }
     ensures err { OnErr result (held.new.current ≡ None) }
     ensures late { KeepsLate (view_of held.old) (view_of held.new) }
 {
@@ -91,7 +95,7 @@ fn hand_out(held: &mut Held, child: Task, rest: Task) -> Result<(), Memory>
 
 /// The task goes to the end of the stalled tasks.
 #[inline(always)]
-fn stall(stalled: &mut VecDeque<Stalled>, task: Task) -> Result<(), Memory>
+fn stall<K: Keep>(stalled: &mut VecDeque<Stalled<K>>, task: Task<K>) -> Result<(), Memory>
     requires { task.task.waiting ≡ true }
     ensures { OnOk result (stalled.new.items ≡ stalled.old.items ++ task ∷ []) }
 {
@@ -101,7 +105,7 @@ fn stall(stalled: &mut VecDeque<Stalled>, task: Task) -> Result<(), Memory>
 
 /// Puts the answer of a task that has ended or was cut.
 #[inline(never)]
-fn put_answer(answer: Answer, give: Give<Answer>) -> Turn
+fn put_answer<K: Keep>(answer: Answer<K>, give: Give<Answer<K>>) -> Turn<K>
     requires { give ≡ tag answer.plan answer.origin }
     ensures { TurnAnswers give result }
 {
@@ -116,7 +120,7 @@ fn put_answer(answer: Answer, give: Give<Answer>) -> Turn
 
 /// Tells the hands of the fault by which a task ended, if it did.
 #[inline(always)]
-fn publish_fault(alloc: Global, faults: &mut Faults, answer: &Answer)
+fn publish_fault<K: Keep>(alloc: Global, faults: &mut Faults, answer: &Answer<K>)
     requires { IsByFaultOf answer.now.plan answer.now.outcome }
 {
     if let Outcome::Fault(fault) = &answer.outcome {
@@ -127,7 +131,12 @@ fn publish_fault(alloc: Global, faults: &mut Faults, answer: &Answer)
 /// Puts the answer of a task that has ended or took a cut for an answer, whatever memory is left, and tells the gate.
 #[tactic(auto, using(crate::proofs::Stopping::gives_its_own, crate::proofs::Stopping::has_put))]
 #[inline(always)]
-fn end<G: Gate>(held: &mut Held, task: Task, alloc: Global, gate: &G) -> Result<Turn, Memory>
+fn end<G: Gate, K: Keep>(
+    held: &mut Held<K>,
+    task: Task<K>,
+    alloc: Global,
+    gate: &G,
+) -> Result<Turn<K>, Memory>
     requires { is_cut_short task.cut ≡ true }
     ensures put { IfOk result (HasPut task) }
     ensures held { view_of held.new ≡ view_of held.old }
@@ -144,7 +153,12 @@ fn end<G: Gate>(held: &mut Held, task: Task, alloc: Global, gate: &G) -> Result<
 }
 
 /// Runs this task, which was the current one, to its next stop.
-fn advance<G: Gate>(held: &mut Held, task: Task, alloc: Global, gate: &G) -> Result<Turn, Memory>
+fn advance<G: Gate, K: Keep>(
+    held: &mut Held<K>,
+    task: Task<K>,
+    alloc: Global,
+    gate: &G,
+) -> Result<Turn<K>, Memory>
     requires { held.old.current ≡ None }
     ensures ok { IfOk result (λ turn. AdvancesCurrent task (view_of held.old) turn (view_of held.new)) }
     ensures err { OnErr result (held.new.current ≡ None) }
@@ -168,7 +182,7 @@ fn advance<G: Gate>(held: &mut Held, task: Task, alloc: Global, gate: &G) -> Res
 }
 
 /// Cuts this task, which was the current one and wasn't advanced yet.
-fn cut(held: &Held, task: Task, by: Fault) -> Turn
+fn cut<K: Keep>(held: &Held<K>, task: Task<K>, by: Fault) -> Turn<K>
     requires fresh { task.task.advanced ≡ false }
     requires stands { IsCut task.task.plan task.task.origin by }
     requires current { held.now.current ≡ None }
@@ -179,7 +193,12 @@ fn cut(held: &Held, task: Task, by: Fault) -> Turn
 }
 
 /// Cuts this task, which was the current one, or runs it to its next stop.
-fn run<G: Gate>(held: &mut Held, task: Task, alloc: Global, gate: &G) -> Result<Turn, Memory>
+fn run<G: Gate, K: Keep>(
+    held: &mut Held<K>,
+    task: Task<K>,
+    alloc: Global,
+    gate: &G,
+) -> Result<Turn<K>, Memory>
     requires { held.old.current ≡ None }
     ensures ok { IfOk result (λ turn. AdvancesCurrent task (view_of held.old) turn (view_of held.new)) }
     ensures err { OnErr result (held.new.current ≡ None) }
@@ -195,7 +214,7 @@ fn run<G: Gate>(held: &mut Held, task: Task, alloc: Global, gate: &G) -> Result<
 }
 
 /// The newest of a hand's tasks that are ready: of its private list, or else of its deque.
-fn newest_ready(deck: &mut Deck<Task>, overflow: &mut Vec<Task>) -> Option<Task>
+fn newest_ready<K: Keep>(deck: &mut Deck<Task<K>>, overflow: &mut Vec<Task<K>>) -> Option<Task<K>>
     ensures some { IfSome result (λ task. IsNewest task overflow.old.items deck.old overflow.new.items deck.new) }
     ensures none { IfNone result ((overflow.old.items ≡ []) × (overflow.new.items ≡ []) × FindsNone deck.old deck.new) }
     ensures late { IsLate overflow.old.items deck.old → IsLate overflow.new.items deck.new }
@@ -209,7 +228,7 @@ fn newest_ready(deck: &mut Deck<Task>, overflow: &mut Vec<Task>) -> Option<Task>
 
 /// Takes up the newest of the hand's own tasks.
 #[inline(always)]
-fn pop(held: &mut Held) -> Option<Turn>
+fn pop<K: Keep>(held: &mut Held<K>) -> Option<Turn<K>>
     requires { held.old.current ≡ None }
     ensures some { IfSome result (λ turn. Seeks (view_of held.old) turn (view_of held.new)) }
     ensures none { IfNone result (FindsNoTask (view_of held.old) (view_of held.new) × (view_of held.new ≡ record (view_of held.old) { deck = held.new.deck })) }
@@ -224,7 +243,7 @@ fn pop(held: &mut Held) -> Option<Turn>
 
 /// The room for answers, emptied. It is left without one.
 #[inline(always)]
-fn empty_room(alloc: Global, kept: &mut Option<Items<Answer>>) -> Items<Answer>
+fn empty_room<K: Keep>(alloc: Global, kept: &mut Option<Items<Answer<K>>>) -> Items<Answer<K>>
     ensures { result ≡ [] }
 {
     let Some(room) = kept.take() else {
@@ -238,7 +257,7 @@ fn empty_room(alloc: Global, kept: &mut Option<Items<Answer>>) -> Items<Answer>
 }
 
 /// Takes up a task that was stalled, where all of its children have answered. Else it goes to the end of the stalled tasks.
-fn take_up(held: &mut Held, task: Task, alloc: Global) -> Result<TakeUp, Memory>
+fn take_up<K: Keep>(held: &mut Held<K>, task: Task<K>, alloc: Global) -> Result<TakeUp, Memory>
     requires current { held.old.current ≡ None }
     requires waits { task.task.waiting ≡ true }
     ensures ok { IfOk result (λ found. TakesUp task (view_of held.old) found (view_of held.new)) }
@@ -262,7 +281,7 @@ fn take_up(held: &mut Held, task: Task, alloc: Global) -> Result<TakeUp, Memory>
 
 /// Looks at the task at the front of the stalled tasks.
 #[tactic(auto, using(crate::proofs::Looking::looks))]
-fn look(held: &mut Held, alloc: Global) -> Result<TakeUp, Memory>
+fn look<K: Keep>(held: &mut Held<K>, alloc: Global) -> Result<TakeUp, Memory>
     requires { held.old.current ≡ None }
     ensures ok { IfOk result (λ found. Looks (view_of held.old) found (view_of held.new)) }
     ensures err { OnErr result (held.new.current ≡ None) }
@@ -276,7 +295,7 @@ fn look(held: &mut Held, alloc: Global) -> Result<TakeUp, Memory>
 }
 
 /// Steals from each once, up to the first task.
-fn steal(thieves: &mut [Thief<Task>]) -> Option<Task>
+fn steal<K: Keep>(thieves: &mut [Thief<Task<K>>]) -> Option<Task<K>>
     ensures some { IfSome result (λ task. FirstSteals thieves.old task thieves.new) }
     ensures none { IfNone result (AllMiss thieves.old thieves.new) }
 {
@@ -290,7 +309,7 @@ fn steal(thieves: &mut [Thief<Task>]) -> Option<Task>
 
 /// A task of another hand gets a handle of its plan for itself and its later children, so that not all hands write one count at each spawn.
 /// Where there is no memory for that, it keeps the one that it has.
-fn with_own_handle(alloc: Global, task: Task) -> Task
+fn with_own_handle<K: Keep>(alloc: Global, task: Task<K>) -> Task<K>
     ensures { result ≡ task }
 {
     let mut task = task;
@@ -301,7 +320,7 @@ fn with_own_handle(alloc: Global, task: Task) -> Task
 }
 
 /// Takes up a task of another hand. Where there is none the turn was this.
-fn steal_or(held: &mut Held, alloc: Global, otherwise: Turn) -> Turn
+fn steal_or<K: Keep>(held: &mut Held<K>, alloc: Global, otherwise: Turn<K>) -> Turn<K>
     requires { held.old.current ≡ None }
     ensures took { StealsOr otherwise (view_of held.old) result (view_of held.new) }
     ensures late { KeepsLate (view_of held.old) (view_of held.new) }
@@ -317,7 +336,7 @@ fn steal_or(held: &mut Held, alloc: Global, otherwise: Turn) -> Turn
 
 /// A turn of a hand that has no current task.
 #[inline(always)]
-fn seek(held: &mut Held, alloc: Global) -> Result<Turn, Memory>
+fn seek<K: Keep>(held: &mut Held<K>, alloc: Global) -> Result<Turn<K>, Memory>
     requires { held.old.current ≡ None }
     ensures ok { IfOk result (λ turn. Seeks (view_of held.old) turn (view_of held.new)) }
     ensures err { OnErr result (held.new.current ≡ None) }
@@ -334,7 +353,11 @@ fn seek(held: &mut Held, alloc: Global) -> Result<Turn, Memory>
 }
 
 /// A turn of a hand (`Hand::turn`).
-pub(crate) fn turn<G: Gate>(held: &mut Held, alloc: Global, gate: &G) -> Result<Turn, Memory>
+pub(crate) fn turn<G: Gate, K: Keep>(
+    held: &mut Held<K>,
+    alloc: Global,
+    gate: &G,
+) -> Result<Turn<K>, Memory>
     ensures ok { IfOk result (λ turn. IsTurn (view_of held.old) turn (view_of held.new)) }
     ensures err { OnErr result (held.new.current ≡ None) }
     ensures late { KeepsLate (view_of held.old) (view_of held.new) }
@@ -347,7 +370,7 @@ pub(crate) fn turn<G: Gate>(held: &mut Held, alloc: Global, gate: &G) -> Result<
 
 /// Looks at the task at the end of the stalled tasks (`Hand::look_newest`).
 #[tactic(auto, using(crate::proofs::Looking::newest_waits, crate::proofs::Looking::newest_goes))]
-pub(crate) fn look_newest(held: &mut Held, alloc: Global) -> Result<Looked, Memory>
+pub(crate) fn look_newest<K: Keep>(held: &mut Held<K>, alloc: Global) -> Result<Looked, Memory>
     ensures ok { IfOk result (λ looked. LooksNewest (view_of held.old) looked (view_of held.new)) }
     ensures err { OnErr result (held.new.current ≡ None) }
     ensures late { KeepsLate (view_of held.old) (view_of held.new) }

@@ -1,5 +1,5 @@
 -- The plans under the seeds of a batch, and what is written of main's answers.
-use Rattle.std.proofs.Common.{◌≡◌, ℕ, ◌||◌, List, [], ◌∷◌, ◌++◌, map, Result, Ok, Err, refl, sym, ap, ◌∙◌, subst}
+use Rattle.std.proofs.Common.{◌≡◌, ℕ, Bool, ◌||◌, List, [], ◌∷◌, ◌++◌, map, Result, Ok, Err, refl, sym, ap, ◌∙◌, subst}
 use Rattle.std.specs.Prelude.{All}
 use Rattle.std.specs.List.{list_any, slice_index_or}
 use Rattle.std.proofs.lemmas.List.{map-append}
@@ -10,8 +10,10 @@ use Rattle.script_grammar.specs.Text.{Text}
 use Rattle.script_grammar.specs.declared.tree.Script.{Script}
 use Rattle.serial_meaning.specs.Answer.{AnswerView, outcome_of}
 use Rattle.serial_meaning.specs.Eval.{elision, main_origin}
+use Rattle.serial_meaning.specs.KeptLines.{KeepsLines}
 use Rattle.serial_meaning.specs.Plan.{PlanView}
 use Rattle.serial_meaning.specs.Render.{IsWhole, answer_text}
+use Rattle.serial_meaning.specs.declared.event.Event.{Event}
 use Rattle.serial_meaning.specs.declared.event.Fault.{Fault}
 use Rattle.serial_meaning.specs.declared.origin.Origin.{Origin}
 use Rattle.serial_meaning.specs.declared.origin.Origin.TheVariants.{Instance, Loop}
@@ -36,6 +38,10 @@ all_whole plans = λ k d within. (let plan = slice_index_or plans k d in whole_e
 
 pub answers_whole : (plans : List PlanView) (answers : List AnswerView) → answers ≡ map main_answer plans → All (λ (answer : AnswerView). IsWhole answer.outcome) answers
 answers_whole plans answers are = subst (All (λ (answer : AnswerView). IsWhole answer.outcome)) (sym are) (All-map (λ (answer : AnswerView). IsWhole answer.outcome) main_answer plans (all_whole plans))
+
+-- What is kept has all lines of each answer, where it has those of each plan.
+pub answers_keep : (kept : Event → Bool) (plans : List PlanView) (answers : List AnswerView) → answers ≡ map main_answer plans → All (λ (plan : PlanView). KeepsLines kept plan.show) plans → All (λ (answer : AnswerView). KeepsLines kept answer.plan.show) answers
+answers_keep kept plans answers are keep = subst (All (λ (answer : AnswerView). KeepsLines kept answer.plan.show)) (sym are) (All-map (λ (answer : AnswerView). KeepsLines kept answer.plan.show) main_answer plans keep)
 
 same_end : (origin : Origin) (ended : Result (List Value) Fault) → is_fault (outcome_of origin ended) ≡ is_faulted (report_end_of ended)
 same_end (Instance function args path) (Ok vs) = refl
@@ -68,6 +74,11 @@ module _ (b : Batch) (script : Script) where
 
   pub written_is : written b.seeds (map (plan_under b script) b.seeds) ≡ batch_report b script
   written_is = rw (parts b.seeds, ends b.seeds) refl
+
+-- The plans of a batch show what it shows.
+pub plans_keep : (kept : Event → Bool) (b : Batch) (bytes : List ℕ) (script : Script) (plans : List PlanView) → KeepsLines kept b.show → Text bytes script → ArePlans b bytes b.seeds plans → All (λ (plan : PlanView). KeepsLines kept plan.show) plans
+plans_keep kept b bytes script plans keep text are =
+    subst (All (λ (plan : PlanView). KeepsLines kept plan.show)) (sym (are script text)) (All-map (λ (plan : PlanView). KeepsLines kept plan.show) (plan_under b script) b.seeds (λ k d within. keep))
 
 pub batch_is : (b : Batch) (bytes : List ℕ) (script : Script) (plans : List PlanView) (told : Report) → Text bytes script → IsValid script → ArePlans b bytes b.seeds plans → told ≡ written b.seeds plans → IsBatchOf b bytes told
 batch_is b bytes script plans told text valid are is = (script, text, valid, is ∙ ap (written b.seeds) (are script text) ∙ written_is b script)

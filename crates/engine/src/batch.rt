@@ -1,11 +1,13 @@
 // Runs of one script under a list of seeds, and what they write.
 
-ghost use Rattle.std.specs.Prelude.{◌≡◌, ◌≤◌, IfErr, IfOk, IsTrue, length, map};
+ghost use Rattle.std.specs.Prelude.{◌≡◌, ◌≤◌, All, IfErr, IfOk, IsTrue, length, map};
 ghost use Rattle.std.specs.Arc.{arc_value};
 ghost use Rattle.std.specs.List.{list_any};
 ghost use Rattle.ped_words.specs.Commands.{IsWorkers};
 ghost use Rattle.script_check.specs.Valid.{IsValid};
 ghost use Rattle.seed_batch.specs.Batch.{main_answer};
+ghost use Rattle.serial_meaning.specs.KeptLines.{KeepsLines};
+ghost use Rattle.serial_meaning.specs.Plan.{PlanView};
 ghost use Rattle.engine.specs.Batches.{ArePlans, IsBatchOf, IsLawfulBatch, batch_ending, is_fault, settings_under, written};
 ghost use Rattle.engine.specs.Promise.{most_bytes};
 ghost use Rattle.engine.specs.Refusal.{IsMisfit};
@@ -19,8 +21,8 @@ use crew::{Gate, Memory};
 use dotmix::Gamma;
 use ped_words::Settings;
 use script_grammar::Items;
-use seed_batch::{render_batch, run_batch};
-use serial_meaning::{Answer, Limits, Outcome, Plan, Show};
+use seed_batch::{render_batch, run_batch, run_batch_of_prints};
+use serial_meaning::{Answer, Keep, Limits, Outcome, Plan, Show};
 use std::alloc::Global;
 use std::sync::{Arc, Wait};
 use std::thread::Threads;
@@ -74,14 +76,14 @@ fn is_fault(outcome: &Outcome) -> bool
     matches!(outcome, Outcome::Fault(_))
 }
 
-fn any_fault(answers: &[Answer]) -> bool
+fn any_fault<K: Keep>(answers: &[Answer<K>]) -> bool
     ensures { result ≡ list_any (λ answer. is_fault answer.outcome) answers.now }
 {
     answers.iter().any(|answer| is_fault(&answer.outcome))
 }
 
 // A batch ends by a fault where one of its runs does.
-fn ending_for(answers: &[Answer]) -> ReportEnd
+fn ending_for<K: Keep>(answers: &[Answer<K>]) -> ReportEnd
     ensures { result ≡ batch_ending (list_any (λ answer. is_fault answer.outcome) answers.now) }
 {
     if any_fault(answers) {
@@ -91,16 +93,17 @@ fn ending_for(answers: &[Answer]) -> ReportEnd
     }
 }
 
-// What is written of the answers under all seeds.
+// What is written of the answers under all seeds, which keep all that has a line.
 #[tactic(auto, using(crate::proofs::BatchLemmas::answers_whole, crate::proofs::BatchLemmas::answers_written))]
-fn answers_report(
+fn answers_report<K: Keep>(
     alloc: Global,
     seeds: &Items<u64>,
-    answers: &Items<Answer>,
+    answers: &Items<Answer<K>>,
     plans: &Items<Arc<Plan>>,
 ) -> Result<Report, Memory>
     requires count { length plans.now ≡ length seeds.now }
     requires answers { answers.now ≡ map main_answer (map arc_value plans.now) }
+    requires lines { All (λ (plan : PlanView). KeepsLines K.kept plan.show) (map arc_value plans.now) }
     ensures { IfOk result (λ report. report_view report ≡ written seeds.now (map arc_value plans.now)) }
 {
     // Read for the proof: the plans are in no other line, and the contract speaks of them.
@@ -111,7 +114,7 @@ fn answers_report(
 }
 
 /// What runs on so many workers write, of the script that these bytes are the text of, under each seed. The gate is told of their tasks.
-#[tactic(auto, using(crate::proofs::BatchLemmas::batch_is))]
+#[tactic(auto, using(crate::proofs::BatchLemmas::batch_is, crate::proofs::KeptLemmas::all_kept))]
 pub(crate) fn played_batch<R: Threads + Wait + Sync, G: Gate + Sync>(
     rt: &R,
     alloc: Global,
@@ -130,6 +133,14 @@ pub(crate) fn played_batch<R: Threads + Wait + Sync, G: Gate + Sync>(
     let script = valid_script(alloc, bytes)?;
     drop(script);
     let plans = plans(alloc, batch, bytes)?;
-    let answers = run_batch(rt, alloc, &plans, workers, gate)?;
-    Ok(answers_report(alloc, &batch.seeds, &answers, &plans)?)
+    match batch.show {
+        Show::Plain => {
+            let prints = run_batch_of_prints(rt, alloc, &plans, workers, gate)?;
+            Ok(answers_report(alloc, &batch.seeds, &prints, &plans)?)
+        }
+        Show::Log => {
+            let answers = run_batch(rt, alloc, &plans, workers, gate)?;
+            Ok(answers_report(alloc, &batch.seeds, &answers, &plans)?)
+        }
+    }
 }

@@ -5,6 +5,7 @@ ghost use Rattle.std.specs.Arc.{arc_value};
 ghost use Rattle.ped_words.specs.Commands.{AreLawful, IsWorkers};
 ghost use Rattle.script_check.specs.Valid.{IsValid};
 ghost use Rattle.serial_meaning.specs.Eval.{main_origin};
+ghost use Rattle.serial_meaning.specs.KeptLines.{KeepsLines};
 ghost use Rattle.serial_meaning.specs.Render.{IsWhole, end_line};
 ghost use Rattle.strand_meaning.specs.Laws.{IsFaultOf};
 ghost use Rattle.strand_meaning.specs.Strands.{strand_at};
@@ -15,13 +16,16 @@ ghost use Rattle.engine.specs.Report.{IsPlanIn, IsPlanOf, IsReplayOf, IsRunOf, I
 use crate::refusal::Refusal;
 use crate::report::{Report, ReportEnd};
 use crate::script::valid_script;
-use crew::{Gate, run_crew, run_serial};
+use crew::{Gate, run_crew, run_crew_of_prints, run_serial_keeping};
 use ped_path::Pedigree;
 use ped_words::Settings;
 use replay::{ReplayError, replay};
 use sched_core::{Simulated, simulate};
 use script_check::Checked;
-use serial_meaning::{Answer, Memory, Out, Outcome, Plan, Strand, laws, render_run, render_strand};
+use serial_meaning::{
+    Answer, Keep, Memory, Out, Outcome, Plan, Prints, Show, Strand, laws, render_kept,
+    render_strand,
+};
 use span_report::{Span, span};
 use std::alloc::{AllocError, Global};
 use std::mem::forget;
@@ -63,23 +67,25 @@ fn ending_for(outcome: &Outcome) -> ReportEnd
     }
 }
 
-// What is written of main's answer.
-fn answer_report(alloc: Global, answer: &Answer) -> Result<Report, Memory>
+// What is written of main's answer, which keeps all that has a line.
+fn answer_report<K: Keep>(alloc: Global, answer: &Answer<K>) -> Result<Report, Memory>
     requires main { answer.now.origin ≡ main_origin answer.now.plan }
     requires whole { IsWhole answer.now.outcome }
+    requires lines { KeepsLines K.kept answer.now.plan.show }
     ensures { IfOk result (λ report. report_view report ≡ run_report answer.now.plan) }
 {
     laws::whole_answers_are_evals();
-    let output = render_run(alloc, answer)?;
+    let output = render_kept(alloc, answer)?;
     let ending = ending_for(&answer.outcome);
     Ok(Report { output, ending })
 }
 
 // The same. The answer's memory is left to the end of the process, which is next: to give back each event takes a third of the time that a run takes on four
 // workers.
-fn reported(alloc: Global, answer: Answer) -> Result<Report, Memory>
+fn reported<K: Keep>(alloc: Global, answer: Answer<K>) -> Result<Report, Memory>
     requires main { answer.origin ≡ main_origin answer.plan }
     requires whole { IsWhole answer.outcome }
+    requires lines { KeepsLines K.kept answer.plan.show }
     ensures { IfOk result (λ report. report_view report ≡ run_report answer.plan) }
 {
     let report = answer_report(alloc, &answer);
@@ -88,16 +94,17 @@ fn reported(alloc: Global, answer: Answer) -> Result<Report, Memory>
 }
 
 // Runs main on the caller's thread.
-fn run_alone(alloc: Global, plan: &Arc<Plan>) -> Result<Answer, crew::Memory>
+fn run_alone<K: Keep>(alloc: Global, plan: &Arc<Plan>) -> Result<Answer<K>, crew::Memory>
     ensures plan { IfOk result (λ answer. answer.plan ≡ arc_value plan.now) }
     ensures origin { IfOk result (λ answer. answer.origin ≡ main_origin (arc_value plan.now)) }
     ensures fault { IfOk result (λ answer. IsFaultOf (arc_value plan.now) answer.outcome) }
 {
     let origin = plan.main_origin(alloc)?;
-    run_serial(alloc, plan, origin)
+    run_serial_keeping(alloc, plan, origin)
 }
 
 /// What a run on the caller's thread writes of the script that these bytes are the text of.
+#[tactic(auto, using(crate::proofs::KeptLemmas::all_kept, crate::proofs::KeptLemmas::prints_kept_of))]
 pub(crate) fn played(alloc: Global, settings: Settings, bytes: &[u8]) -> Result<Report, Refusal>
     requires lawful { AreLawful settings }
     requires within { length bytes.now ≤ most_bytes }
@@ -105,11 +112,20 @@ pub(crate) fn played(alloc: Global, settings: Settings, bytes: &[u8]) -> Result<
     ensures refused { IfErr result (IsMisfit IsValid bytes.now) }
 {
     let plan = planned(alloc, settings, bytes)?;
-    let answer = run_alone(alloc, &plan)?;
-    Ok(reported(alloc, answer)?)
+    match plan.show {
+        Show::Plain => {
+            let prints: Answer<Prints> = run_alone(alloc, &plan)?;
+            Ok(reported(alloc, prints)?)
+        }
+        Show::Log => {
+            let answer: Answer = run_alone(alloc, &plan)?;
+            Ok(reported(alloc, answer)?)
+        }
+    }
 }
 
 /// The same of a run on so many workers. The gate is told of their tasks.
+#[tactic(auto, using(crate::proofs::KeptLemmas::all_kept, crate::proofs::KeptLemmas::prints_kept_of))]
 pub(crate) fn played_by_crew<R: Threads + Wait + Sync, G: Gate + Sync>(
     rt: &R,
     alloc: Global,
@@ -125,8 +141,16 @@ pub(crate) fn played_by_crew<R: Threads + Wait + Sync, G: Gate + Sync>(
     ensures refused { IfErr result (IsMisfit IsValid bytes.now) }
 {
     let plan = planned(alloc, settings, bytes)?;
-    let answer = run_crew(rt, alloc, &plan, workers, gate)?;
-    Ok(reported(alloc, answer)?)
+    match plan.show {
+        Show::Plain => {
+            let prints = run_crew_of_prints(rt, alloc, &plan, workers, gate)?;
+            Ok(reported(alloc, prints)?)
+        }
+        Show::Log => {
+            let answer = run_crew(rt, alloc, &plan, workers, gate)?;
+            Ok(reported(alloc, answer)?)
+        }
+    }
 }
 
 fn worker_line(alloc: Global, worker: u32) -> Result<Vec<u8>, AllocError>

@@ -1,6 +1,7 @@
 -- What an event does with the fields of a core.
 use Rattle.std.specs.Prelude.{◌≡◌, ◌<◌, ◌≤◌, ℕ, true, List, [], ◌∷◌, ◌++◌, Option, Some, None, length, slice_get, slice_set, remove}
 use Rattle.serial_meaning.specs.Answer.{AnswerView}
+use Rattle.serial_meaning.specs.declared.keep.All.{All}
 use Rattle.strand_machine.specs.Tasks.{TaskView}
 use Rattle.strand_machine.specs.Family.{tags}
 use Rattle.strand_machine.specs.AwaitedChildren.{awaited}
@@ -94,7 +95,7 @@ pub record StallsTask (w : ℕ) (rest : Job) (s next : CoreState) : Type 0 where
   pub runs : next.runs ≡ s.runs
 
 -- What a stop of a task that left its worker does.
-abbrev pub StopsAt : ℕ → ℕ → Stop → CoreState → CoreState → Type 0
+abbrev pub StopsAt : ℕ → ℕ → Stop All → CoreState → CoreState → Type 0
 StopsAt w number (stop.Spawn child rest) s next = BeginsTask w number child rest s next
 StopsAt w number (stop.Wait rest) s next = StallsTask w (job rest number) s next
 StopsAt w number (stop.Done answer give) s next = PutsAnswer number answer s next

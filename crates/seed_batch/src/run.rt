@@ -3,9 +3,9 @@ ghost use Rattle.std.specs.Prelude.{◌≡◌, ◌≤◌, IfOk, length, map};
 ghost use Rattle.std.specs.Arc.{arc_value};
 ghost use Rattle.seed_batch.specs.Batch.{main_answer};
 
-use crew::{Crew, Gate, Memory, run_roots};
+use crew::{Crew, Gate, Memory, run_roots, run_roots_of_prints};
 use script_grammar::Items;
-use serial_meaning::{Answer, Plan};
+use serial_meaning::{Answer, Plan, Prints};
 use std::alloc::Global;
 use std::sync::{Arc, Wait};
 use std::thread::Threads;
@@ -29,4 +29,21 @@ pub fn run_batch<R: Threads + Wait + Sync, G: Gate + Sync>(
 {
     let (roots, hands) = Crew::many(alloc, plans, workers)?;
     run_roots(rt, alloc, roots, hands, gate)
+}
+
+/// The same, but for the answers, which keep their prints alone: what is printed under plans that show values alone.
+#[tactic(auto, using(crate::proofs::Parts::all_are_mains))]
+pub fn run_batch_of_prints<R: Threads + Wait + Sync, G: Gate + Sync>(
+    rt: &R,
+    alloc: Global,
+    plans: &Items<Arc<Plan>>,
+    workers: u32,
+    gate: &G,
+) -> Result<Items<Answer<Prints>>, Memory>
+    requires plans { (1 ≤ length plans.now) × (length plans.now ≤ 256) }
+    requires workers { (1 ≤ workers) × (workers ≤ 64) }
+    ensures { IfOk result (λ answers. answers ≡ map main_answer (map arc_value plans.now)) }
+{
+    let (roots, hands) = Crew::many_keeping(alloc, plans, workers)?;
+    run_roots_of_prints(rt, alloc, roots, hands, gate)
 }

@@ -4,5 +4,7 @@ pub mod OriginFaults
 pub mod RisingPedigrees
 pub mod Equations
 pub mod ChunkLemmas
+pub mod Kept
+pub mod KeptLines
 pub mod PlainLines
 pub mod CodeLemmas

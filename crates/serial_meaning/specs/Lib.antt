@@ -5,6 +5,8 @@ pub mod Eval
 pub mod Examples
 pub mod Exec
 pub mod Functions
+pub mod Keeping
+pub mod KeptLines
 pub mod Laws
 pub mod Names
 pub mod Open

@@ -2,6 +2,7 @@ ghost use Rattle.std.specs.Prelude.{◌≡◌};
 ghost use Rattle.std.specs.Arc.{arc_value};
 
 use crate::event::Fault;
+use crate::keep::{All, Keep};
 use crate::origin::Origin;
 use crate::out::Out;
 use crate::plan::Plan;
@@ -26,14 +27,14 @@ pub enum Outcome {
 /// What an origin gave under a plan. It is the serial meaning of the origin, or a cut: a value of this type can't be made with any
 /// other events or outcome. The events of a cut mean nothing.
 #[derive(Drop)]
-pub struct Answer {
+pub struct Answer<K: Keep = All> {
     pub plan: Arc<Plan>,
     pub origin: Origin,
-    pub out: Out,
+    pub out: Out<K>,
     pub outcome: Outcome,
 }
 
-impl Model for Answer {
+impl<K: Keep> Model for Answer<K> {
     ghost use Rattle.std.specs.Arc.{arc_value};
     ghost use Rattle.std.specs.Coded.{codes};
     ghost use Rattle.serial_meaning.specs.contracts.plan.Plan as plan_type;
@@ -48,10 +49,10 @@ impl Model for Answer {
     ghost invariant = { λ a. IsAnswer (arc_value a.plan) a.origin a.out a.outcome };
 }
 
-impl Answer {
+impl<K: Keep> Answer<K> {
     ghost use Rattle.serial_meaning.specs.Answer.{IsAnswer};
 
-    pub fn new(plan: Arc<Plan>, origin: Origin, out: Out, outcome: Outcome) -> Answer
+    pub fn new(plan: Arc<Plan>, origin: Origin, out: Out<K>, outcome: Outcome) -> Answer<K>
         requires { IsAnswer (arc_value plan) origin out outcome }
         ensures { result ≡ record { plan = arc_value plan; origin = origin; out = out; outcome = outcome } }
     {

@@ -1,4 +1,5 @@
 use crate::answer::Answer;
+use crate::keep::Keep;
 use crate::origin::Origin;
 use crate::plan::Plan;
 use meet_block::Tagged;
@@ -26,7 +27,7 @@ impl Model for AnswerKey {
     ghost view = { λ k. record { plan = arc_value k.plan; origin = k.origin } };
 }
 
-impl Tagged for Answer {
+impl<K: Keep> Tagged for Answer<K> {
     type Key = AnswerKey;
 
     ghost tag = { λ a. record { plan = a.plan; origin = a.origin } };

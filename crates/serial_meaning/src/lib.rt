@@ -9,6 +9,7 @@ mod chunk;
 pub mod environment;
 pub mod event;
 mod examples;
+pub mod keep;
 pub mod known;
 pub mod laws;
 pub mod memory;
@@ -26,12 +27,13 @@ pub use answer_key::AnswerKey;
 pub use chunk::Chunk;
 pub use environment::{Slot, Variable};
 pub use event::{Event, Fault, FaultKind};
+pub use keep::{All, Keep, Prints};
 pub use known::Known;
 pub use memory::Memory;
 pub use origin::Origin;
 pub use out::Out;
 pub use plan::{Limits, MOST_DEPTH, Plan, Show};
-pub use render::{render_run, render_strand};
+pub use render::{render_kept, render_plain, render_run, render_strand};
 pub use value::Value;
 
 fn is_shared<T: Send + Sync>() {}

@@ -1,11 +1,14 @@
 ghost use Rattle.std.specs.Prelude.{◌≡◌, [], ◌∷◌, ◌++◌, length, OnOk, OnErr, slice_get, option_copied, IfSome, IfNone, IfErr};
 ghost use Rattle.serial_meaning.specs.Chunks.{joined};
+ghost use Rattle.serial_meaning.specs.Keeping.{keep_if, kept_of};
 
 use crate::chunk::{Chunk, put_first};
 use crate::event::Event;
+use crate::keep::{All, Keep};
 use crate::memory::Memory;
+use meet_block::KnownList;
 use std::alloc::Global;
-use std::marker::Model;
+use std::marker::{Model, PhantomData};
 use std::{mem, slice};
 
 /// How many events are moved at most where a list is put after another one.
@@ -19,10 +22,14 @@ const MOST_ROOM: usize = 12;
 
 /// A list of events. One alone stands in place. More are kept in chunks, which are moved and not copied where a list of more than a few events is put
 /// after another one.
+///
+/// Of its events those are in memory that `K` keeps, and by itself it keeps all. Contracts see all of them.
 #[derive(Drop)]
-pub struct Out {
+pub struct Out<K: Keep = All> {
     count: u64,
     kept: Kept,
+    whole: KnownList<Event>,
+    marker: PhantomData<K>,
 }
 
 /// Where the events stand.
@@ -42,26 +49,36 @@ struct Chunks {
     last: Vec<Event>,
 }
 
-impl Model for Out {
+impl<K: Keep> Model for Out<K> {
     ghost use Rattle.std.specs.Prelude.{◌≡◌, List, length};
     ghost use Rattle.serial_meaning.specs.declared.event.Event.{Event};
     ghost use Rattle.serial_meaning.specs.Chunks.{kept_events};
+    ghost use Rattle.serial_meaning.specs.Keeping.{kept_of};
 
     ghost Value = { List Event };
 
-    ghost view = { λ o. kept_events o.kept };
+    ghost view = { λ o. o.whole.items };
 
-    ghost invariant = { λ o. o.count ≡ length (kept_events o.kept) };
+    ghost invariant = { λ o. (o.count ≡ length o.whole.items) × (kept_events o.kept ≡ kept_of K.kept o.whole.items) };
 }
 
-impl Out {
+/// The list of which nothing is known yet but these, and none.
+fn taken(whole: &mut KnownList<Event>) -> KnownList<Event>
+    ensures { result ≡ whole.old }
+{
+    mem::replace(whole, KnownList::none())
+}
+
+impl<K: Keep> Out<K> {
     /// No event.
-    pub fn new() -> Out
+    pub fn none() -> Out<K>
         ensures { result ≡ [] }
     {
         Out {
             count: 0,
             kept: Kept::Nothing,
+            whole: KnownList::none(),
+            marker: PhantomData,
         }
     }
 
@@ -72,22 +89,31 @@ impl Out {
         ensures err { OnErr result (self.new ≡ self.old) }
     {
         let count = self.count.checked_add(1).ok_or(Memory)?;
-        self.kept.push(alloc, event)?;
+        let keeps = K::keeps(&event);
+        let more = KnownList::none().with(&event);
+        self.kept.push_if(keeps, alloc, event)?;
         self.count = count;
+        self.whole = taken(&mut self.whole).followed_by(more);
         Ok(())
     }
 
     /// Puts the other list's events at the end, and drops them where it answers `Memory`. It also answers so where there would be
     /// more than 2^64 - 1 events.
     #[inline(always)]
-    pub fn append(&mut self, other: Out) -> Result<(), Memory>
+    pub fn append(&mut self, other: Out<K>) -> Result<(), Memory>
         ensures ok { OnOk result (self.new ≡ self.old ++ other) }
         ensures err { OnErr result (self.new ≡ self.old) }
     {
-        let Out { count: more, kept } = other;
+        let Out {
+            count: more,
+            kept,
+            whole,
+            marker: _,
+        } = other;
         let count = self.count.checked_add(more).ok_or(Memory)?;
         self.kept.append(kept)?;
         self.count = count;
+        self.whole = taken(&mut self.whole).followed_by(whole);
         Ok(())
     }
 
@@ -98,17 +124,30 @@ impl Out {
         self.count
     }
 
+    /// The full chunks and the last one of the events that are kept, where there is any.
+    pub fn kept_chunks(&self) -> Option<(&[Chunk], &[Event])>
+        ensures some { IfSome result (λ parts. joined parts.0.now ++ parts.1.now ≡ kept_of K.kept self.now) }
+        ensures none { IfNone result (kept_of K.kept self.now ≡ []) }
+    {
+        self.kept.chunks()
+    }
+}
+
+impl Out<All> {
+    /// No event.
+    pub fn new() -> Out
+        ensures { result ≡ [] }
+    {
+        Out::none()
+    }
+
     /// The event at this index, from 0. There is none exactly where the index is not below the length.
     ///
     /// It is for who looks at single events: of a run of `fn main() { print 1; print 2; return 0; }` `get(1)` is the second print, and `get(2)` none.
     pub fn get(&self, i: u64) -> Option<&Event>
         ensures { option_copied result ≡ slice_get self.now i }
     {
-        match &self.kept {
-            Kept::Nothing => None,
-            Kept::One(_, event) => event_at(slice::from_ref(event), i),
-            Kept::Listed(chunks) => chunks.get(i),
-        }
+        self.kept.get(i)
     }
 
     /// The full chunks and the last one, where there is any event.
@@ -116,17 +155,48 @@ impl Out {
         ensures some { IfSome result (λ parts. joined parts.0.now ++ parts.1.now ≡ self.now) }
         ensures none { IfNone result (self.now ≡ []) }
     {
-        match &self.kept {
-            Kept::Nothing => None,
-            Kept::One(_, event) => Some((&[], slice::from_ref(event))),
-            Kept::Listed(chunks) => Some((chunks.full.as_slice(), chunks.last.as_slice())),
-        }
+        self.kept.chunks()
     }
 }
 
 impl Kept {
     ghost use Rattle.std.specs.Prelude.{true};
     ghost use Rattle.serial_meaning.specs.Chunks.{kept_events, chunks_events, has_one};
+
+    /// Puts an event at the end, or drops it.
+    #[inline(always)]
+    fn push_if(&mut self, keeps: bool, alloc: Global, event: Event) -> Result<(), Memory>
+        ensures ok { OnOk result (kept_events self.new ≡ kept_events self.old ++ keep_if keeps event []) }
+        ensures err { OnErr result (kept_events self.new ≡ kept_events self.old) }
+    {
+        if keeps {
+            self.push(alloc, event)
+        } else {
+            drop(event);
+            Ok(())
+        }
+    }
+
+    fn get(&self, i: u64) -> Option<&Event>
+        ensures { option_copied result ≡ slice_get (kept_events self.now) i }
+    {
+        match self {
+            Kept::Nothing => None,
+            Kept::One(_, event) => event_at(slice::from_ref(event), i),
+            Kept::Listed(chunks) => chunks.get(i),
+        }
+    }
+
+    fn chunks(&self) -> Option<(&[Chunk], &[Event])>
+        ensures some { IfSome result (λ parts. joined parts.0.now ++ parts.1.now ≡ kept_events self.now) }
+        ensures none { IfNone result (kept_events self.now ≡ []) }
+    {
+        match self {
+            Kept::Nothing => None,
+            Kept::One(_, event) => Some((&[], slice::from_ref(event))),
+            Kept::Listed(chunks) => Some((chunks.full.as_slice(), chunks.last.as_slice())),
+        }
+    }
 
     #[inline(always)]
     fn push(&mut self, alloc: Global, event: Event) -> Result<(), Memory>

@@ -4,10 +4,14 @@ ghost use Rattle.ped_path.specs.Text.{ped_text};
 ghost use Rattle.serial_meaning.specs.Chunks.{joined};
 ghost use Rattle.serial_meaning.specs.Render.{IsWhole, answer_text, strand_text, event_line, strand_line, line, draw_line, value_text, fault_kind_text, fault_line};
 ghost use Rattle.serial_meaning.specs.Columns.{line_in};
+ghost use Rattle.serial_meaning.specs.Keeping.{kept_of};
+ghost use Rattle.serial_meaning.specs.KeptLines.{KeepsLines};
+ghost use Rattle.serial_meaning.specs.declared.plan.Show.TheVariants.{Plain};
 
 use crate::answer::{Answer, Outcome, Strand};
 use crate::chunk::Chunk;
 use crate::event::{Event, Fault, FaultKind};
+use crate::keep::{Keep, Prints};
 use crate::memory::Memory;
 use crate::out::Out;
 use crate::plan::{Plan, Show};
@@ -29,9 +33,27 @@ pub fn render_run(alloc: Global, answer: &Answer) -> Result<Vec<u8>, Memory>
     requires { IsWhole answer.now.outcome }
     ensures { IfOk result (λ text. text.items ≡ answer_text answer.now) }
 {
+    render_kept(alloc, answer)
+}
+
+/// The same of an answer that keeps its prints alone, where the plan shows values alone.
+pub fn render_plain(alloc: Global, answer: &Answer<Prints>) -> Result<Vec<u8>, Memory>
+    requires whole { IsWhole answer.now.outcome }
+    requires plain { answer.now.plan.show ≡ Plain }
+    ensures { IfOk result (λ text. text.items ≡ answer_text answer.now) }
+{
+    render_kept(alloc, answer)
+}
+
+/// What a run prints whose answer keeps each event that has a line.
+pub fn render_kept<K: Keep>(alloc: Global, answer: &Answer<K>) -> Result<Vec<u8>, Memory>
+    requires whole { IsWhole answer.now.outcome }
+    requires lines { KeepsLines K.kept answer.now.plan.show }
+    ensures { IfOk result (λ text. text.items ≡ answer_text answer.now) }
+{
     let plan: &Plan = &answer.plan;
     let mut text = Vec::new(alloc);
-    write_events(Column::Run(plan.show), &answer.out, &mut text)?;
+    write_kept(plan.show, &answer.out, &mut text)?;
     if let Outcome::Fault(fault) = &answer.outcome {
         write_fault(fault, &mut text)?;
     }
@@ -43,17 +65,32 @@ pub fn render_strand(alloc: Global, strand: &Strand) -> Result<Vec<u8>, Memory>
     ensures { IfOk result (λ text. text.items ≡ strand_text strand.now) }
 {
     let mut text = Vec::new(alloc);
-    write_events(Column::Strand, &strand.events, &mut text)?;
+    write_strand(&strand.events, &mut text)?;
     if let Some(fault) = &strand.fault {
         write_fault(fault, &mut text)?;
     }
     Ok(text)
 }
 
-fn write_events(column: Column, events: &Out, text: &mut Vec<u8>) -> Result<(), Memory>
-    ensures { OnOk result (text.new.items ≡ text.old.items ++ flat_map (line_in column) events.now) }
+/// The lines of a run's events, of which each is kept that has one.
+fn write_kept<K: Keep>(show: Show, events: &Out<K>, text: &mut Vec<u8>) -> Result<(), Memory>
+    requires { KeepsLines K.kept show }
+    ensures { OnOk result (text.new.items ≡ text.old.items ++ flat_map (event_line show) events.now) }
 {
-    if let Some((full, last)) = events.chunks() {
+    write_events(Column::Run(show), events, text)
+}
+
+/// The lines of a strand's events.
+fn write_strand(events: &Out, text: &mut Vec<u8>) -> Result<(), Memory>
+    ensures { OnOk result (text.new.items ≡ text.old.items ++ flat_map strand_line events.now) }
+{
+    write_events(Column::Strand, events, text)
+}
+
+fn write_events<K: Keep>(column: Column, events: &Out<K>, text: &mut Vec<u8>) -> Result<(), Memory>
+    ensures { OnOk result (text.new.items ≡ text.old.items ++ flat_map (line_in column) (kept_of K.kept events.now)) }
+{
+    if let Some((full, last)) = events.kept_chunks() {
         write_chunks(column, full, text)?;
         write_chunk(column, last, text)?;
     }

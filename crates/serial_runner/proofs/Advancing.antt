@@ -24,7 +24,6 @@ use Rattle.strand_machine.specs.Faults.{is_fault, EndsByFault}
 use Rattle.strand_machine.specs.AwaitedChildren.{awaited}
 use Rattle.strand_machine.specs.Stops.{IsStop, WentOn, answer_tags, any_cut, is_cut, with_evaluations, view_on}
 use Rattle.strand_machine.specs.Tasks.{TaskView, fresh}
-use Rattle.strand_machine.specs.declared.stop.Stop as stops
 use Rattle.strand_machine.specs.declared.stop.Stop.TheVariants as stop
 use Rattle.serial_runner.specs.Stacks.{task_of, IsOpenTask, AreBelow, IsStack, lowest_of, tasks, IsAnswerOf, task_of_answer, stack_with_answer, StepsStack, AnswersLowest, AdvancesTo}
 use Rattle.serial_runner.specs.declared.open_tasks.OpenTask.{OpenTask}
@@ -88,30 +87,30 @@ none-heard (p ∷ ps) (a ∷ answers) trace h = none-heard ps answers (merged_an
 -- Stacks
 
 -- only the plan and the origin of the task above count
-pub below-same : (t u : Task) (fs : List OpenTask) → IsSameTask t u → AreBelow t fs → AreBelow u fs
+pub below-same : {K : Type 0} (t u : Task) (fs : List (OpenTask K)) → IsSameTask t u → AreBelow t fs → AreBelow u fs
 below-same t u [] same b = tt
 below-same t u (f ∷ fs) same b = (same.0 ∙ b.0, subst (λ (o : Origin). IsOpenTask (o ∷ []) f) (sym same.1) b.1, b.2)
 
-pub lowest-same : (t u : Task) (fs : List OpenTask) → IsSameTask t u → IsSameTask (lowest_of t fs) (lowest_of u fs)
+pub lowest-same : {K : Type 0} (t u : Task) (fs : List (OpenTask K)) → IsSameTask t u → IsSameTask (lowest_of t fs) (lowest_of u fs)
 lowest-same t u [] same = same
 lowest-same t u (f ∷ fs) same = (refl, refl)
 
-begun-open_task : (plan : PlanView) (o : Origin) → IsTask (start plan o) → IsOpenTask [] (record { task = fresh plan o; answers = [] })
+begun-open_task : {K : Type 0} (plan : PlanView) (o : Origin) → IsTask (start plan o) → IsOpenTask {K = K} [] (record { task = fresh plan o; answers = [] })
 begun-open_task plan o is = record { task = is; idle = refl; goes_on = refl; whole = refl; answers = refl }
 
 -- the stack of an origin's task alone
-pub begun_stack : (plan : PlanView) (o : Origin) (top : OpenTask) (below : List OpenTask) → IsTask (start plan o) → top ≡ record { task = fresh plan o; answers = [] } → below ≡ [] → IsStack (record { top = top; below = below })
+pub begun_stack : {K : Type 0} (plan : PlanView) (o : Origin) (top : OpenTask K) (below : List (OpenTask K)) → IsTask (start plan o) → top ≡ record { task = fresh plan o; answers = [] } → below ≡ [] → IsStack (record { top = top; below = below })
 begun_stack plan o top below is e h = record { top = subst (IsOpenTask []) (sym e) (begun-open_task plan o is); below = subst (AreBelow (task_of top)) (sym h) tt }
 
 -- What is left of a sound stack, by the stop of its topmost task
-module _ (s : Stack) (is : IsStack s) where
+module _ {K : Type 0} (s : Stack K) (is : IsStack s) where
   abbrev t : Task
   t = task_of s.top
 
-  abbrev open_task : TaskView → List AnswerView → OpenTask
+  abbrev open_task : TaskView → List AnswerView → OpenTask K
   open_task v answers = record { task = v; answers = answers }
 
-  module _ (child rest : TaskView) (at : IsStop s.top.task (stop.Spawn child rest)) where
+  module _ (child rest : TaskView) (at : IsStop {K = K} s.top.task (stop.Spawn child rest)) where
     abbrev c : Origin
     c = child.task.origin
 
@@ -142,12 +141,12 @@ module _ (s : Stack) (is : IsStack s) where
             ∙ sym (tags-append rest.task.plan (handed t) (c ∷ [])) ∙ ap (tags rest.task.plan) (sym hands.0)
 
     -- A child goes on top.
-    pub spawned : (top : OpenTask) (below : List OpenTask) → top ≡ record { task = child; answers = [] } → below ≡ record { task = rest; answers = s.top.answers } ∷ s.below → StepsStack s (record { top = top; below = below })
+    pub spawned : (top : OpenTask K) (below : List (OpenTask K)) → top ≡ record { task = child; answers = [] } → below ≡ record { task = rest; answers = s.top.answers } ∷ s.below → StepsStack s (record { top = top; below = below })
     spawned top below e h =
-        subst (λ (f : OpenTask). StepsStack s (record { top = f; below = below })) (sym e) (subst (λ (fs : List OpenTask). StepsStack s (record { top = open_task child []; below = fs })) (sym h)
+        subst (λ (f : OpenTask _). StepsStack s (record { top = f; below = below })) (sym e) (subst (λ (fs : List (OpenTask _)). StepsStack s (record { top = open_task child []; below = fs })) (sym h)
         (with-child (stops_are_sound t to is.top.task at.next) (stops_keep_origins t to at.next) (stops_fall t to is.top.task is.top.idle at.next) (stops_hand t to is.top.task at.next)))
 
-  module _ (rest : TaskView) (at : IsStop s.top.task (stop.Wait rest)) where
+  module _ (rest : TaskView) (at : IsStop {K = K} s.top.task (stop.Wait rest)) where
     -- At a wait the answers are those of all children.
     pub waits : rest.task.waiting ≡ true
     waits = let fewer : LeavesFewer t (Wait rest.task) = stops_fall t (Wait rest.task) is.top.task is.top.idle at.next in fewer.1
@@ -174,16 +173,16 @@ module _ (s : Stack) (is : IsStack s) where
     }
 
     -- It goes on.
-    pub went_up : (top : OpenTask) (v : TaskView) → top ≡ record { task = v; answers = [] } → v ≡ view_on rest → StepsStack s (record { top = top; below = s.below })
+    pub went_up : (top : OpenTask K) (v : TaskView) → top ≡ record { task = v; answers = [] } → v ≡ view_on rest → StepsStack s (record { top = top; below = s.below })
     went_up top v e h =
-        subst (λ (f : OpenTask). StepsStack s (record { top = f; below = s.below })) (sym (e ∙ ap (λ (w : TaskView). open_task w []) h))
+        subst (λ (f : OpenTask _). StepsStack s (record { top = f; below = s.below })) (sym (e ∙ ap (λ (w : TaskView). open_task w []) h))
         (gone-on (stops_are_sound t (Wait rest.task) is.top.task at.next) (stops_keep_origins t (Wait rest.task) at.next))
 
-  module _ (answer : AnswerView) (give : AnswerTag) (at : IsStop s.top.task (stop.Done answer give)) where
-    to-parent : (f : OpenTask) (fs : List OpenTask) → s.below ≡ f ∷ fs → AreBelow t (f ∷ fs) → StepsStack s (stack_with_answer answer f fs)
+  module _ (answer : AnswerView) (give : AnswerTag) (at : IsStop {K = K} s.top.task (stop.Done answer give)) where
+    to-parent : (f : OpenTask K) (fs : List (OpenTask K)) → s.below ≡ f ∷ fs → AreBelow t (f ∷ fs) → StepsStack s (stack_with_answer answer f fs)
     to-parent f fs e b = record {
       sound = record { top = record { task = b.1.task; idle = b.1.idle; goes_on = b.1.goes_on; whole = more-uncut f.answers answer b.1.whole whole; answers = answers }; below = b.2 };
-      lowest = subst (λ (l : List OpenTask). IsSameTask (lowest_of t l) (lowest_of (task_of f) fs)) (sym e) (refl, refl);
+      lowest = subst (λ (l : List (OpenTask _)). IsSameTask (lowest_of t l) (lowest_of (task_of f) fs)) (sym e) (refl, refl);
       stop = End answer.out answer.outcome;
       comes = at.next;
       leaves = ap tasks (sym e);
@@ -198,11 +197,11 @@ module _ (s : Stack) (is : IsStack s) where
             ∙ ap (λ (p : PlanView). answer_tags f.answers ++ tag p answer.origin ∷ []) (at.keeps.0 ∙ b.0)
             ∙ ap (λ (o : Origin). answer_tags f.answers ++ tag (task_of f).plan o ∷ []) at.keeps.1 ∙ b.1.answers
 
-    abbrev IsEnd : List OpenTask → Type 0
+    abbrev IsEnd : List (OpenTask K) → Type 0
     IsEnd fs = IsAnswerOf (lowest_of t fs) answer
 
     -- An end's answer goes to the task below, or is the one of the task at the bottom.
-    pub ended : (result : Result Advanced Memory) → ((f : OpenTask) (fs : List OpenTask) → s.below ≡ f ∷ fs → IfOk result (λ to. to ≡ Continues (stack_with_answer answer f fs))) →
+    pub ended : (result : Result (Advanced K) Memory) → ((f : OpenTask K) (fs : List (OpenTask K)) → s.below ≡ f ∷ fs → IfOk result (λ to. to ≡ Continues (stack_with_answer answer f fs))) →
         (s.below ≡ [] → IfOk result (λ to. to ≡ Ends answer)) → IfOk result (AdvancesTo s)
     ended (Err e) parent last = tt
     ended (Ok to) parent last = by_below s.below refl
@@ -210,7 +209,7 @@ module _ (s : Stack) (is : IsStack s) where
         sound : IsSoundStop t (End answer.out answer.outcome)
         sound = stops_are_sound t (End answer.out answer.outcome) is.top.task at.next
 
-        by_below : (fs : List OpenTask) → s.below ≡ fs → AdvancesTo s to
+        by_below : (fs : List (OpenTask K)) → s.below ≡ fs → AdvancesTo s to
         by_below [] e =
             let closes : AnswersLowest s answer = subst IsEnd (sym e) (record { plan = at.keeps.0; origin = at.keeps.1; fault = sound.1 }) in subst (AdvancesTo s) (sym (last e)) closes
         by_below (f ∷ fs) e = let follows : StepsStack s (stack_with_answer answer f fs) = to-parent f fs e (subst (AreBelow t) e is.below) in subst (AdvancesTo s) (sym (parent f fs e)) follows
@@ -234,13 +233,13 @@ module _ (s : Stack) (is : IsStack s) where
 
 -- The tasks below an answer that is a fault
 
-pub record EndsAt (bottom : Task) (answer : AnswerView) (fs : List OpenTask) : Type 0 where
+pub record EndsAt {K : Type 0} (bottom : Task) (answer : AnswerView) (fs : List (OpenTask K)) : Type 0 where
   pub below : AreBelow (task_of_answer answer) fs
   pub fault : is_fault answer.outcome ≡ true
   pub known : IsFaultOf answer.plan answer.outcome
   pub lowest : IsSameTask bottom (lowest_of (task_of_answer answer) fs)
 
-pub ends-next : (bottom : Task) (a b : AnswerView) (by : AnswerTag) (f : OpenTask) (fs gs : List OpenTask) → gs ≡ f ∷ fs → EndsAt bottom a gs → EndsByFault f.task b by → EndsAt bottom b fs
+pub ends-next : {K : Type 0} (bottom : Task) (a b : AnswerView) (by : AnswerTag) (f : OpenTask K) (fs gs : List (OpenTask K)) → gs ≡ f ∷ fs → EndsAt bottom a gs → EndsByFault f.task b by → EndsAt bottom b fs
 ends-next bottom a b by f fs gs e at ends =
     let was : EndsAt bottom a (f ∷ fs) = subst (EndsAt bottom a) e at in
     let same : IsSameTask (task_of f) (task_of_answer b) = (ends.plan, ends.origin) in
@@ -252,7 +251,7 @@ ends-next bottom a b by f fs gs e at ends =
       lowest = (lower.0 ∙ was.lowest.0, lower.1 ∙ was.lowest.1);
     }
 
-pub ends-last : (bottom : Task) (a : AnswerView) (fs : List OpenTask) → fs ≡ [] → EndsAt bottom a fs → IsAnswerOf bottom a
-ends-last bottom a fs e at =
-    let was : EndsAt bottom a [] = subst (EndsAt bottom a) e at in
+pub ends-last : {K : Type 0} (bottom : Task) (a : AnswerView) (fs : List (OpenTask K)) → fs ≡ [] → EndsAt bottom a fs → IsAnswerOf bottom a
+ends-last {K} bottom a fs e at =
+    let was : EndsAt {K = K} bottom a [] = subst (EndsAt bottom a) e at in
     record { plan = was.lowest.0; origin = was.lowest.1; fault = subst (λ (p : PlanView). IsFaultOf p a.outcome) was.lowest.0 was.known }

@@ -202,6 +202,6 @@ one_less_follows t stop ts is idle n = less _ _ _ (sym first) (by_stop stop (aft
     by_stop (End out ended) b = omega arith
 
 -- So a stop of a sound stack leaves less.
-pub follows_fall : (s after : Stack) → IsStack s → StepsStack s after → stops_in_all (tasks (after.top ∷ after.below)) < stops_in_all (tasks (s.top ∷ s.below))
+pub follows_fall : {K : Type 0} (s after : Stack K) → IsStack s → StepsStack s after → stops_in_all (tasks (after.top ∷ after.below)) < stops_in_all (tasks (s.top ∷ s.below))
 follows_fall s after is f =
     subst (λ ts. stops_in_all ts < stops_in_all (tasks (s.top ∷ s.below))) (sym f.leaves) (one_less_follows (task_of s.top) f.stop (tasks s.below) is.top.task is.top.idle f.comes)

@@ -1,10 +1,11 @@
 -- A stop further on the walk through an instance keeps all that is to be seen of it.
-use Rattle.std.proofs.Common.{◌≡◌, ◌<◌, ◌≤◌, ℕ, true, false, ◌⊎◌, inl, inr, List, [], ◌∷◌, Option, refl, sym, ap, ◌∙◌, subst, arith}
+use Rattle.std.proofs.Common.{◌≡◌, ◌<◌, ◌≤◌, ℕ, true, false, ◌⊎◌, inl, inr, List, [], ◌∷◌, ◌++◌, Option, refl, sym, ap, ◌∙◌, subst, arith}
 use Rattle.std.specs.Prelude.{Contains}
 use Rattle.serial_meaning.specs.Answer.{AnswerView, AnswerTag}
-use Rattle.serial_meaning.specs.Eval.{path_of}
+use Rattle.serial_meaning.specs.Eval.{eval, path_of}
 use Rattle.serial_meaning.specs.Laws.{IsOriginOf}
 use Rattle.serial_meaning.specs.Plan.{PlanView}
+use Rattle.serial_meaning.specs.declared.keep.All.{All}
 use Rattle.serial_meaning.specs.declared.event.Event.{Event}
 use Rattle.serial_meaning.specs.declared.event.Fault.{Fault}
 use Rattle.serial_meaning.specs.declared.origin.Origin.{Origin}
@@ -12,6 +13,7 @@ use Rattle.strand_meaning.specs.Laws.{IsSameTask, IsSoundStop, KeepsOrigin, Leav
 use Rattle.strand_meaning.specs.Left.{stops_left}
 use Rattle.strand_meaning.specs.Observation.{IsInstanceOrigin, no_observation, also, IsOnWay, OnWay, IsAllObserved}
 use Rattle.strand_meaning.specs.Trace.{AwaitedChild}
+use Rattle.strand_meaning.specs.Rest.{evaluations}
 use Rattle.strand_meaning.specs.Sound.{AreSoundChildren, IsTask}
 use Rattle.strand_meaning.specs.Task.{Task, start}
 use Rattle.serial_meaning.proofs.OriginFaults.Origins.{cons-contained}
@@ -35,7 +37,8 @@ use Rattle.serial_runner.specs.declared.walk.Walked.{Walked}
 use Rattle.serial_runner.specs.declared.walk.Walked.TheVariants.{Continues, Ends}
 use Rattle.serial_runner.proofs.Observing.{seen-with, seen_child, seen_none, whole_seen, over_seen}
 use Rattle.serial_runner.proofs.Showing.{ShowsStop, stops_show}
-use Rattle.serial_runner.proofs.Advancing.{went_whole}
+use Rattle.serial_runner.proofs.Advancing.{none-heard, went_whole}
+use Rattle.serial_runner.proofs.Handed.{HandsStop, handed, stops_hand}
 
 -- Each child that a task awaits is an origin of its plan.
 parts-known : (plan : PlanView) (o : Origin) (ps : List AwaitedChild) → AreSoundChildren plan o ps → AreOriginsOf plan (awaited ps)
@@ -60,7 +63,12 @@ module _ (plan : PlanView) (o : Origin) (j : List ℕ) (w : NodeWalk) (is : IsWa
   pub of_instance : IsInstanceOrigin t.origin
   of_instance = subst IsInstanceOrigin (sym is.origin_is) is.instance
 
-  module _ (s : stops.Stop) (eye : Eye) (events : List Event) (fault child_fault : Option Fault) (observed_stop : IsObserved w.task j w.observed.eye (record { stop = s; eye = eye; events = events; fault = fault; child_fault = child_fault })) where
+  -- The children that it awaits are origins of the plan.
+  pub children_known : AreOriginsOf plan w.awaited
+  children_known =
+      subst (AreOriginsOf plan) (sym is.awaits) (subst (λ (p : PlanView). AreOriginsOf p (handed t)) is.plan_is (parts-known t.plan t.origin t.trace.handed is.task.awaiting))
+
+  module _ (s : stops.Stop All) (eye : Eye) (events : List Event) (fault child_fault : Option Fault) (observed_stop : IsObserved w.task j w.observed.eye (record { stop = s; eye = eye; events = events; fault = fault; child_fault = child_fault })) where
     -- what is seen, but for a child that was handed out
     observation-seen : (observed : ObservedInstance) → observed ≡ with_observation eye events fault child_fault w.observed → observed ≡ record (observed_on (path_of o) j (also is.observation observed_stop.observation)) { child = (observed_on (path_of o) j is.observation).child }
     observation-seen observed e =
@@ -78,6 +86,9 @@ module _ (plan : PlanView) (o : Origin) (j : List ℕ) (w : NodeWalk) (is : IsWa
     fewer : LeavesFewer t (stop_of s)
     fewer = stops_fall t (stop_of s) is.task is.idle observed_stop.stop.next
 
+    hands : HandsStop t (stop_of s)
+    hands = stops_hand t (stop_of s) is.task observed_stop.stop.next
+
     goes-on : ObservationGoesOn → OnWay (also is.observation observed_stop.observation) t (stop_of s)
     goes-on go = go t is.observation observed_stop.observation (stop_of s) is.task of_instance is.on observed_stop.shows
 
@@ -86,20 +97,20 @@ module _ (plan : PlanView) (o : Origin) (j : List ℕ) (w : NodeWalk) (is : IsWa
     all-seen below u same way observed over says = over_seen plan o j is.instance below (also is.observation observed_stop.observation) u (same.0 ∙ is.plan_is) (same.1 ∙ is.origin_is) way observed says over
 
   module _ (n : ObservedStop) (as_observed : IsObserved w.task j w.observed.eye n) (child rest : TaskView) (stopped : n.stop ≡ stop.Spawn child rest) where
-    abbrev s : stops.Stop
+    abbrev s : stops.Stop All
     s = stop.Spawn child rest
 
     observed_stop : IsObserved w.task j w.observed.eye (record n { stop = s })
-    observed_stop = subst (λ (to : stops.Stop). IsObserved w.task j w.observed.eye (record n { stop = to })) stopped as_observed
+    observed_stop = subst (λ (to : stops.Stop All). IsObserved w.task j w.observed.eye (record n { stop = to })) stopped as_observed
 
     -- The child is an origin of the plan.
     pub child_known : IsOriginOf plan child.task.origin
     child_known = let k : IsSoundStop t (stop_of s) = sound s n.eye n.events n.fault n.child_fault observed_stop in subst (λ (p : PlanView). IsOriginOf p child.task.origin) is.plan_is k.0
 
-    -- The walk goes on with the rest.
-    pub walks_by_child : ObservationGoesOn → (before observed : ObservedInstance) → before ≡ with_observation n.eye n.events n.fault n.child_fault w.observed → observed ≡ with_child j child.task.origin before →
-        WalksOn plan o j w (Continues (record { task = rest; observed = observed }))
-    walks_by_child go before observed b h = (walk, less.0)
+    -- The walk goes on with the rest, which awaits the child too.
+    pub walks_by_child : ObservationGoesOn → (os : List Origin) (before observed : ObservedInstance) → os ≡ w.awaited ++ child.task.origin ∷ [] → before ≡ with_observation n.eye n.events n.fault n.child_fault w.observed →
+        observed ≡ with_child j child.task.origin before → WalksOn plan o j w (Continues (record { task = rest; awaited = os; observed = observed }))
+    walks_by_child go os before observed a b h = (walk, less.0)
       where
         kept : KeepsOrigin t (stop_of s)
         kept = same s n.eye n.events n.fault n.child_fault observed_stop
@@ -116,7 +127,10 @@ module _ (plan : PlanView) (o : Origin) (j : List ℕ) (w : NodeWalk) (is : IsWa
         task : IsSoundStop t (stop_of s)
         task = sound s n.eye n.events n.fault n.child_fault observed_stop
 
-        walk : IsWalk plan o j (record { task = rest; observed = observed })
+        more : HandsStop t (stop_of s)
+        more = hands s n.eye n.events n.fault n.child_fault observed_stop
+
+        walk : IsWalk plan o j (record { task = rest; awaited = os; observed = observed })
         walk = record {
           instance = is.instance;
           task = task.1;
@@ -124,6 +138,7 @@ module _ (plan : PlanView) (o : Origin) (j : List ℕ) (w : NodeWalk) (is : IsWa
           goes_on = observed_stop.stop.keeps.3;
           plan_is = kept.0 ∙ is.plan_is;
           origin_is = kept.1 ∙ is.origin_is;
+          awaits = a ∙ ap (λ (l : List Origin). l ++ child.task.origin ∷ []) is.awaits ∙ sym more.0;
           observation = also is.observation observed_stop.observation;
           on = on;
           says = h ∙ seen_child (path_of o) j is.observation observed_stop.observation child.task.origin before shows (observation-seen s n.eye n.events n.fault n.child_fault observed_stop before b);
@@ -146,11 +161,11 @@ module _ (plan : PlanView) (o : Origin) (j : List ℕ) (w : NodeWalk) (is : IsWa
         shows = shown s n.eye n.events n.fault n.child_fault observed_stop
 
   module _ (n : ObservedStop) (as_observed : IsObserved w.task j w.observed.eye n) (rest : TaskView) (stopped : n.stop ≡ stop.Wait rest) where
-    abbrev at : stops.Stop
+    abbrev at : stops.Stop All
     at = stop.Wait rest
 
     observed_wait : IsObserved w.task j w.observed.eye (record n { stop = at })
-    observed_wait = subst (λ (to : stops.Stop). IsObserved w.task j w.observed.eye (record n { stop = to })) stopped as_observed
+    observed_wait = subst (λ (to : stops.Stop All). IsObserved w.task j w.observed.eye (record n { stop = to })) stopped as_observed
 
     pub it_waits : rest.task.waiting ≡ true
     it_waits = let less : LeavesFewer t (stop_of at) = fewer at n.eye n.events n.fault n.child_fault observed_wait in less.1
@@ -158,20 +173,17 @@ module _ (plan : PlanView) (o : Origin) (j : List ℕ) (w : NodeWalk) (is : IsWa
     pub of_plan : rest.task.plan ≡ plan
     of_plan = let kept : KeepsOrigin t (stop_of at) = same at n.eye n.events n.fault n.child_fault observed_wait in kept.0 ∙ is.plan_is
 
-    pub children_known : AreOriginsOf plan (awaited rest.task.trace.handed)
-    children_known =
-        let task : IsSoundStop t (stop_of at) = sound at n.eye n.events n.fault n.child_fault observed_wait in
-        subst (λ (p : PlanView). AreOriginsOf p (awaited rest.task.trace.handed)) of_plan (parts-known rest.task.plan rest.task.origin rest.task.trace.handed task.awaiting)
-
     -- These are the answers that it awaits.
-    pub it_has_answers : (answers : List AnswerView) (os : List Origin) → os ≡ awaited rest.task.trace.handed → answer_tags answers ≡ tags plan os → answer_tags answers ≡ tags rest.task.plan (awaited rest.task.trace.handed)
-    it_has_answers answers os e h = h ∙ ap (tags plan) e ∙ ap (λ (p : PlanView). tags p (awaited rest.task.trace.handed)) (sym of_plan)
+    pub it_has_answers : (answers : List AnswerView) → answer_tags answers ≡ tags plan w.awaited → answer_tags answers ≡ tags rest.task.plan (awaited rest.task.trace.handed)
+    it_has_answers answers h =
+        let same : HandsStop t (stop_of at) = hands at n.eye n.events n.fault n.child_fault observed_wait in
+        h ∙ ap (tags plan) (is.awaits ∙ sym same) ∙ ap (λ (p : PlanView). tags p (handed rest.task)) (sym of_plan)
 
-    -- The walk goes on with the answers.
-    pub walks_by_wait : ObservationGoesOn → AnswersShowNothing → (answers : List AnswerView) → any_cut answers ≡ false → (v : TaskView) → WentOn answers rest v →
-        (observed : ObservedInstance) → observed ≡ with_observation n.eye n.events n.fault n.child_fault w.observed → WalksOn plan o j w (Continues (record { task = v; observed = observed }))
-    walks_by_wait go nothing answers whole v h observed b =
-        subst (λ (u : TaskView). WalksOn plan o j w (Continues (record { task = u; observed = observed }))) (sym (went_whole answers rest v whole h)) (walk, left)
+    -- The walk goes on with the answers, and awaits no child.
+    pub walks_by_wait : ObservationGoesOn → AnswersShowNothing → (answers : List AnswerView) → any_cut answers ≡ false → (v : TaskView) → WentOn answers rest v → (os : List Origin) → os ≡ [] →
+        (observed : ObservedInstance) → observed ≡ with_observation n.eye n.events n.fault n.child_fault w.observed → WalksOn plan o j w (Continues (record { task = v; awaited = os; observed = observed }))
+    walks_by_wait go nothing answers whole v h os e observed b =
+        subst (λ (u : TaskView). WalksOn plan o j w (Continues (record { task = u; awaited = os; observed = observed }))) (sym (went_whole answers rest v whole h)) (walk, left)
       where
         kept : KeepsOrigin t (stop_of at)
         kept = same at n.eye n.events n.fault n.child_fault observed_wait
@@ -194,7 +206,10 @@ module _ (plan : PlanView) (o : Origin) (j : List ℕ) (w : NodeWalk) (is : IsWa
         left : stops_left (with_evaluations rest) < stops_left t
         left = omega (arith, less.0, no_more)
 
-        walk : IsWalk plan o j (record { task = view_on rest; observed = observed })
+        none : (with_evaluations rest).trace.handed ≡ []
+        none = none-heard rest.task.trace.handed (evaluations (eval rest.task.plan) rest.task.trace.handed) _ refl
+
+        walk : IsWalk plan o j (record { task = view_on rest; awaited = os; observed = observed })
         walk = record {
           instance = is.instance;
           task = answers_keep_tasks rest.task task;
@@ -202,6 +217,7 @@ module _ (plan : PlanView) (o : Origin) (j : List ℕ) (w : NodeWalk) (is : IsWa
           goes_on = observed_wait.stop.keeps.2;
           plan_is = kept.0 ∙ is.plan_is;
           origin_is = kept.1 ∙ is.origin_is;
+          awaits = e ∙ ap awaited (sym none);
           observation = also is.observation observed_wait.observation;
           on = nothing rest.task (also is.observation observed_wait.observation) task (subst IsInstanceOrigin (sym (kept.1 ∙ is.origin_is)) is.instance) on;
           says = seen_none (path_of o) j is.observation observed_wait.observation observed shows (observation-seen at n.eye n.events n.fault n.child_fault observed_wait observed b);
@@ -227,11 +243,11 @@ module _ (plan : PlanView) (o : Origin) (j : List ℕ) (w : NodeWalk) (is : IsWa
         shows = shown at n.eye n.events n.fault n.child_fault observed_wait
 
   module _ (n : ObservedStop) (as_observed : IsObserved w.task j w.observed.eye n) (answer : AnswerView) (give : AnswerTag) (stopped : n.stop ≡ stop.Done answer give) where
-    abbrev end : stops.Stop
+    abbrev end : stops.Stop All
     end = stop.Done answer give
 
     observed_end : IsObserved w.task j w.observed.eye (record n { stop = end })
-    observed_end = subst (λ (to : stops.Stop). IsObserved w.task j w.observed.eye (record n { stop = to })) stopped as_observed
+    observed_end = subst (λ (to : stops.Stop All). IsObserved w.task j w.observed.eye (record n { stop = to })) stopped as_observed
 
     -- The whole instance is seen.
     pub walk_ends : IsBelow (path_of o) j → ObservationGoesOn → (observed : ObservedInstance) → observed ≡ with_observation n.eye n.events n.fault n.child_fault w.observed → WalksOn plan o j w (Ends observed)
@@ -257,6 +273,7 @@ walk_begins begin plan o j i is w e =
       goes_on = refl;
       plan_is = refl;
       origin_is = refl;
+      awaits = refl;
       observation = no_observation;
       on = begin plan o i;
       says = refl;

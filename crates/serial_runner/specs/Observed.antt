@@ -4,6 +4,7 @@ use Rattle.serial_meaning.specs.Eval.{path_of}
 use Rattle.serial_meaning.specs.Laws.{IsOriginOf}
 use Rattle.serial_meaning.specs.Open.{Child}
 use Rattle.serial_meaning.specs.Plan.{PlanView}
+use Rattle.serial_meaning.specs.declared.keep.All.{All}
 use Rattle.serial_meaning.specs.declared.event.Event.{Event}
 use Rattle.serial_meaning.specs.declared.event.Fault.{Fault}
 use Rattle.serial_meaning.specs.declared.origin.Origin.{Origin}
@@ -11,6 +12,7 @@ use Rattle.strand_meaning.specs.Left.{stops_left}
 use Rattle.strand_meaning.specs.Observation.{Observation, newest, IsInstanceOrigin, IsOnWay}
 use Rattle.strand_meaning.specs.Sound.{IsTask}
 use Rattle.strand_meaning.specs.Strands.{own_events, events_at, child_on_way}
+use Rattle.strand_machine.specs.AwaitedChildren.{awaited}
 use Rattle.strand_machine.specs.Eyes.{new_eye, eye_after}
 use Rattle.strand_machine.specs.Observed.{IsObserved}
 use Rattle.strand_machine.specs.declared.observe.ObservedStop.{ObservedStop}
@@ -53,7 +55,7 @@ observed_on path j observation = record {
 
 -- a walk of which nothing is done
 abbrev pub begun_walk : PlanView → Origin → List ℕ → NodeWalk
-begun_walk plan o j = record { task = fresh plan o; observed = nothing_seen (new_eye (path_of o) j) }
+begun_walk plan o j = record { task = fresh plan o; awaited = []; observed = nothing_seen (new_eye (path_of o) j) }
 
 abbrev pub origin_of : NodeWalk → Origin
 origin_of w = w.task.task.origin
@@ -61,7 +63,7 @@ origin_of w = w.task.task.origin
 abbrev pub AreOriginsOf : PlanView → List Origin → Type 0
 AreOriginsOf plan os = (o : Origin) → Contains os o → IsOriginOf plan o
 
--- An instance of the plan that runs, and all that is to be seen of it.
+-- An instance of the plan that runs, the children whose answers it awaits, and all that is to be seen of it.
 pub record IsWalk (plan : PlanView) (o : Origin) (j : List ℕ) (w : NodeWalk) : Type 0 where
   pub instance : IsInstanceOrigin o
   pub task : IsTask w.task.task
@@ -69,12 +71,13 @@ pub record IsWalk (plan : PlanView) (o : Origin) (j : List ℕ) (w : NodeWalk) :
   pub goes_on : w.task.cut ≡ None
   pub plan_is : w.task.task.plan ≡ plan
   pub origin_is : origin_of w ≡ o
+  pub awaits : w.awaited ≡ awaited w.task.task.trace.handed
   pub observation : Observation
   pub on : IsOnWay observation w.task.task
   pub says : w.observed ≡ observed_on (path_of o) j observation
 
 -- The task of a walk has come to this stop, and this is what is seen then.
-pub record ObservesStop (j : List ℕ) (w : NodeWalk) (stop : Stop) (observed : ObservedInstance) : Type 0 where
+pub record ObservesStop (j : List ℕ) (w : NodeWalk) (stop : Stop All) (observed : ObservedInstance) : Type 0 where
   pub observed_stop : ObservedStop
   pub is_observed : IsObserved w.task j w.observed.eye observed_stop
   pub stops : stop ≡ observed_stop.stop

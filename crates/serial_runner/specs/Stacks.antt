@@ -15,12 +15,12 @@ use Rattle.serial_runner.specs.declared.stack.Stack.{Stack}
 use Rattle.serial_runner.specs.declared.stack.Advanced.{Advanced}
 use Rattle.serial_runner.specs.declared.stack.Advanced.TheVariants.{Continues, Ends}
 
-abbrev pub task_of : OpenTask → Task
+abbrev pub task_of : {K : Type 0} → OpenTask K → Task
 task_of f = f.task.task
 
 -- A task with the answers of the children that it awaits, in order, but for the last ones, which are missing. It stands in no wait, and no
 -- answer is a cut.
-pub record IsOpenTask (missing : List Origin) (f : OpenTask) : Type 0 where
+pub record IsOpenTask {K : Type 0} (missing : List Origin) (f : OpenTask K) : Type 0 where
   pub task : IsTask (task_of f)
   pub idle : (task_of f).waiting ≡ false
   pub goes_on : f.task.cut ≡ None
@@ -28,25 +28,25 @@ pub record IsOpenTask (missing : List Origin) (f : OpenTask) : Type 0 where
   pub answers : answer_tags f.answers ++ tags (task_of f).plan missing ≡ tags (task_of f).plan (awaited (task_of f).trace.handed)
 
 -- Of each open task the child above it is all that is missing.
-abbrev pub AreBelow : Task → List OpenTask → Type 0
+abbrev pub AreBelow : {K : Type 0} → Task → List (OpenTask K) → Type 0
 AreBelow above [] = Unit {0}
 AreBelow above (f ∷ fs) = (above.plan ≡ (task_of f).plan) × IsOpenTask (above.origin ∷ []) f × AreBelow (task_of f) fs
 
-pub record IsStack (s : Stack) : Type 0 where
+pub record IsStack {K : Type 0} (s : Stack K) : Type 0 where
   pub top : IsOpenTask [] s.top
   pub below : AreBelow (task_of s.top) s.below
 
 -- the task at the bottom
-abbrev pub lowest_of : Task → List OpenTask → Task
+abbrev pub lowest_of : {K : Type 0} → Task → List (OpenTask K) → Task
 lowest_of t [] = t
 lowest_of t (f ∷ fs) = lowest_of (task_of f) fs
 
-abbrev pub lowest : Stack → Task
+abbrev pub lowest : {K : Type 0} → Stack K → Task
 lowest s = lowest_of (task_of s.top) s.below
 
 -- The tasks of a stack, and what a stop of the topmost one makes of them: its child goes first, its wait is over at once, since its
 -- children have ended, and its end leaves the others.
-abbrev pub tasks : List OpenTask → List Task
+abbrev pub tasks : {K : Type 0} → List (OpenTask K) → List Task
 tasks [] = []
 tasks (f ∷ fs) = task_of f ∷ tasks fs
 
@@ -56,11 +56,11 @@ tasks_after (Wait rest) ts = on (evaluations (eval rest.plan) rest.trace.handed)
 tasks_after (End out ended) ts = ts
 
 -- the stack once the task at the head of these has one answer more
-abbrev pub stack_with_answer : AnswerView → OpenTask → List OpenTask → Stack
+abbrev pub stack_with_answer : {K : Type 0} → AnswerView → OpenTask K → List (OpenTask K) → Stack K
 stack_with_answer answer f fs = record { top = record f { answers = f.answers ++ answer ∷ [] }; below = fs }
 
 -- one stop of the topmost task
-pub record StepsStack (s next : Stack) : Type 0 where
+pub record StepsStack {K : Type 0} (s next : Stack K) : Type 0 where
   pub sound : IsStack next
   pub lowest : IsSameTask (lowest s) (lowest next)
   pub stop : Stop
@@ -74,13 +74,13 @@ pub record IsAnswerOf (t : Task) (answer : AnswerView) : Type 0 where
   pub fault : IsFaultOf t.plan answer.outcome
 
 -- the answer of the task at the bottom
-abbrev pub AnswersLowest : Stack → AnswerView → Type 0
+abbrev pub AnswersLowest : {K : Type 0} → Stack K → AnswerView → Type 0
 AnswersLowest s = IsAnswerOf (lowest s)
 
 -- the task of an answer before it was begun
 abbrev pub task_of_answer : AnswerView → Task
 task_of_answer answer = start answer.plan answer.origin
 
-abbrev pub AdvancesTo : Stack → Advanced → Type 0
+abbrev pub AdvancesTo : {K : Type 0} → Stack K → Advanced K → Type 0
 AdvancesTo s (Continues next) = StepsStack s next
 AdvancesTo s (Ends answer) = AnswersLowest s answer

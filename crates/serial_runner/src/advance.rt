@@ -9,24 +9,24 @@ use crate::beside::beside;
 use crate::open_tasks::{OpenTask, OpenTasks};
 use crate::stack::{Advanced, Stack};
 use script_grammar::{Boxed, Items};
-use serial_meaning::Answer;
+use serial_meaning::{Answer, Keep};
 use std::alloc::Global;
 use strand_machine::{Memory, Paused, is_fault};
 
-fn boxed(alloc: Global, answer: Answer) -> Result<Boxed<Answer>, Memory>
+fn boxed<K: Keep>(alloc: Global, answer: Answer<K>) -> Result<Boxed<Answer<K>>, Memory>
     ensures { IfOk result (λ b. b ≡ answer) }
 {
     Ok(Boxed(Box::new(alloc, answer)?))
 }
 
 /// The answer of a task that has ended goes to the one below it. The list of the answers that it took is of use again.
-fn answer_below(
+fn answer_below<K: Keep>(
     alloc: Global,
-    answer: Answer,
-    taken: Items<Answer>,
-    mut below: OpenTasks,
-) -> Result<Advanced, Memory>
-    ensures parent { (f : OpenTask) (fs : List OpenTask) → below ≡ f ∷ fs → IfOk result (λ advanced. advanced ≡ Advanced.Continues (stack_with_answer answer f fs)) }
+    answer: Answer<K>,
+    taken: Items<Answer<K>>,
+    mut below: OpenTasks<K>,
+) -> Result<Advanced<K>, Memory>
+    ensures parent { (f : OpenTask K) (fs : List (OpenTask K)) → below ≡ f ∷ fs → IfOk result (λ advanced. advanced ≡ Advanced.Continues (stack_with_answer answer f fs)) }
     ensures last { below ≡ [] → IfOk result (λ advanced. advanced ≡ Advanced.Ends answer) }
 {
     below.reuse(taken);
@@ -47,7 +47,11 @@ fn answer_below(
 
 /// The answer of the task at the bottom, where this one, of the task on top, is a fault. It is the fault of each task below too, since
 /// nothing that stands after it counts.
-fn end_all(alloc: Global, answer: Answer, mut below: OpenTasks) -> Result<Answer, Memory>
+fn end_all<K: Keep>(
+    alloc: Global,
+    answer: Answer<K>,
+    mut below: OpenTasks<K>,
+) -> Result<Answer<K>, Memory>
     requires fault { is_fault answer.outcome ≡ true }
     requires known { IsFaultOf answer.plan answer.outcome }
     requires below { AreBelow (task_of_answer answer) below }
@@ -65,7 +69,7 @@ fn end_all(alloc: Global, answer: Answer, mut below: OpenTasks) -> Result<Answer
 /// Runs the topmost task to its next stop. A child goes on top of it. Where it waits its children have ended, and it takes their
 /// answers. Its own answer goes to the task below, and where it is a fault it ends all of them.
 #[inline(always)]
-pub(crate) fn advance(stack: Stack, alloc: Global) -> Result<Advanced, Memory>
+pub(crate) fn advance<K: Keep>(stack: Stack<K>, alloc: Global) -> Result<Advanced<K>, Memory>
     requires { IsStack stack }
     ensures { IfOk result (AdvancesTo stack) }
 {

@@ -14,5 +14,5 @@ mod stack;
 mod walk;
 
 pub use node::{Node, walk_node};
-pub use serial::run_serial;
+pub use serial::{run_serial, run_serial_keeping};
 pub use strand_machine::Memory;

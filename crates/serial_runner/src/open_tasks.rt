@@ -1,43 +1,43 @@
 ghost use Rattle.std.specs.Prelude.{◌≡◌, ◌∷◌, [], OnOk, IfSome, IfNone};
 
 use script_grammar::Items;
-use serial_meaning::Answer;
+use serial_meaning::{Answer, Keep};
 use std::alloc::Global;
 use std::marker::Model;
 use strand_machine::{Memory, Task};
 
 /// A task, and the answers of its children so far, in order.
 #[derive(Drop)]
-pub(crate) struct OpenTask {
-    pub task: Task,
-    pub answers: Items<Answer>,
+pub(crate) struct OpenTask<K: Keep> {
+    pub task: Task<K>,
+    pub answers: Items<Answer<K>>,
 }
 
 /// Open tasks of which the last one is taken first. Contracts see them in the order in which they will be taken. The lists of answers that they no longer
 /// need are kept for the next ones, since most tasks want one.
 #[derive(Drop)]
-pub(crate) struct OpenTasks {
-    open_tasks: Vec<OpenTask>,
-    spare: Vec<Items<Answer>>,
+pub(crate) struct OpenTasks<K: Keep> {
+    open_tasks: Vec<OpenTask<K>>,
+    spare: Vec<Items<Answer<K>>>,
 }
 
-impl Model for OpenTasks {
+impl<K: Keep> Model for OpenTasks<K> {
     ghost use Rattle.std.specs.Prelude.{List, reverse};
     ghost use Rattle.std.specs.Coded.{codes};
     ghost use Rattle.script_grammar.specs.contracts.tree.Stmt as statement_type;
     ghost use Rattle.serial_meaning.specs.contracts.plan.Plan as plan_type;
     ghost use Rattle.serial_runner.specs.declared.open_tasks.OpenTask.{OpenTask};
 
-    ghost Value = { List OpenTask };
+    ghost Value = { List (OpenTask K) };
 
     ghost coded = { Prim.hlevel (codes, statement_type.the_row.coded, plan_type.the_row.coded) };
 
     ghost view = { λ f. reverse f.open_tasks.items };
 }
 
-impl OpenTasks {
+impl<K: Keep> OpenTasks<K> {
     /// No open task.
-    pub fn new(alloc: Global) -> OpenTasks
+    pub fn new(alloc: Global) -> OpenTasks<K>
         ensures { result ≡ [] }
     {
         OpenTasks {
@@ -47,7 +47,7 @@ impl OpenTasks {
     }
 
     /// A task that has no answer yet.
-    pub fn open_task(&mut self, alloc: Global, task: Task) -> OpenTask
+    pub fn open_task(&mut self, alloc: Global, task: Task<K>) -> OpenTask<K>
         ensures open_task { result ≡ record { task = task; answers = [] } }
         ensures same { self.new ≡ self.old }
     {
@@ -62,7 +62,7 @@ impl OpenTasks {
     }
 
     /// Keeps a list that is no longer needed, where there is room for it.
-    pub fn reuse(&mut self, answers: Items<Answer>)
+    pub fn reuse(&mut self, answers: Items<Answer<K>>)
         ensures { self.new ≡ self.old }
     {
         match self.spare.push(answers) {
@@ -72,7 +72,7 @@ impl OpenTasks {
     }
 
     /// One more, to be taken first.
-    pub fn push(&mut self, open_task: OpenTask) -> Result<(), Memory>
+    pub fn push(&mut self, open_task: OpenTask<K>) -> Result<(), Memory>
         ensures { OnOk result (self.new ≡ open_task ∷ self.old) }
     {
         self.open_tasks.push(open_task)?;
@@ -80,7 +80,7 @@ impl OpenTasks {
     }
 
     /// Takes the first one.
-    pub fn pop(&mut self) -> Option<OpenTask>
+    pub fn pop(&mut self) -> Option<OpenTask<K>>
         ensures some { IfSome result (λ open_task. self.old ≡ open_task ∷ self.new) }
         ensures none { IfNone result (self.old ≡ []) }
     {

@@ -9,14 +9,18 @@ ghost use Rattle.serial_runner.specs.Stacks.{IsStack, lowest};
 use crate::advance::advance;
 use crate::open_tasks::OpenTasks;
 use crate::stack::{Advanced, Stack};
-use serial_meaning::{Answer, Origin, Plan};
+use serial_meaning::{Answer, Keep, Origin, Plan};
 use std::alloc::Global;
 use std::sync::Arc;
 use strand_machine::{Memory, Task};
 use strand_meaning::laws;
 
 /// The stack of this task alone.
-pub(crate) fn stack_of(alloc: Global, plan: &Arc<Plan>, origin: Origin) -> Result<Stack, Memory>
+pub(crate) fn stack_of<K: Keep>(
+    alloc: Global,
+    plan: &Arc<Plan>,
+    origin: Origin,
+) -> Result<Stack<K>, Memory>
     requires { IsOriginOf (arc_value plan.now) origin }
     ensures sound { IfOk result IsStack }
     ensures lowest { IfOk result (λ stack. lowest stack ≡ start (arc_value plan.now) origin) }
@@ -25,7 +29,7 @@ pub(crate) fn stack_of(alloc: Global, plan: &Arc<Plan>, origin: Origin) -> Resul
     let _script = plan.checked.script();
     laws::valid_plans_are_clear();
     laws::tasks_begin();
-    let task = Task::alone(alloc, plan, origin)?;
+    let task = Task::alone_keeping(alloc, plan, origin)?;
     let mut below = OpenTasks::new(alloc);
     let top = below.open_task(alloc, task);
     Ok(Stack { top, below })
@@ -37,6 +41,20 @@ pub(crate) fn stack_of(alloc: Global, plan: &Arc<Plan>, origin: Origin) -> Resul
 /// The tasks that are begun stand in memory, and not on the thread's stack, however deep they are nested. The answers of a task's
 /// children are moved into its own.
 pub fn run_serial(alloc: Global, plan: &Arc<Plan>, origin: Origin) -> Result<Answer, Memory>
+    requires { IsOriginOf (arc_value plan.now) origin }
+    ensures plan { IfOk result (λ answer. answer.plan ≡ arc_value plan.now) }
+    ensures origin { IfOk result (λ answer. answer.origin ≡ origin) }
+    ensures fault { IfOk result (λ answer. IsFaultOf (arc_value plan.now) answer.outcome) }
+{
+    run_serial_keeping(alloc, plan, origin)
+}
+
+/// The same, where `K` says which events the answer keeps in memory.
+pub fn run_serial_keeping<K: Keep>(
+    alloc: Global,
+    plan: &Arc<Plan>,
+    origin: Origin,
+) -> Result<Answer<K>, Memory>
     requires { IsOriginOf (arc_value plan.now) origin }
     ensures plan { IfOk result (λ answer. answer.plan ≡ arc_value plan.now) }
     ensures origin { IfOk result (λ answer. answer.origin ≡ origin) }

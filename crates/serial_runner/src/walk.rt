@@ -1,5 +1,5 @@
 // An instance that is run with an eye on the strand of one pedigree.
-ghost use Rattle.std.specs.Prelude.{◌≡◌, IfOk, None, false};
+ghost use Rattle.std.specs.Prelude.{◌≡◌, ◌++◌, ◌∷◌, [], IfOk, OnOk, None, false};
 ghost use Rattle.std.specs.Arc.{arc_value};
 ghost use Rattle.serial_meaning.specs.Eval.{path_of};
 ghost use Rattle.serial_meaning.specs.Laws.{IsOriginOf};
@@ -9,7 +9,7 @@ ghost use Rattle.strand_meaning.specs.Task.{start};
 ghost use Rattle.strand_machine.specs.Family.{tags};
 ghost use Rattle.strand_machine.specs.Stops.{answer_tags, any_cut};
 ghost use Rattle.serial_runner.specs.Nodes.{IsBelow};
-ghost use Rattle.serial_runner.specs.Observed.{AreOriginsOf, IsSeen, ObservesStop, IsWalk, WalksOn, begun_walk, origin_of};
+ghost use Rattle.serial_runner.specs.Observed.{AreOriginsOf, IsSeen, ObservesStop, IsWalk, WalksOn, begun_walk, origin_of, with_child};
 
 use crate::beside::beside;
 use crate::observed::ObservedInstance;
@@ -27,6 +27,8 @@ use strand_meaning::laws;
 #[derive(Drop)]
 pub(crate) struct NodeWalk {
     pub task: Task,
+    /// The children whose answers the task awaits, in order.
+    pub awaited: Items<Origin>,
     pub observed: ObservedInstance,
 }
 
@@ -51,19 +53,27 @@ fn answers_of(alloc: Global, plan: &Arc<Plan>, origins: &[Origin]) -> Result<Ite
     Ok(Items(answers))
 }
 
-/// Runs the task to its next stop, and observes what it shows up to there.
+/// Runs the task to its next stop, and observes what it shows up to there. The children that it awaited come back.
 fn run_to_stop(
     walk: NodeWalk,
     alloc: Global,
     at: &Pedigree,
-) -> Result<(Stop, ObservedInstance), Memory>
+) -> Result<(Stop, Items<Origin>, ObservedInstance), Memory>
     requires instance { IsInstanceOrigin (origin_of walk) }
     requires goes_on { walk.task.cut ≡ None }
-    ensures { IfOk result (λ p. ObservesStop at.now walk p.0 p.1) }
+    ensures stop { IfOk result (λ p. ObservesStop at.now walk p.0 p.2) }
+    ensures awaited { IfOk result (λ p. p.1 ≡ walk.awaited) }
 {
-    let NodeWalk { task, observed } = walk;
+    let NodeWalk {
+        task,
+        awaited,
+        observed,
+    } = walk;
     let seen = observed.eye;
-    let (observed, observed_stop) = beside(observed, task.advance_observed(alloc, at, seen))?;
+    let ((awaited, observed), observed_stop) = beside(
+        (awaited, observed),
+        task.advance_observed(alloc, at, seen),
+    )?;
     let ObservedStop {
         stop,
         eye,
@@ -71,7 +81,25 @@ fn run_to_stop(
         fault,
         child_fault,
     } = observed_stop;
-    beside(stop, observed.observe(eye, events, fault, child_fault))
+    let observed = observed.observe(eye, events, fault, child_fault);
+    let ((stop, awaited), observed) = beside((stop, awaited), observed)?;
+    Ok((stop, awaited, observed))
+}
+
+/// A child is handed out: it is observed, and awaited.
+fn hand_out(
+    alloc: Global,
+    child: &Task,
+    at: &Pedigree,
+    awaited: &mut Items<Origin>,
+    observed: &mut ObservedInstance,
+) -> Result<(), Memory>
+    ensures awaited { OnOk result (awaited.new ≡ awaited.old ++ child.now.task.origin ∷ []) }
+    ensures observed { OnOk result (observed.new ≡ with_child at.now child.now.task.origin observed.old) }
+{
+    observed.observe_child(alloc, child, at)?;
+    awaited.0.push(child.share_origin(alloc)?)?;
+    Ok(())
 }
 
 /// Runs the task to its next stop. Where it waits there, the children that it awaits are run, unless nothing that it does later counts.
@@ -82,34 +110,39 @@ fn walk_on(walk: NodeWalk, alloc: Global, plan: &Arc<Plan>, at: &Pedigree) -> Re
 {
     laws::observation_goes_on();
     laws::answers_show_nothing();
-    let (stop, mut observed) = run_to_stop(walk, alloc, at)?;
+    let (stop, mut awaited, mut observed) = run_to_stop(walk, alloc, at)?;
     match stop {
         Stop::Spawn { child, rest } => {
-            let seen = observed.observe_child(alloc, &child, at);
+            let handed = hand_out(alloc, &child, at, &mut awaited, &mut observed);
             drop(child);
-            let ((rest, observed), ()) = beside((rest, observed), seen)?;
+            let ((task, awaited, observed), ()) = beside((rest, awaited, observed), handed)?;
             if observed.is_over() {
-                drop(rest);
+                drop((task, awaited));
                 return Ok(Walked::Ends(observed));
             }
             Ok(Walked::Continues(NodeWalk {
-                task: rest,
+                task,
+                awaited,
                 observed,
             }))
         }
         Stop::Wait { rest } => {
             if observed.is_over() {
-                drop(rest);
+                drop((rest, awaited));
                 return Ok(Walked::Ends(observed));
             }
-            let answers = answers_of(alloc, plan, rest.awaited().as_slice());
+            let answers = answers_of(alloc, plan, awaited.as_slice());
+            drop(awaited);
             let ((rest, observed), answers) = beside((rest, observed), answers)?;
             let (observed, task) = beside(observed, rest.resume_with(alloc, answers))?;
-            Ok(Walked::Continues(NodeWalk { task, observed }))
+            Ok(Walked::Continues(NodeWalk {
+                task,
+                awaited: Items(Vec::new(alloc)),
+                observed,
+            }))
         }
         Stop::Done { answer, give } => {
-            drop(answer);
-            drop(give);
+            drop((answer, give, awaited));
             Ok(Walked::Ends(observed))
         }
     }
@@ -134,6 +167,7 @@ fn begin_walk(
     let task = Task::alone(alloc, plan, origin)?;
     Ok(NodeWalk {
         task,
+        awaited: Items(Vec::new(alloc)),
         observed: ObservedInstance::new(eye),
     })
 }

@@ -1,6 +1,8 @@
 -- What ties a task to others may go to another thread.
 use denote.Param.Send.{IsSend, view_send}
 use denote.Param.SendFields.{declared_send}
+use denote.RattleType.{RattleType}
+use mir.Syntax.{Dict}
 use Rattle.meet_block.proofs.give.Give.TheSendSync as give_shared
 use Rattle.meet_block.proofs.join.Join.TheSendSync as join_shared
 use Rattle.meet_block.specs.contracts.give.Give as give
@@ -10,17 +12,19 @@ use Rattle.serial_meaning.proofs.origin.Origin.TheSendSync as origin_shared
 use Rattle.serial_meaning.specs.contracts.answer.Answer as answer
 use Rattle.serial_meaning.specs.contracts.answer_key.AnswerKey as key
 use Rattle.serial_meaning.specs.contracts.answer_key.AnswerTagged.TheImpl.{ghosts}
+use Rattle.serial_meaning.specs.declared.keep.Keep.{Ghosts}
 use Rattle.strand_family.specs.contracts.family.Family as family
 use Rattle.strand_family.specs.contracts.family.Family.TheInside as family_inside
 
-pub give_sends : IsSend (give.the_row answer.the_row key.the_row ghosts)
-give_sends = give_shared.the_send answer.the_row key.the_row ghosts answer_sends
+module _ (K : RattleType) (keeps : Ghosts K.Denot) (dict : Dict) where
+  pub give_sends : IsSend (give.the_row (answer.the_row K keeps) key.the_row (ghosts K keeps dict))
+  give_sends = give_shared.the_send (answer.the_row K keeps) key.the_row (ghosts K keeps dict) (answer_sends K keeps)
 
-join_sends : IsSend (join.the_row answer.the_row key.the_row ghosts)
-join_sends = join_shared.the_send answer.the_row key.the_row ghosts answer_sends
+  join_sends : IsSend (join.the_row (answer.the_row K keeps) key.the_row (ghosts K keeps dict))
+  join_sends = join_shared.the_send (answer.the_row K keeps) key.the_row (ghosts K keeps dict) (answer_sends K keeps)
 
-family_inside_sends : IsSend family_inside.the_row
-family_inside_sends = declared_send family_inside.the_type (shared_plan_sends, (origin_shared.the_send, (give_sends, (join_sends, tt))))
+  family_inside_sends : IsSend (family_inside.the_row K keeps)
+  family_inside_sends = declared_send (family_inside.the_type K keeps) (shared_plan_sends, (origin_shared.the_send, (give_sends, (join_sends, tt))))
 
-pub family_sends : IsSend family.the_row
-family_sends = view_send family_inside.the_row _ _ _ _ family_inside_sends
+  pub family_sends : IsSend (family.the_row K keeps)
+  family_sends = view_send (family_inside.the_row K keeps) _ _ _ _ family_inside_sends

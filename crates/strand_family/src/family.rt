@@ -6,21 +6,21 @@ ghost use Rattle.strand_family.specs.Family.{tag, family_with_child, FamilyLooks
 use crate::memory::Memory;
 use crate::start::stands_before;
 use meet_block::{Give, Join, Look};
-use serial_meaning::{Answer, AnswerKey, Fault, Origin, Out, Outcome, Plan};
+use serial_meaning::{All, Answer, AnswerKey, Fault, Keep, Origin, Out, Outcome, Plan};
 use std::alloc::Global;
 use std::marker::Model;
 use std::sync::Arc;
 
 /// What ties a task to others: its plan and origin, the give by which it answers its parent, and the join of its children.
 #[derive(Drop)]
-pub struct Family {
+pub struct Family<K: Keep = All> {
     plan: Arc<Plan>,
     origin: Origin,
-    give: Give<Answer>,
-    join: Join<Answer>,
+    give: Give<Answer<K>>,
+    join: Join<Answer<K>>,
 }
 
-impl Model for Family {
+impl<K: Keep> Model for Family<K> {
     ghost use Rattle.std.specs.Prelude.{◌≡◌, map};
     ghost use Rattle.std.specs.Arc.{arc_value};
     ghost use Rattle.std.specs.Coded.{codes};
@@ -44,7 +44,7 @@ impl Model for Family {
         × (f.join.tags ≡ tags (arc_value f.plan) (origins f.join.tags)) };
 }
 
-impl Family {
+impl<K: Keep> Family<K> {
     ghost use Rattle.std.specs.Prelude.{◌↔◌, IsTrue};
     ghost use Rattle.ped_path.specs.Path.{IsBefore};
     ghost use Rattle.serial_meaning.specs.Answer.{start_of};
@@ -55,8 +55,8 @@ impl Family {
         alloc: Global,
         plan: Arc<Plan>,
         origin: Origin,
-        give: Give<Answer>,
-    ) -> Result<Family, Memory>
+        give: Give<Answer<K>>,
+    ) -> Result<Family<K>, Memory>
         requires { give ≡ tag (arc_value plan) origin }
         ensures { IfOk result (λ family. family ≡ childless (arc_value plan) origin) }
     {
@@ -119,7 +119,7 @@ impl Family {
 
     /// The give of one more child, by a key of the task's plan.
     #[tactic(auto, using(crate::proofs::Tags::origins_append, crate::proofs::Tags::hand_keeps))]
-    pub fn hand(&mut self, alloc: Global, child: &AnswerKey) -> Result<Give<Answer>, Memory>
+    pub fn hand(&mut self, alloc: Global, child: &AnswerKey) -> Result<Give<Answer<K>>, Memory>
         requires { child.now.plan ≡ self.old.plan }
         ensures give { IfOk result (λ give. give ≡ child.now) }
         ensures handed { OnOk result (self.new ≡ family_with_child self.old child.now.origin) }
@@ -144,7 +144,7 @@ impl Family {
 
     /// The answer of a child, by its number: the first child that was handed out has 0.
     #[tactic(auto, using(crate::proofs::Tags::origin_at, crate::proofs::Tags::plan_at))]
-    pub fn take(&mut self, i: u64) -> Answer
+    pub fn take(&mut self, i: u64) -> Answer<K>
         requires ready { self.old.ready ≡ true }
         requires left { slice_get self.old.taken i ≡ Some false }
         ensures plan { result.plan ≡ self.old.plan }
@@ -156,7 +156,7 @@ impl Family {
 
     /// What the task answers, and the give for it.
     #[inline(always)]
-    pub fn answer(self, out: Out, outcome: Outcome) -> (Answer, Give<Answer>)
+    pub fn answer(self, out: Out<K>, outcome: Outcome) -> (Answer<K>, Give<Answer<K>>)
         requires { IsAnswer self.plan self.origin out outcome }
         ensures answer { result.0 ≡ record { plan = self.plan; origin = self.origin; out = out; outcome = outcome } }
         ensures give { result.1 ≡ tag self.plan self.origin }

@@ -14,10 +14,10 @@ destination_of (destination.Spawned height target) = meaning.Spawned height targ
 destination_of (destination.Looped target) = meaning.Looped target
 destination_of destination.Half = meaning.Half
 
-abbrev pub awaited_child : Origin → AfterChild → AwaitedChild
+abbrev pub awaited_child : {K : Type 0} → Origin → AfterChild K → AwaitedChild
 awaited_child child b = record { child = child; destination = destination_of b.destination; after = b.events }
 
-abbrev pub awaited_children : List Origin → List AfterChild → List AwaitedChild
+abbrev pub awaited_children : {K : Type 0} → List Origin → List (AfterChild K) → List AwaitedChild
 awaited_children [] bs = []
 awaited_children (o ∷ os) [] = []
 awaited_children (o ∷ os) (b ∷ bs) = awaited_child o b ∷ awaited_children os bs
@@ -27,7 +27,7 @@ awaited [] = []
 awaited (p ∷ ps) = p.child ∷ awaited ps
 
 -- A trace has these events before its first child, this fault, and this after its children.
-pub record IsParted (trace : Trace) (prefix : List Event) (fault : Option Fault) (after : List AfterChild) : Type 0 where
+pub record IsParted {K : Type 0} (trace : Trace) (prefix : List Event) (fault : Option Fault) (after : List (AfterChild K)) : Type 0 where
   pub children : List Origin
   pub many : length children ≡ length after
   pub is : ◌≡◌ {A = Trace} (record { prefix = prefix; fault = fault; handed = awaited_children children after }) trace

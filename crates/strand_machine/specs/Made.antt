@@ -33,81 +33,81 @@ pub record LeadsTo (first now : TaskView) : Type 0 where
   pub cut : now.cut ≡ None
 
 -- Moves of a task in a row, and the next move or stop after them.
-pub record IsRun (t : TaskView) (s : MoveOrStop) : Type 0 where
+pub record IsRun {K : Type 0} (t : TaskView) (s : MoveOrStop K) : Type 0 where
   pub before : TaskView
   pub leads : LeadsTo t before
   pub step : IsStep before s
 
 -- An instance that goes on makes moves in a row. Else it is one move or stop.
-abbrev pub stage_goes_on : meaning.Stage → TaskView → MoveOrStop → Type 0
+abbrev pub stage_goes_on : {K : Type 0} → meaning.Stage → TaskView → MoveOrStop K → Type 0
 stage_goes_on (meaning.Running m) = IsRun
 stage_goes_on _ = IsStep
 
-abbrev pub remaining_goes_on : meaning.Remaining → TaskView → MoveOrStop → Type 0
+abbrev pub remaining_goes_on : {K : Type 0} → meaning.Remaining → TaskView → MoveOrStop K → Type 0
 remaining_goes_on (meaning.Runs stage) = stage_goes_on stage
 remaining_goes_on _ = IsStep
 
-abbrev pub StepsOn : TaskView → MoveOrStop → Type 0
+abbrev pub StepsOn : {K : Type 0} → TaskView → MoveOrStop K → Type 0
 StepsOn t = remaining_goes_on t.task.remaining t
 
 -- that a task may end so, and its end: by the fault in its trace, or else so
-abbrev pub CanEnd : TaskState → Outcome → Type 0
+abbrev pub CanEnd : {K : Type 0} → TaskState K → Outcome → Type 0
 CanEnd b o = IsAnswer b.family.plan b.family.origin b.trace.prefix (ended_by b.trace.fault o)
 
-abbrev pub ended_move : TaskState → Outcome → MoveOrStop
+abbrev pub ended_move : {K : Type 0} → TaskState K → Outcome → MoveOrStop K
 ended_move b o =
     step.Stops
     (stop.Done (record { plan = b.family.plan; origin = b.family.origin; out = b.trace.prefix; outcome = ended_by b.trace.fault o })
     (tag b.family.plan b.family.origin))
 
 -- The move or stop that left the task's parts so.
-abbrev pub made : Parts → Passed → MoveOrStop
+abbrev pub made : {K : Type 0} → Parts K → Passed K → MoveOrStop K
 made p passed.Continues = step.Passes (view_of p.state p.remaining)
 made p passed.Waits = step.Stops (stop.Wait (view_of p.state p.remaining))
 made p (passed.Spawned child) = step.Stops (stop.Spawn child (view_of p.state p.remaining))
 made p (passed.Ends outcome) = ended_move p.state outcome
 
 -- What holds of the parts then: what remains is sound, or the task may end so.
-abbrev pub IsSoundMade : Parts → Passed → Type 0
+abbrev pub IsSoundMade : {K : Type 0} → Parts K → Passed K → Type 0
 IsSoundMade p passed.Continues = IsSound p.state p.remaining
 IsSoundMade p passed.Waits = IsSound p.state p.remaining
 IsSoundMade p (passed.Spawned child) = IsSound p.state p.remaining
 IsSoundMade p (passed.Ends outcome) = CanEnd p.state outcome
 
 -- The task doesn't go on by itself.
-abbrev pub IsStopped : Passed → Type 0
+abbrev pub IsStopped : {K : Type 0} → Passed K → Type 0
 IsStopped passed.Continues = ⊥
 IsStopped passed.Waits = Unit {0}
 IsStopped (passed.Spawned child) = Unit {0}
 IsStopped (passed.Ends outcome) = Unit {0}
 
 -- A fault by which the task ended is one of its plan's.
-abbrev pub KnowsEnd : Parts → Passed → Type 0
+abbrev pub KnowsEnd : {K : Type 0} → Parts K → Passed K → Type 0
 KnowsEnd p passed.Continues = Unit {0}
 KnowsEnd p passed.Waits = Unit {0}
 KnowsEnd p (passed.Spawned child) = Unit {0}
 KnowsEnd p (passed.Ends outcome) = IsByFaultOf p.state.family.plan (ended_by p.state.trace.fault outcome)
 
 -- The task has ended, and still has this answer.
-abbrev pub KeepsAnswer : AnswerView → Paused → Type 0
+abbrev pub KeepsAnswer : {K : Type 0} → AnswerView → Paused K → Type 0
 KeepsAnswer answer (paused.Spawn child rest) = ⊥
 KeepsAnswer answer (paused.Wait rest) = ⊥
 KeepsAnswer answer (paused.Ended rest) =
     (rest.task.plan ≡ answer.plan) × (rest.task.origin ≡ answer.origin) × (rest.task.trace.prefix ≡ answer.out) × (rest.cut ≡ Some answer.outcome)
 
 -- It is this stop.
-abbrev pub PausesAs : MoveOrStop → Paused → Type 0
+abbrev pub PausesAs : {K : Type 0} → MoveOrStop K → Paused K → Type 0
 PausesAs (step.Passes next) p = ⊥
 PausesAs (step.Stops (stop.Spawn child rest)) p = p ≡ paused.Spawn child rest
 PausesAs (step.Stops (stop.Wait rest)) p = p ≡ paused.Wait rest
 PausesAs (step.Stops (stop.Done answer give)) p = KeepsAnswer answer p
 
 -- It is a stop, the task's next one.
-abbrev pub StopsSo : TaskView → MoveOrStop → Type 0
+abbrev pub StopsSo : {K : Type 0} → TaskView → MoveOrStop K → Type 0
 StopsSo t (step.Passes next) = ⊥
 StopsSo t (step.Stops stop) = IsStop t stop
 
 -- What became of a wait, by whether all children have answered.
-abbrev pub resumed_as : Bool → TaskView → Resumed
+abbrev pub resumed_as : {K : Type 0} → Bool → TaskView → Resumed K
 resumed_as true next = resumed.On next
 resumed_as false same = resumed.NotYet same

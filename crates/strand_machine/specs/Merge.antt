@@ -55,7 +55,7 @@ StageFinds plan destination stage = FindsDestination plan (functions_at stage) d
 abbrev pub RemainingFinds : PlanView → machine.Destination → meaning.Remaining → Type 0
 RemainingFinds plan destination w = FindsDestination plan (functions_left w) destination
 
-abbrev pub RemainingFindsAll : PlanView → List AfterChild → meaning.Remaining → Type 0
+abbrev pub RemainingFindsAll : {K : Type 0} → PlanView → List (AfterChild K) → meaning.Remaining → Type 0
 RemainingFindsAll plan [] w = Unit {0}
 RemainingFindsAll plan (b ∷ bs) w = RemainingFinds plan (destination_of b.destination) w × RemainingFindsAll plan bs w
 
@@ -79,11 +79,11 @@ pub record Merge : Type 0 where
   pub cut : Bool
   pub by_cut : Bool
 
-abbrev pub merge_of : Parts → Merging → Merge
+abbrev pub merge_of : {K : Type 0} → Parts K → Merging → Merge
 merge_of p h = record { prefix = p.state.trace.prefix; fault = p.state.trace.fault; values = p.state.values; remaining = p.remaining; cut = h.cut; by_cut = h.by_cut }
 
 -- An answer changes nothing else, and none is awaited.
-pub record KeepsRest (before after : Parts) : Type 0 where
+pub record KeepsRest {K : Type 0} (before after : Parts K) : Type 0 where
   pub state : after.state ≡ record before.state { trace = after.state.trace; values = after.state.values }
   pub handed : after.state.trace.handed ≡ []
 
@@ -142,7 +142,7 @@ meanings [] = []
 meanings (t ∷ ts) = eval t.plan t.origin ∷ meanings ts
 
 -- What holds of a task whose children's answers are at hand: those of all children that it handed out were taken from its join.
-pub record HasTakenAnswers (b : TaskState) (w : Remaining) : Type 0 where
+pub record HasTakenAnswers {K : Type 0} (b : TaskState K) (w : Remaining) : Type 0 where
   pub task : IsTask (task_of b w)
   pub taken : length b.family.taken ≡ length b.family.children
   pub of_plan : RemainsAt b.family.plan b.family.origin w

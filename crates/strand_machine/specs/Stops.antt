@@ -1,5 +1,5 @@
 -- What a call on a task gives, by the meaning of tasks.
-use Rattle.std.specs.Prelude.{◌≡◌, ℕ, Bool, true, false, ◌||◌, List, [], ◌∷◌, ◌++◌, Option, Some, None}
+use Rattle.std.specs.Prelude.{◌≡◌, ℕ, Bool, true, false, ◌||◌, List, [], ◌∷◌, ◌++◌, Some, None}
 use Rattle.serial_meaning.specs.Answer.{AnswerView, AnswerTag}
 use Rattle.serial_meaning.specs.Eval.{eval}
 use Rattle.serial_meaning.specs.Laws.{IsOriginOf}
@@ -24,63 +24,63 @@ use Rattle.strand_machine.specs.declared.stop.MoveOrStop.TheVariants as step
 use Rattle.strand_machine.specs.declared.stop.Resumed.{Resumed}
 use Rattle.strand_machine.specs.declared.stop.Resumed.TheVariants as resumed
 
-abbrev pub stop_of : Stop → meaning.Stop
+abbrev pub stop_of : {K : Type 0} → Stop K → meaning.Stop
 stop_of (stop.Spawn child rest) = meaning.Spawn child.task.origin rest.task
 stop_of (stop.Wait rest) = meaning.Wait rest.task
 stop_of (stop.Done answer give) = meaning.End answer.out answer.outcome
 
-abbrev pub step_of : MoveOrStop → meaning.MoveOrStop
+abbrev pub step_of : {K : Type 0} → MoveOrStop K → meaning.MoveOrStop
 step_of (step.Passes next) = meaning.Passes next.task
 step_of (step.Stops stop) = meaning.Stops (stop_of stop)
 
 -- A child is a fresh task of the plan, and its origin is the last of those that the rest handed out. An answer is the origin's, and so is
 -- the give.
-abbrev pub KeepsFamily : TaskView → Stop → Type 0
+abbrev pub KeepsFamily : {K : Type 0} → TaskView → Stop K → Type 0
 KeepsFamily t (stop.Spawn child rest) =
     (child ≡ fresh t.task.plan child.task.origin) × (rest.children ≡ t.children ++ child.task.origin ∷ []) × (rest.loads ≡ t.loads) × (rest.cut ≡ None)
 KeepsFamily t (stop.Wait rest) = (rest.children ≡ t.children) × (rest.loads ≡ t.loads) × (rest.cut ≡ None)
 KeepsFamily t (stop.Done answer give) = (answer.plan ≡ t.task.plan) × (answer.origin ≡ t.task.origin) × (give ≡ tag t.task.plan t.task.origin)
 
-abbrev pub KeepsFamilyInStep : TaskView → MoveOrStop → Type 0
+abbrev pub KeepsFamilyInStep : {K : Type 0} → TaskView → MoveOrStop K → Type 0
 KeepsFamilyInStep t (step.Passes next) = (next.children ≡ t.children) × (next.loads ≡ t.loads) × (next.cut ≡ None)
 KeepsFamilyInStep t (step.Stops stop) = KeepsFamily t stop
 
 -- The next move or stop of a task.
-pub record IsStep (t : TaskView) (s : MoveOrStop) : Type 0 where
+pub record IsStep {K : Type 0} (t : TaskView) (s : MoveOrStop K) : Type 0 where
   pub is : meaning.step t.task ≡ step_of s
   pub keeps : KeepsFamilyInStep t s
 
 -- a child is of an origin of the plan, and a fault by which the task ended is one of the plan's
-abbrev pub IsKnownStop : TaskView → Stop → Type 0
+abbrev pub IsKnownStop : {K : Type 0} → TaskView → Stop K → Type 0
 IsKnownStop t (stop.Spawn child rest) = IsOriginOf t.task.plan child.task.origin
 IsKnownStop t (stop.Wait rest) = Unit {0}
 IsKnownStop t (stop.Done answer give) = IsFaultOf t.task.plan answer.outcome
 
 -- The next stop of a task.
-pub record IsStop (t : TaskView) (s : Stop) : Type 0 where
+pub record IsStop {K : Type 0} (t : TaskView) (s : Stop K) : Type 0 where
   pub next : IsNext t.task (stop_of s)
   pub keeps : KeepsFamily t s
   pub known : IsKnownStop t s
 
 -- The end of a task that took a cut, or that has ended and still has its answer.
-pub record IsCutEnd (t : TaskView) (ended : Outcome) (s : Stop) : Type 0 where
+pub record IsCutEnd {K : Type 0} (t : TaskView) (ended : Outcome) (s : Stop K) : Type 0 where
   pub is : s ≡ stop.Done (record { plan = t.task.plan; origin = t.task.origin; out = t.task.trace.prefix; outcome = ended }) (tag t.task.plan t.task.origin)
   pub known : IsByFaultOf t.task.plan ended
 
 -- A task has ended, and what is left of it answers so.
-pub record HasEnded (t rest : TaskView) : Type 0 where
+pub record HasEnded (K : Type 0) (t rest : TaskView) : Type 0 where
   pub outcome : Outcome
   pub cut : rest.cut ≡ Some outcome
-  pub stop : IsStop t (stop.Done (record { plan = rest.task.plan; origin = rest.task.origin; out = rest.task.trace.prefix; outcome = outcome }) (tag rest.task.plan rest.task.origin))
+  pub stop : IsStop {K = K} t (stop.Done (record { plan = rest.task.plan; origin = rest.task.origin; out = rest.task.trace.prefix; outcome = outcome }) (tag rest.task.plan rest.task.origin))
 
 -- The next stop of a task. One that has ended still has its answer.
-abbrev pub Pauses : TaskView → Paused → Type 0
-Pauses t (paused.Spawn child rest) = IsStop t (stop.Spawn child rest)
-Pauses t (paused.Wait rest) = IsStop t (stop.Wait rest)
-Pauses t (paused.Ended rest) = HasEnded t rest
+abbrev pub Pauses : {K : Type 0} → TaskView → Paused K → Type 0
+Pauses {K} t (paused.Spawn child rest) = IsStop {K = K} t (stop.Spawn child rest)
+Pauses {K} t (paused.Wait rest) = IsStop {K = K} t (stop.Wait rest)
+Pauses {K} t (paused.Ended rest) = HasEnded K t rest
 
 -- The next stop of a task that goes on, and else its end.
-pub record Advances (t : TaskView) (s : Stop) : Type 0 where
+pub record Advances {K : Type 0} (t : TaskView) (s : Stop K) : Type 0 where
   pub goes_on : t.cut ≡ None → IsStop t s
   pub has_ended : (ended : Outcome) → t.cut ≡ Some ended → IsCutEnd t ended s
 
@@ -128,7 +128,7 @@ abbrev pub looked : List ℕ → TaskView → TaskView
 looked loads t = record t { loads = loads; cut = None }
 
 -- The wait is over, and the task took these answers of its children; or it is as it was, and a look has loaded a number that isn't 0.
-abbrev pub IsResumed : TaskView → Resumed → Type 0
+abbrev pub IsResumed : {K : Type 0} → TaskView → Resumed K → Type 0
 IsResumed t (resumed.On next) =
     (answers : List AnswerView) × AreAnswersOf t.task.plan t.task.trace.handed answers × WentOn answers (looked next.loads t) next × HasPassed t.loads next.loads
 IsResumed t (resumed.NotYet same) = (same.task ≡ t.task) × (same.children ≡ t.children) × HasStopped t.loads same.loads × (same.cut ≡ t.cut)

@@ -64,7 +64,7 @@ abbrev pub is_cut_short : Option Outcome → Bool
 is_cut_short None = false
 is_cut_short (Some ended) = true
 
-abbrev pub task_with : TaskState → meaning.Remaining → Task
+abbrev pub task_with : {K : Type 0} → TaskState K → meaning.Remaining → Task
 task_with b w = record {
   plan = b.family.plan;
   origin = b.family.origin;
@@ -75,10 +75,10 @@ task_with b w = record {
   advanced = b.advanced;
 }
 
-abbrev pub task_of : TaskState → Remaining → Task
+abbrev pub task_of : {K : Type 0} → TaskState K → Remaining → Task
 task_of b w = task_with b (remaining_of b.family.plan w)
 
-abbrev pub view_of : TaskState → Remaining → TaskView
+abbrev pub view_of : {K : Type 0} → TaskState K → Remaining → TaskView
 view_of b w = record { task = task_of b w; children = b.family.children; loads = b.family.loads; cut = cut_of w }
 
 -- The join's last tags are those of the children whose answers aren't taken.
@@ -110,32 +110,32 @@ RemainsAt plan o (remaining.Finished v gone_on) = Unit {0}
 RemainsAt plan o (remaining.Ends ended) = ⊥
 
 -- What holds of a task that goes on: it hasn't ended, and took no cut.
-pub record IsSound (b : TaskState) (w : Remaining) : Type 0 where
+pub record IsSound {K : Type 0} (b : TaskState K) (w : Remaining) : Type 0 where
   pub task : IsTask (task_of b w)
   pub family : AwaitsLast b.family b.trace.handed
   pub of_plan : RemainsAt b.family.plan b.family.origin w
 
 -- What holds of a task that has ended, or that took a cut: it ends so.
-pub record IsCutShort (b : TaskState) (ended : Outcome) : Type 0 where
+pub record IsCutShort {K : Type 0} (b : TaskState K) (ended : Outcome) : Type 0 where
   pub answers : IsAnswer b.family.plan b.family.origin b.trace.prefix ended
   pub known : IsByFaultOf b.family.plan ended
   pub waits : b.waiting ≡ false
 
 -- What holds of a task at all times.
-abbrev pub HoldsOfTask : TaskState → Remaining → Type 0
+abbrev pub HoldsOfTask : {K : Type 0} → TaskState K → Remaining → Type 0
 HoldsOfTask b (remaining.Splits left) = IsSound b (remaining.Splits left)
 HoldsOfTask b (remaining.Runs s) = IsSound b (remaining.Runs s)
 HoldsOfTask b (remaining.Finished v gone_on) = IsSound b (remaining.Finished v gone_on)
 HoldsOfTask b (remaining.Ends ended) = IsCutShort b ended
 
 -- after a step; where it waits; where it handed out a child
-abbrev pub gone : TaskState → TaskState
+abbrev pub gone : {K : Type 0} → TaskState K → TaskState K
 gone b = record b { advanced = true }
 
-abbrev pub waiting : TaskState → TaskState
+abbrev pub waiting : {K : Type 0} → TaskState K → TaskState K
 waiting b = record b { waiting = true; advanced = true }
 
-abbrev pub with_child : TaskState → Origin → Destination → TaskState
+abbrev pub with_child : {K : Type 0} → TaskState K → Origin → Destination → TaskState K
 with_child b o p = record b { family = family_with_child b.family o; trace = add_child o (destination_of p) b.trace; advanced = true }
 
 -- the fault in the trace, or else so

@@ -16,12 +16,12 @@ use crate::stop::{Passed, Paused, Stop};
 use crate::task::Task;
 use crate::task_state::TaskState;
 use meet_block::Give;
-use serial_meaning::{Answer, Outcome};
+use serial_meaning::{Answer, Keep, Outcome};
 use std::alloc::Global;
 
 /// The task has ended so, but for a fault in its trace.
 #[inline(always)]
-fn keep_end(parts: &mut Parts, outcome: Outcome)
+fn keep_end<K: Keep>(parts: &mut Parts<K>, outcome: Outcome)
     requires can { CanEnd parts.old.state outcome }
     requires known { IsByFaultOf parts.old.state.family.plan (ended_by parts.old.state.trace.fault outcome) }
     ensures remaining { parts.new.remaining ≡ remaining.Ends (ended_by parts.old.state.trace.fault outcome) }
@@ -36,7 +36,7 @@ fn keep_end(parts: &mut Parts, outcome: Outcome)
 
 /// The task that came to a stop.
 #[inline(always)]
-fn paused(mut parts: Box<Parts>, passed: Passed) -> Paused
+fn paused<K: Keep>(mut parts: Box<Parts<K>>, passed: Passed<K>) -> Paused<K>
     requires sound { IsSoundMade parts.value passed }
     requires stops { IsStopped passed }
     requires known { KnowsEnd parts.value passed }
@@ -60,7 +60,7 @@ fn paused(mut parts: Box<Parts>, passed: Passed) -> Paused
     }
 }
 
-impl Task {
+impl<K: Keep> Task<K> {
     /// Whether it has ended, or took an answer that is a cut, so that it ends by its next advance.
     pub fn is_cut_short(&self) -> bool
         ensures { result ≡ is_cut_short self.now.cut }
@@ -70,9 +70,9 @@ impl Task {
 
     /// What it answers, of a task that has ended or took an answer that is a cut, and the give for it.
     #[inline(always)]
-    pub fn into_answer(self) -> (Answer, Give<Answer>)
+    pub fn into_answer(self) -> (Answer<K>, Give<Answer<K>>)
         requires { is_cut_short self.cut ≡ true }
-        ensures { Advances self (stop.Done result.0 result.1) }
+        ensures { Advances {K = K} self (stop.Done result.0 result.1) }
     {
         let Task { parts } = self;
         let Parts { state, remaining } = Box::into_inner(parts);
@@ -87,7 +87,7 @@ impl Task {
     /// Runs to the next stop: a child that is handed out, a wait, or the end. A task that waits stops at its wait again. On `Memory` it is
     /// dropped.
     #[inline(always)]
-    pub fn run(self, alloc: Global) -> Result<Paused, Memory>
+    pub fn run(self, alloc: Global) -> Result<Paused<K>, Memory>
         requires { self.cut ≡ None }
         ensures { IfOk result (Pauses self) }
     {
@@ -98,7 +98,7 @@ impl Task {
 
     /// The same, by which a task that has ended is left. One that took an answer that is a cut ends by the first fault or cut in the order of
     /// its trace.
-    pub fn advance(self, alloc: Global) -> Result<Stop, Memory>
+    pub fn advance(self, alloc: Global) -> Result<Stop<K>, Memory>
         ensures { IfOk result (Advances self) }
     {
         if self.is_cut_short() {
@@ -114,7 +114,7 @@ impl Task {
 }
 
 /// The end of a task that has ended or took an answer that is a cut.
-fn stop_done(task: Task) -> Stop
+fn stop_done<K: Keep>(task: Task<K>) -> Stop<K>
     requires { is_cut_short task.cut ≡ true }
     ensures { Advances task result }
 {

@@ -11,26 +11,26 @@ use crate::resume::go_on;
 use crate::task::Task;
 use meet_block::Give;
 use script_grammar::Items;
-use serial_meaning::{Answer, Outcome};
+use serial_meaning::{Answer, Keep, Outcome};
 use std::alloc::Global;
 
 /// Whether it is of an origin that ended by a fault.
-pub fn is_fault(answer: &Answer) -> bool
+pub fn is_fault<K: Keep>(answer: &Answer<K>) -> bool
     ensures { result ≡ is_fault answer.now.outcome }
 {
     matches!(answer.outcome, Outcome::Fault(_))
 }
 
-impl Task {
+impl<K: Keep> Task<K> {
     /// Ends by the answers of the children that it awaits, in order, of which the last one, `last`, is a fault. Nothing that stands
     /// after a fault counts, so what the task would do next isn't done: its answer is its own events and its children's answers, up to
     /// the first fault. None of them may be a cut. On `Memory` the task and the answers are dropped.
     pub fn end_by(
         self,
         alloc: Global,
-        answers: Items<Answer>,
-        last: Answer,
-    ) -> Result<(Answer, Give<Answer>), Memory>
+        answers: Items<Answer<K>>,
+        last: Answer<K>,
+    ) -> Result<(Answer<K>, Give<Answer<K>>), Memory>
         requires tags { answer_tags answers ++ tag last.plan last.origin ∷ [] ≡ tags self.task.plan (awaited self.task.trace.handed) }
         requires fault { is_fault last.outcome ≡ true }
         requires whole { any_cut answers ≡ false }

@@ -13,21 +13,20 @@ ghost use Rattle.strand_machine.specs.declared.remaining.Remaining.TheVariants a
 
 use crate::destination::Destination;
 use crate::memory::Memory;
-use crate::origin::share_origin;
 use crate::parts::Parts;
 use crate::remaining::{Remaining, Stage};
 use crate::replace::set_remaining;
 use crate::stop::Passed;
 use crate::task::Task;
 use crate::task_state::TaskState;
-use serial_meaning::{AnswerKey, Fault, Origin, Outcome, Value};
+use serial_meaning::{AnswerKey, Fault, Keep, Origin, Outcome, Value};
 use std::alloc::Global;
 use strand_family::Family;
 use strand_meaning::laws;
 use strand_moves::Child;
 
 /// The task goes on with this.
-pub(crate) fn pass(parts: &mut Parts, remaining: Remaining) -> Passed
+pub(crate) fn pass<K: Keep>(parts: &mut Parts<K>, remaining: Remaining) -> Passed<K>
     requires { IsSound (gone parts.old.state) remaining }
     ensures made { made parts.new result ≡ step.Passes (view_of (gone parts.old.state) remaining) }
     ensures sound { IsSoundMade parts.new result }
@@ -38,7 +37,7 @@ pub(crate) fn pass(parts: &mut Parts, remaining: Remaining) -> Passed
 }
 
 /// The task waits, and this remains.
-pub(crate) fn wait(parts: &mut Parts, remaining: Remaining) -> Passed
+pub(crate) fn wait<K: Keep>(parts: &mut Parts<K>, remaining: Remaining) -> Passed<K>
     requires { IsSound (waiting parts.old.state) remaining }
     ensures made { made parts.new result ≡ step.Stops (stop.Wait (view_of (waiting parts.old.state) remaining)) }
     ensures sound { IsSoundMade parts.new result }
@@ -50,7 +49,11 @@ pub(crate) fn wait(parts: &mut Parts, remaining: Remaining) -> Passed
 }
 
 /// Begins a child, and counts it among the family's. The key by which it is handed out is made of its own plan and origin.
-fn begin_child(family: &mut Family, alloc: Global, child: Child) -> Result<Task, Memory>
+fn begin_child<K: Keep>(
+    family: &mut Family<K>,
+    alloc: Global,
+    child: Child,
+) -> Result<Task<K>, Memory>
     requires known { IsOriginOf family.old.plan child.origin }
     requires trail { IsTrailOf family.old.plan child.origin child.trail }
     ensures child { IfOk result (λ task. task ≡ fresh family.old.plan child.origin) }
@@ -77,25 +80,18 @@ fn begin_child(family: &mut Family, alloc: Global, child: Child) -> Result<Task,
 }
 
 /// Begins a child whose value goes to this destination.
-fn hand_out(
-    state: &mut TaskState,
+fn hand_out<K: Keep>(
+    state: &mut TaskState<K>,
     alloc: Global,
     child: Child,
     destination: Destination,
-) -> Result<Task, Memory>
+) -> Result<Task<K>, Memory>
     requires known { IsOriginOf state.old.family.plan child.origin }
     requires trail { IsTrailOf state.old.family.plan child.origin child.trail }
     ensures child { IfOk result (λ task. task ≡ fresh state.old.family.plan child.origin) }
     ensures state { OnOk result (state.new ≡ with_child state.old child.origin destination) }
 {
-    let shared = match share_origin(alloc, &child.origin) {
-        Ok(shared) => shared,
-        Err(memory) => {
-            drop((child, destination));
-            return Err(memory);
-        }
-    };
-    match state.trace.add_child(shared, destination) {
+    match state.trace.add_child(&child.origin, destination) {
         Ok(()) => {
             state.advanced = true;
             begin_child(&mut state.family, alloc, child)
@@ -109,13 +105,13 @@ fn hand_out(
 
 /// The task hands out a child, and this remains.
 #[inline(always)]
-pub(crate) fn spawn(
-    parts: &mut Parts,
+pub(crate) fn spawn<K: Keep>(
+    parts: &mut Parts<K>,
     alloc: Global,
     child: Child,
     destination: Destination,
     remaining: Remaining,
-) -> Result<Passed, Memory>
+) -> Result<Passed<K>, Memory>
     requires known { IsOriginOf parts.old.state.family.plan child.origin }
     requires trail { IsTrailOf parts.old.state.family.plan child.origin child.trail }
     requires sound { IsSound (with_child parts.old.state child.origin destination) remaining }
@@ -136,7 +132,7 @@ pub(crate) fn spawn(
 }
 
 /// An instance that ended by a value: the task ends too, or else it was the last iteration of a loop.
-pub(crate) fn returned(parts: &mut Parts, value: Value) -> Passed
+pub(crate) fn returned<K: Keep>(parts: &mut Parts<K>, value: Value) -> Passed<K>
     requires { IsSound parts.old.state (remaining.Runs (stage.Returned value)) }
     ensures step { IsStep (view_of parts.old.state (remaining.Runs (stage.Returned value))) (made parts.new result) }
     ensures sound { IsSoundMade parts.new result }
@@ -149,7 +145,7 @@ pub(crate) fn returned(parts: &mut Parts, value: Value) -> Passed
 }
 
 /// An instance that ended by a fault of its own. The task waits for the children that it handed out, and then ends by it.
-pub(crate) fn faulted(parts: &mut Parts, fault: Fault) -> Passed
+pub(crate) fn faulted<K: Keep>(parts: &mut Parts<K>, fault: Fault) -> Passed<K>
     requires { IsSound parts.old.state (remaining.Runs (stage.Faulted fault)) }
     ensures step { IsStep (view_of parts.old.state (remaining.Runs (stage.Faulted fault))) (made parts.new result) }
     ensures sound { IsSoundMade parts.new result }

@@ -20,7 +20,7 @@ use crate::remaining::{Remaining, Stage};
 use crate::replace::set;
 use crate::trace::{AfterChild, Trace};
 use script_grammar::Items;
-use serial_meaning::{Answer, Fault, Out, Outcome, Plan, Value};
+use serial_meaning::{Answer, Fault, Keep, Out, Outcome, Plan, Value};
 use std::alloc::Global;
 use strand_moves::Instance;
 use strand_values::Target;
@@ -215,11 +215,11 @@ fn merge_remaining(
 
 impl Merging {
     /// The events of an answer join the trace, and where it is neither a fault nor a cut then those after the child.
-    fn merge_events(
+    fn merge_events<K: Keep>(
         &mut self,
-        trace: &mut Trace,
-        events: Out,
-        after: Out,
+        trace: &mut Trace<K>,
+        events: Out<K>,
+        after: Out<K>,
         outcome: &Outcome,
     ) -> Result<(), Memory>
         requires { trace.old.handed ≡ [] }
@@ -305,12 +305,12 @@ fn merge_value(
 }
 
 /// A task that awaits no child any more takes a child's answer.
-pub(crate) fn merge_answer(
-    parts: &mut Parts,
+pub(crate) fn merge_answer<K: Keep>(
+    parts: &mut Parts<K>,
     merging: &mut Merging,
     alloc: Global,
-    after: AfterChild,
-    answer: Answer,
+    after: AfterChild<K>,
+    answer: Answer<K>,
 ) -> Result<(), Memory>
     requires handed { parts.old.state.trace.handed ≡ [] }
     requires of_plan { IsRemainingOfPlan parts.old.state.family.plan parts.old.remaining }

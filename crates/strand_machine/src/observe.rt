@@ -22,7 +22,7 @@ use crate::step::{pass_with, run, stepped};
 use crate::stop::{MoveOrStop, Passed, Stop};
 use crate::task::Task;
 use ped_path::Pedigree;
-use serial_meaning::{Event, Fault, Out};
+use serial_meaning::{All, Event, Fault, Out};
 use std::alloc::Global;
 use std::mem;
 use strand_meaning::laws;
@@ -32,11 +32,11 @@ use strand_moves::{Effects, Instance, MoveResult};
 #[derive(Drop)]
 pub struct ObservedStop {
     /// Where the task stopped.
-    pub stop: Stop,
+    pub stop: Stop<All>,
     /// What was seen of the pedigree up to there.
     pub eye: Eye,
     /// The task's own events with the pedigree that came in this call, in order.
-    pub events: Out,
+    pub events: Out<All>,
     /// The task's own fault, if it came in this call.
     pub fault: Option<Fault>,
     /// The least fault of the children for which the task waited, if the task ended by it in this call.
@@ -47,7 +47,7 @@ pub struct ObservedStop {
 #[derive(Drop)]
 pub(crate) struct Observed {
     pub eye: Eye,
-    pub events: Out,
+    pub events: Out<All>,
     pub fault: Option<Fault>,
     pub child_fault: Option<Fault>,
 }
@@ -116,12 +116,12 @@ impl Observed {
 
 /// One move of the instance, which is observed.
 fn go_observed(
-    parts: &mut Parts,
+    parts: &mut Parts<All>,
     alloc: Global,
     at: &Pedigree,
     mut instance: Instance,
     observation: &mut Observed,
-) -> Result<Passed, Memory>
+) -> Result<Passed<All>, Memory>
     requires { IsSound parts.old.state (remaining.Runs (stage.Running instance)) }
     ensures step { IfOk result (λ passed. IsStep (view_of parts.old.state (remaining.Runs (stage.Running instance))) (made parts.new passed)) }
     ensures sound { IfOk result (IsSoundMade parts.new) }
@@ -157,12 +157,12 @@ fn go_observed(
 
 /// A move of the task's instance, or its stop, by where the instance stands, which is observed.
 fn run_observed(
-    parts: &mut Parts,
+    parts: &mut Parts<All>,
     alloc: Global,
     at: &Pedigree,
     stage: Stage,
     observation: &mut Observed,
-) -> Result<Passed, Memory>
+) -> Result<Passed<All>, Memory>
     requires { IsSound parts.old.state (remaining.Runs stage) }
     ensures step { IfOk result (λ passed. IsStep (view_of parts.old.state (remaining.Runs stage)) (made parts.new passed)) }
     ensures sound { IfOk result (IsSoundMade parts.new) }
@@ -180,12 +180,12 @@ fn run_observed(
 
 /// A move of the task in place, or its stop, by what remains, which is observed.
 fn remaining_observed(
-    parts: &mut Parts,
+    parts: &mut Parts<All>,
     alloc: Global,
     at: &Pedigree,
     remaining: Remaining,
     observation: &mut Observed,
-) -> Result<Passed, Memory>
+) -> Result<Passed<All>, Memory>
     requires { IsSound parts.old.state remaining }
     ensures step { IfOk result (λ passed. IsStep (view_of parts.old.state remaining) (made parts.new passed)) }
     ensures sound { IfOk result (IsSoundMade parts.new) }
@@ -199,11 +199,11 @@ fn remaining_observed(
 
 /// A move of the task in place, or its stop, which is observed.
 fn pass_observed(
-    parts: &mut Parts,
+    parts: &mut Parts<All>,
     alloc: Global,
     at: &Pedigree,
     observation: &mut Observed,
-) -> Result<Passed, Memory>
+) -> Result<Passed<All>, Memory>
     requires { IsSound parts.old.state parts.old.remaining }
     ensures step { IfOk result (λ passed. IsStep (view_of parts.old.state parts.old.remaining) (made parts.new passed)) }
     ensures sound { IfOk result (IsSoundMade parts.new) }
@@ -215,11 +215,11 @@ fn pass_observed(
 
 /// A move of the task, or its stop, which is observed.
 fn step_observed(
-    task: Task,
+    task: Task<All>,
     alloc: Global,
     at: &Pedigree,
     observation: &mut Observed,
-) -> Result<MoveOrStop, Memory>
+) -> Result<MoveOrStop<All>, Memory>
     requires { task.cut ≡ None }
     ensures step { IfOk result (IsStep task) }
     ensures observation { OnOk result (observation.new ≡ with_step at.now (step_observation task.task) observation.old) }
@@ -229,7 +229,7 @@ fn step_observed(
     Ok(stepped(parts, passed))
 }
 
-impl Task {
+impl Task<All> {
     ghost use Rattle.strand_meaning.specs.Observation.{IsInstanceOrigin};
     ghost use Rattle.strand_machine.specs.Observed.{IsObserved};
 

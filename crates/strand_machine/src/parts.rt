@@ -5,21 +5,21 @@ use crate::memory::Memory;
 use crate::remaining::Remaining;
 use crate::task::Task;
 use crate::task_state::TaskState;
-use serial_meaning::{Fault, Out};
+use serial_meaning::{Fault, Keep, Out};
 use std::alloc::Global;
 use strand_family::Family;
 
 /// What stands in a task's box, where its moves change it in place.
 #[derive(Drop)]
-pub(crate) struct Parts {
-    pub state: TaskState,
+pub(crate) struct Parts<K: Keep> {
+    pub state: TaskState<K>,
     pub remaining: Remaining,
 }
 
-impl Parts {
+impl<K: Keep> Parts<K> {
     /// The task of these.
     #[inline(always)]
-    pub fn boxed(alloc: Global, parts: Parts) -> Result<Task, Memory>
+    pub fn boxed(alloc: Global, parts: Parts<K>) -> Result<Task<K>, Memory>
         requires { HoldsOfTask parts.state parts.remaining }
         ensures { IfOk result (λ task. task ≡ view_of parts.state parts.remaining) }
     {
@@ -35,7 +35,7 @@ impl Parts {
     /// What is left of a task that ends: its family, its events before the first child, and the fault in its trace, if there is one. Its
     /// box is given back.
     #[inline(always)]
-    pub fn end(parts: Box<Parts>) -> (Family, Out, Option<Fault>)
+    pub fn end(parts: Box<Parts<K>>) -> (Family<K>, Out<K>, Option<Fault>)
         ensures family { result.0 ≡ parts.value.state.family }
         ensures prefix { result.1 ≡ parts.value.state.trace.prefix }
         ensures fault { result.2 ≡ parts.value.state.trace.fault }

@@ -20,7 +20,7 @@ use crate::task::Task;
 use crate::trace::AfterChild;
 use meet_block::Look;
 use script_grammar::Items;
-use serial_meaning::{Answer, Fault, Outcome, Value};
+use serial_meaning::{Answer, Fault, Keep, Outcome, Value};
 use std::alloc::Global;
 use std::mem;
 use strand_family::Family;
@@ -28,11 +28,11 @@ use strand_meaning::laws;
 use strand_moves::Instance;
 
 /// The answers of the last children, of whom so many are awaited, in this list.
-fn take_answers(
-    family: &mut Family,
+fn take_answers<K: Keep>(
+    family: &mut Family<K>,
     awaited: u64,
-    room: Items<Answer>,
-) -> Result<Items<Answer>, Memory>
+    room: Items<Answer<K>>,
+) -> Result<Items<Answer<K>>, Memory>
     requires ready { family.old.ready ≡ true }
     requires last { AwaitsCount family.old awaited }
     requires room { room ≡ [] }
@@ -89,13 +89,13 @@ fn go_on_remaining(remaining: &mut Remaining) -> Result<(), Memory>
 }
 
 /// Takes the answers of all awaited children, in order. Their list comes back, and keeps its room.
-fn merge_all(
-    parts: &mut Parts,
+fn merge_all<K: Keep>(
+    parts: &mut Parts<K>,
     merging: &mut Merging,
     alloc: Global,
-    after: Vec<AfterChild>,
-    answers: Items<Answer>,
-) -> Result<Items<Answer>, Memory>
+    after: Vec<AfterChild<K>>,
+    answers: Items<Answer<K>>,
+) -> Result<Items<Answer<K>>, Memory>
     requires many { length answers ≡ length after.items }
     requires handed { parts.old.state.trace.handed ≡ [] }
     requires of_plan { IsRemainingOfPlan parts.old.state.family.plan parts.old.remaining }
@@ -127,7 +127,7 @@ fn end_of(fault: Option<Fault>, by_cut: bool) -> Option<Outcome>
 }
 
 /// What is left of a task that took a cut: it ends by the first fault or cut.
-fn cut_short(parts: &mut Parts, merging: &Merging)
+fn cut_short<K: Keep>(parts: &mut Parts<K>, merging: &Merging)
     requires ends { EndsShort parts.old.state.family (merge_of parts.old merging.now) }
     requires handed { parts.old.state.trace.handed ≡ [] }
     ensures short { IsShort parts.old.state.family (merge_of parts.old merging.now) parts.old.state.advanced (view_of parts.new.state parts.new.remaining) }
@@ -141,7 +141,7 @@ fn cut_short(parts: &mut Parts, merging: &Merging)
 }
 
 /// What is left of a task that took answers, none of them a cut: it goes on.
-fn end_wait(parts: &mut Parts) -> Result<(), Memory>
+fn end_wait<K: Keep>(parts: &mut Parts<K>) -> Result<(), Memory>
     ensures state { OnOk result (parts.new.state ≡ record parts.old.state { waiting = false }) }
     ensures remaining { OnOk result (BecomesRemaining (resumed_remaining [] []) parts.old.remaining parts.new.remaining) }
 {
@@ -150,11 +150,11 @@ fn end_wait(parts: &mut Parts) -> Result<(), Memory>
 }
 
 /// The task with its children's answers, whose list comes back.
-pub(crate) fn go_on(
-    parts: &mut Parts,
+pub(crate) fn go_on<K: Keep>(
+    parts: &mut Parts<K>,
     alloc: Global,
-    answers: Items<Answer>,
-) -> Result<Items<Answer>, Memory>
+    answers: Items<Answer<K>>,
+) -> Result<Items<Answer<K>>, Memory>
     requires sound { HasTakenAnswers parts.old.state parts.old.remaining }
     requires tags { answer_tags answers ≡ tags parts.old.state.family.plan (awaited parts.old.state.trace.handed) }
     ensures went { OnOk result (WentOn answers (view_of parts.old.state parts.old.remaining) (view_of parts.new.state parts.new.remaining)) }
@@ -183,21 +183,21 @@ pub(crate) fn go_on(
 
 /// Looks once. Where all children have answered, the task goes on with their answers, and it is said so. They are taken in this list, which
 /// comes back empty.
-fn look_on(
-    parts: &mut Parts,
+fn look_on<K: Keep>(
+    parts: &mut Parts<K>,
     alloc: Global,
-    room: Items<Answer>,
-) -> Result<(bool, Items<Answer>), Memory>
+    room: Items<Answer<K>>,
+) -> Result<(bool, Items<Answer<K>>), Memory>
     requires sound { IsSound parts.old.state parts.old.remaining }
     requires room { room ≡ [] }
-    ensures resumed { IfOk result (λ looked. IsResumed (view_of parts.old.state parts.old.remaining) (resumed_as looked.0 (view_of parts.new.state parts.new.remaining))) }
+    ensures resumed { IfOk result (λ looked. IsResumed (view_of parts.old.state parts.old.remaining) (resumed_as {K = K} looked.0 (view_of parts.new.state parts.new.remaining))) }
     ensures none { IfOk result (λ looked. looked.1 ≡ []) }
     ensures holds { OnOk result (HoldsOfTask parts.new.state parts.new.remaining) }
 {
     match parts.state.family.look() {
         Look::NotYet(_) => Ok((false, room)),
         Look::Ready => {
-            let awaited = parts.state.trace.awaited().as_slice().len() as u64;
+            let awaited = parts.state.trace.awaited_count();
             let answers = take_answers(&mut parts.state.family, awaited, room)?;
             let left = go_on(parts, alloc, answers)?;
             Ok((true, left))
@@ -205,13 +205,13 @@ fn look_on(
     }
 }
 
-impl Task {
+impl<K: Keep> Task<K> {
     /// Goes on from a wait, where a look finds that all children have answered. Where one of the answers is a cut, the task ends by its next
     /// advance. On `Memory` the task is dropped.
     ///
     /// It is for who resumes one task: `Resumed::NotYet(task)` gives it back as it was, to be asked again once a child has answered, and
     /// `Resumed::On(task)` is to be advanced. A hand resumes many, and goes by `resume_in`.
-    pub fn resume(self, alloc: Global) -> Result<Resumed, Memory>
+    pub fn resume(self, alloc: Global) -> Result<Resumed<K>, Memory>
         requires { self.task.waiting ≡ true }
         ensures { IfOk result (IsResumed self) }
     {
@@ -224,8 +224,8 @@ impl Task {
     pub fn resume_in(
         self,
         alloc: Global,
-        room: Items<Answer>,
-    ) -> Result<(Resumed, Items<Answer>), Memory>
+        room: Items<Answer<K>>,
+    ) -> Result<(Resumed<K>, Items<Answer<K>>), Memory>
         requires waits { self.task.waiting ≡ true }
         requires room { room ≡ [] }
         ensures resumed { IfOk result (λ resumed. IsResumed self resumed.0) }
@@ -241,7 +241,7 @@ impl Task {
 
     /// Goes on from a wait with these answers, those of the children that it awaits, in order. Where one of them is a cut, the task ends by
     /// its next advance. On `Memory` the task and the answers are dropped.
-    pub fn resume_with(self, alloc: Global, answers: Items<Answer>) -> Result<Task, Memory>
+    pub fn resume_with(self, alloc: Global, answers: Items<Answer<K>>) -> Result<Task<K>, Memory>
         requires waits { self.task.waiting ≡ true }
         requires tags { answer_tags answers ≡ tags self.task.plan (awaited self.task.trace.handed) }
         ensures { IfOk result (WentOn answers self) }
@@ -255,8 +255,8 @@ impl Task {
     pub fn resume_by(
         self,
         alloc: Global,
-        answers: Items<Answer>,
-    ) -> Result<(Task, Items<Answer>), Memory>
+        answers: Items<Answer<K>>,
+    ) -> Result<(Task<K>, Items<Answer<K>>), Memory>
         requires waits { self.task.waiting ≡ true }
         requires tags { answer_tags answers ≡ tags self.task.plan (awaited self.task.trace.handed) }
         ensures went { IfOk result (λ resumed. WentOn answers self resumed.0) }

@@ -17,6 +17,7 @@ use crate::parts::Parts;
 use crate::remaining::{Remaining, Stage};
 use crate::stop::Passed;
 use script_grammar::Boxed;
+use serial_meaning::Keep;
 use std::alloc::Global;
 use strand_meaning::laws;
 use strand_moves::{Effects, Instance, LoopedChild, MoveResult, SpawnedChild, Spawning};
@@ -30,12 +31,12 @@ fn unboxed<T>(boxed: Boxed<T>) -> T
 
 /// The spawn of a child joins the trace, and the child is handed out.
 #[inline(always)]
-fn show_spawn(
-    parts: &mut Parts,
+fn show_spawn<K: Keep>(
+    parts: &mut Parts<K>,
     alloc: Global,
     instance: Instance,
     spawning: Spawning,
-) -> Result<Passed, Memory>
+) -> Result<Passed<K>, Memory>
     requires { HasSoundEffects parts.old.state instance (effect.Spawned spawning.event spawning.spawned) }
     ensures step { let s = effect.Spawned spawning.event spawning.spawned in
         IfOk result (λ passed. step_of (made parts.new passed) ≡ stops_at (child_in (effects_of s)) (task_after_effects parts.old.state instance s)) }
@@ -55,12 +56,12 @@ fn show_spawn(
 }
 
 /// What a move showed joins the trace; a child is handed out.
-pub(crate) fn apply_effects(
-    parts: &mut Parts,
+pub(crate) fn apply_effects<K: Keep>(
+    parts: &mut Parts<K>,
     alloc: Global,
     instance: Instance,
     effects: Effects,
-) -> Result<Passed, Memory>
+) -> Result<Passed<K>, Memory>
     requires { HasSoundEffects parts.old.state instance effects }
     ensures step { IfOk result (λ passed. step_of (made parts.new passed) ≡ stops_at (child_in (effects_of effects)) (task_after_effects parts.old.state instance effects)) }
     ensures keeps { IfOk result (λ passed. KeepsFamilyInStep (view_of parts.old.state (remaining.Runs (stage.Running instance))) (made parts.new passed)) }
@@ -93,7 +94,11 @@ pub(crate) fn apply_effects(
 }
 
 /// Moves of the instance in a row, up to the first that shows more than an event, with the wait or the end that comes of it.
-pub(crate) fn go(parts: &mut Parts, alloc: Global, mut instance: Instance) -> Result<Passed, Memory>
+pub(crate) fn go<K: Keep>(
+    parts: &mut Parts<K>,
+    alloc: Global,
+    mut instance: Instance,
+) -> Result<Passed<K>, Memory>
     requires { IsSound parts.old.state (remaining.Runs (stage.Running instance)) }
     ensures step { IfOk result (λ passed. IsRun (view_of parts.old.state (remaining.Runs (stage.Running instance))) (made parts.new passed)) }
     ensures sound { IfOk result (IsSoundMade parts.new) }

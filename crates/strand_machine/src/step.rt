@@ -15,7 +15,7 @@ use crate::run::go;
 use crate::stop::{MoveOrStop, Passed, Stop};
 use crate::task::Task;
 use crate::task_state::TaskState;
-use serial_meaning::{Outcome, Value};
+use serial_meaning::{Keep, Outcome, Value};
 use std::alloc::Global;
 use std::mem;
 use strand_family::part_of;
@@ -23,7 +23,7 @@ use strand_meaning::laws;
 use strand_moves::Child;
 
 /// A loop of which these iterations are left: their lower half is handed out, and the last one is begun.
-fn split_loop(parts: &mut Parts, alloc: Global, left: Left) -> Result<Passed, Memory>
+fn split_loop<K: Keep>(parts: &mut Parts<K>, alloc: Global, left: Left) -> Result<Passed<K>, Memory>
     requires { IsSound parts.old.state (remaining.Splits left) }
     ensures step { IfOk result (λ passed. IsStep (view_of parts.old.state (remaining.Splits left)) (made parts.new passed)) }
     ensures sound { IfOk result (IsSoundMade parts.new) }
@@ -51,7 +51,11 @@ fn split_loop(parts: &mut Parts, alloc: Global, left: Left) -> Result<Passed, Me
 }
 
 /// A loop that ends with this value after those that were taken.
-fn end_loop_with(state: &mut TaskState, alloc: Global, value: Value) -> Result<Passed, Memory>
+fn end_loop_with<K: Keep>(
+    state: &mut TaskState<K>,
+    alloc: Global,
+    value: Value,
+) -> Result<Passed<K>, Memory>
     ensures ends { IfOk result (λ passed. passed ≡ Passed.Ends (outcome.Values (state.old.values ++ value ∷ []))) }
     ensures state { OnOk result (state.new ≡ record state.old { values = [] }) }
 {
@@ -61,7 +65,12 @@ fn end_loop_with(state: &mut TaskState, alloc: Global, value: Value) -> Result<P
 }
 
 /// A loop whose last iteration gave this value. Where it handed out a part it waits for it first.
-fn end_loop(parts: &mut Parts, alloc: Global, value: Value, gone_on: bool) -> Result<Passed, Memory>
+fn end_loop<K: Keep>(
+    parts: &mut Parts<K>,
+    alloc: Global,
+    value: Value,
+    gone_on: bool,
+) -> Result<Passed<K>, Memory>
     requires { IsSound parts.old.state (remaining.Finished value gone_on) }
     ensures step { IfOk result (λ passed. IsStep (view_of parts.old.state (remaining.Finished value gone_on)) (made parts.new passed)) }
     ensures sound { IfOk result (IsSoundMade parts.new) }
@@ -77,7 +86,11 @@ fn end_loop(parts: &mut Parts, alloc: Global, value: Value, gone_on: bool) -> Re
 }
 
 /// An instance, by where it stands.
-pub(crate) fn run(parts: &mut Parts, alloc: Global, stage: Stage) -> Result<Passed, Memory>
+pub(crate) fn run<K: Keep>(
+    parts: &mut Parts<K>,
+    alloc: Global,
+    stage: Stage,
+) -> Result<Passed<K>, Memory>
     requires { IsSound parts.old.state (remaining.Runs stage) }
     ensures step { IfOk result (λ passed. StepsOn (view_of parts.old.state (remaining.Runs stage)) (made parts.new passed)) }
     ensures sound { IfOk result (IsSoundMade parts.new) }
@@ -94,11 +107,11 @@ pub(crate) fn run(parts: &mut Parts, alloc: Global, stage: Stage) -> Result<Pass
 }
 
 /// A move of the task in place, or its stop, by what remains.
-pub(crate) fn pass_with(
-    parts: &mut Parts,
+pub(crate) fn pass_with<K: Keep>(
+    parts: &mut Parts<K>,
     alloc: Global,
     remaining: Remaining,
-) -> Result<Passed, Memory>
+) -> Result<Passed<K>, Memory>
     requires { IsSound parts.old.state remaining }
     ensures step { IfOk result (λ passed. StepsOn (view_of parts.old.state remaining) (made parts.new passed)) }
     ensures sound { IfOk result (IsSoundMade parts.new) }
@@ -112,7 +125,7 @@ pub(crate) fn pass_with(
 }
 
 /// A move of the task in place, or its stop.
-fn pass_on(parts: &mut Parts, alloc: Global) -> Result<Passed, Memory>
+fn pass_on<K: Keep>(parts: &mut Parts<K>, alloc: Global) -> Result<Passed<K>, Memory>
     requires { IsSound parts.old.state parts.old.remaining }
     ensures step { IfOk result (λ passed. StepsOn (view_of parts.old.state parts.old.remaining) (made parts.new passed)) }
     ensures sound { IfOk result (IsSoundMade parts.new) }
@@ -126,7 +139,7 @@ fn pass_on(parts: &mut Parts, alloc: Global) -> Result<Passed, Memory>
 }
 
 /// The end of a task: by the fault in its trace, or else so. Its box is given back.
-fn end(parts: Box<Parts>, outcome: Outcome) -> Stop
+fn end<K: Keep>(parts: Box<Parts<K>>, outcome: Outcome) -> Stop<K>
     requires { CanEnd parts.value.state outcome }
     ensures { MoveOrStop.Stops result ≡ ended_move parts.value.state outcome }
 {
@@ -143,7 +156,7 @@ fn end(parts: Box<Parts>, outcome: Outcome) -> Stop
 }
 
 /// The task with what it passed to.
-pub(crate) fn stepped(parts: Box<Parts>, passed: Passed) -> MoveOrStop
+pub(crate) fn stepped<K: Keep>(parts: Box<Parts<K>>, passed: Passed<K>) -> MoveOrStop<K>
     requires { IsSoundMade parts.value passed }
     ensures { result ≡ made parts.value passed }
 {
@@ -155,7 +168,7 @@ pub(crate) fn stepped(parts: Box<Parts>, passed: Passed) -> MoveOrStop
 
 /// Moves of the task in place, up to its next stop.
 #[inline(always)]
-pub(crate) fn run_on(parts: &mut Parts, alloc: Global) -> Result<Passed, Memory>
+pub(crate) fn run_on<K: Keep>(parts: &mut Parts<K>, alloc: Global) -> Result<Passed<K>, Memory>
     requires { IsSound parts.old.state parts.old.remaining }
     ensures stopped { IfOk result IsStopped }
     ensures stop { IfOk result (λ passed. StopsSo (view_of parts.old.state parts.old.remaining) (made parts.new passed)) }
@@ -173,7 +186,7 @@ pub(crate) fn run_on(parts: &mut Parts, alloc: Global) -> Result<Passed, Memory>
 
 /// The stop of a task that came to one.
 #[inline(always)]
-pub(crate) fn to_stop(parts: Box<Parts>, passed: Passed) -> Stop
+pub(crate) fn to_stop<K: Keep>(parts: Box<Parts<K>>, passed: Passed<K>) -> Stop<K>
     requires sound { IsSoundMade parts.value passed }
     requires stops { IsStopped passed }
     ensures { MoveOrStop.Stops result ≡ made parts.value passed }

@@ -11,8 +11,7 @@ use crate::parts::Parts;
 use crate::remaining::begun_remaining;
 use crate::task_state::TaskState;
 use meet_block::Give;
-use script_grammar::Items;
-use serial_meaning::{Answer, AnswerKey, Fault, Origin, Out, Outcome, Plan};
+use serial_meaning::{All, Answer, AnswerKey, Fault, Keep, Origin, Out, Outcome, Plan};
 use std::alloc::Global;
 use std::marker::Model;
 use std::sync::Arc;
@@ -23,11 +22,11 @@ use strand_moves::Child;
 /// An instance or a loop that can stop, hand out children and go on. Contracts see it by its meaning (docs/LANGUAGE.md, "Tasks"):
 /// to finish it gives the serial meaning of its origin, whoever runs its children.
 #[derive(Drop)]
-pub struct Task {
-    pub(crate) parts: Box<Parts>,
+pub struct Task<K: Keep = All> {
+    pub(crate) parts: Box<Parts<K>>,
 }
 
-impl Model for Task {
+impl<K: Keep> Model for Task<K> {
     ghost use Rattle.std.specs.Coded.{codes};
     ghost use Rattle.script_grammar.specs.contracts.tree.Stmt as statement_type;
     ghost use Rattle.serial_meaning.specs.contracts.plan.Plan as plan_type;
@@ -42,7 +41,7 @@ impl Model for Task {
     ghost invariant = { λ t. HoldsOfTask t.parts.value.state t.parts.value.remaining };
 }
 
-impl Task {
+impl<K: Keep> Task<K> {
     ghost use Rattle.std.specs.Prelude.{◌↔◌, IsTrue, [], false};
     ghost use Rattle.ped_path.specs.Path.{IsBefore};
     ghost use Rattle.serial_meaning.specs.Answer.{IsCut, start_of};
@@ -53,8 +52,8 @@ impl Task {
         alloc: Global,
         plan: Arc<Plan>,
         origin: Origin,
-        give: Give<Answer>,
-    ) -> Result<Task, Memory>
+        give: Give<Answer<K>>,
+    ) -> Result<Task<K>, Memory>
         requires give { give ≡ tag (arc_value plan) origin }
         requires known { IsOriginOf (arc_value plan) origin }
         ensures { IfOk result (λ task. task ≡ fresh (arc_value plan) origin) }
@@ -64,7 +63,7 @@ impl Task {
     }
 
     /// The same for a task for whose answer nobody looks, nor for those of the tasks below it: they are taken as they come.
-    pub fn alone(alloc: Global, plan: &Arc<Plan>, origin: Origin) -> Result<Task, Memory>
+    pub fn alone_keeping(alloc: Global, plan: &Arc<Plan>, origin: Origin) -> Result<Task<K>, Memory>
         requires { IsOriginOf (arc_value plan.now) origin }
         ensures { IfOk result (λ task. task ≡ fresh (arc_value plan.now) origin) }
     {
@@ -83,8 +82,8 @@ impl Task {
         alloc: Global,
         plan: Arc<Plan>,
         child: Child,
-        give: Give<Answer>,
-    ) -> Result<Task, Memory>
+        give: Give<Answer<K>>,
+    ) -> Result<Task<K>, Memory>
         requires give { give ≡ tag (arc_value plan) child.origin }
         requires known { IsOriginOf (arc_value plan) child.origin }
         requires trail { IsTrailOf (arc_value plan) child.origin child.trail }
@@ -157,7 +156,7 @@ impl Task {
     }
 
     /// Answers without having run: a fault of the plan stands before all that the task could do.
-    pub fn cut(self, by: Fault) -> (Answer, Give<Answer>)
+    pub fn cut(self, by: Fault) -> (Answer<K>, Give<Answer<K>>)
         requires fresh { self.task.advanced ≡ false }
         requires stands { IsCut self.task.plan self.task.origin by }
         ensures answer { result.0 ≡ record { plan = self.task.plan; origin = self.task.origin; out = []; outcome = Outcome.Cut by } }
@@ -166,13 +165,18 @@ impl Task {
         let Task { parts } = self;
         let (family, prefix, fault) = Parts::end(parts);
         drop((prefix, fault));
-        family.answer(Out::new(), Outcome::Cut { by })
+        family.answer(Out::none(), Outcome::Cut { by })
     }
+}
 
-    /// The children that it handed out and whose answers it hasn't taken, in order.
-    pub fn awaited(&self) -> &Items<Origin>
-        ensures { result.now ≡ awaited self.now.task.trace.handed }
+impl Task<All> {
+    ghost use Rattle.strand_machine.specs.Tasks.{fresh};
+
+    /// The same as `alone_keeping`, of a task that keeps all events.
+    pub fn alone(alloc: Global, plan: &Arc<Plan>, origin: Origin) -> Result<Task, Memory>
+        requires { IsOriginOf (arc_value plan.now) origin }
+        ensures { IfOk result (λ task. task ≡ fresh (arc_value plan.now) origin) }
     {
-        self.parts.state.trace.awaited()
+        Task::alone_keeping(alloc, plan, origin)
     }
 }

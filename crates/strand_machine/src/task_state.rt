@@ -2,29 +2,29 @@ ghost use Rattle.std.specs.Prelude.{◌≡◌, [], false};
 
 use crate::trace::Trace;
 use script_grammar::Items;
-use serial_meaning::{Origin, Value};
+use serial_meaning::{Keep, Origin, Value};
 use std::alloc::Global;
 use std::mem;
 use strand_family::Family;
 
 /// A task without what remains of it.
 #[derive(Drop)]
-pub(crate) struct TaskState {
-    pub family: Family,
-    pub trace: Trace,
+pub(crate) struct TaskState<K: Keep> {
+    pub family: Family<K>,
+    pub trace: Trace<K>,
     /// The values of a loop's iterations whose answers were taken, in order.
     pub values: Items<Value>,
     pub waiting: bool,
     pub advanced: bool,
 }
 
-impl TaskState {
+impl<K: Keep> TaskState<K> {
     ghost use Rattle.strand_meaning.specs.Trace.{no_trace};
     ghost use Rattle.strand_machine.specs.TaskStates.{is_long};
 
     /// That of a task of which nothing is done.
     #[inline(always)]
-    pub fn new(alloc: Global, family: Family) -> TaskState
+    pub fn new(alloc: Global, family: Family<K>) -> TaskState<K>
         ensures { result ≡ record { family = family; trace = no_trace; values = []; waiting = false; advanced = false } }
     {
         TaskState {

@@ -3,9 +3,8 @@ ghost use Rattle.strand_meaning.specs.Trace.{emit, add_child, no_trace};
 
 use crate::destination::Destination;
 use crate::memory::Memory;
-use crate::replace::set;
-use script_grammar::Items;
-use serial_meaning::{Event, Fault, Origin, Out, Outcome};
+use meet_block::KnownList;
+use serial_meaning::{Event, Fault, Keep, Origin, Out, Outcome};
 use std::alloc::Global;
 use std::marker::Model;
 use std::mem;
@@ -13,55 +12,54 @@ use strand_moves::EventSink;
 
 /// Where a child's value goes, and the task's own events after it, up to the next child.
 #[derive(Drop)]
-pub(crate) struct AfterChild {
+pub(crate) struct AfterChild<K: Keep> {
     pub destination: Destination,
-    pub events: Out,
+    pub events: Out<K>,
 }
 
 /// What a task gave so far, in the order of the serial elision: the events before the first child whose answer isn't taken, the
 /// fault that ends these, if there is one, and then the children with the events after each.
 #[derive(Drop)]
-pub(crate) struct Trace {
-    pub prefix: Out,
+pub(crate) struct Trace<K: Keep> {
+    pub prefix: Out<K>,
     pub fault: Option<Fault>,
-    pub awaited: Items<Origin>,
-    pub after: Vec<AfterChild>,
+    pub awaited: KnownList<Origin>,
+    pub after: Vec<AfterChild<K>>,
 }
 
-impl Model for Trace {
+impl<K: Keep> Model for Trace<K> {
     ghost use Rattle.std.specs.Prelude.{◌≡◌, length};
     ghost use Rattle.strand_meaning.specs.Trace.{Trace as TraceView};
     ghost use Rattle.strand_machine.specs.AwaitedChildren.{awaited_children};
 
     ghost Value = { TraceView };
 
-    ghost view = { λ p. record { prefix = p.prefix; fault = p.fault; handed = awaited_children p.awaited p.after.items } };
+    ghost view = { λ p. record { prefix = p.prefix; fault = p.fault; handed = awaited_children p.awaited.items p.after.items } };
 
-    ghost invariant = { λ p. length p.awaited ≡ length p.after.items };
+    ghost invariant = { λ p. length p.awaited.items ≡ length p.after.items };
 }
 
-impl Trace {
+impl<K: Keep> Trace<K> {
     ghost use Rattle.strand_machine.specs.AwaitedChildren.{IsParted, awaited, destination_of};
     ghost use Rattle.strand_machine.specs.Tasks.{ended_by};
 
     /// Nothing yet.
-    pub fn new(alloc: Global) -> Trace
+    pub fn new(alloc: Global) -> Trace<K>
         ensures { result ≡ no_trace }
     {
         Trace {
-            prefix: Out::new(),
+            prefix: Out::none(),
             fault: None,
-            awaited: Items(Vec::new(alloc)),
+            awaited: KnownList::none(),
             after: Vec::new(alloc),
         }
     }
 
-    /// The children whose answers aren't taken, in order.
-    #[tactic(auto, using(crate::proofs::Moves::Handed::awaited_parts))]
-    pub fn awaited(&self) -> &Items<Origin>
-        ensures { result.now ≡ awaited self.now.handed }
+    /// How many children's answers aren't taken.
+    pub fn awaited_count(&self) -> u64
+        ensures { result ≡ length (awaited self.now.handed) }
     {
-        &self.awaited
+        self.after.len() as u64
     }
 
     /// One more event of the task's own.
@@ -84,32 +82,26 @@ impl Trace {
 
     /// One more child.
     #[tactic(auto, using(crate::proofs::Moves::Handed::parts_more))]
-    pub fn add_child(&mut self, child: Origin, destination: Destination) -> Result<(), Memory>
-        ensures { OnOk result (self.new ≡ add_child child (destination_of destination) self.old) }
+    pub fn add_child(&mut self, child: &Origin, destination: Destination) -> Result<(), Memory>
+        ensures { OnOk result (self.new ≡ add_child child.now (destination_of destination) self.old) }
     {
         let room = if self.after.is_empty() {
             // most tasks hand out one or two children before they wait, and a list would begin with room for four
-            match self.awaited.0.try_reserve_exact(2) {
-                Ok(()) => self.after.try_reserve_exact(2),
-                Err(error) => Err(error),
-            }
+            self.after.try_reserve_exact(2)
         } else {
-            match self.awaited.0.try_reserve(1) {
-                Ok(()) => self.after.try_reserve(1),
-                Err(error) => Err(error),
-            }
+            self.after.try_reserve(1)
         };
         match room {
             Ok(()) => {}
             Err(error) => {
-                drop((child, destination));
+                drop(destination);
                 return Err(error.into());
             }
         }
-        self.awaited.0.push_reserved(child);
+        self.awaited = mem::replace(&mut self.awaited, KnownList::none()).with(child);
         self.after.push_reserved(AfterChild {
             destination,
-            events: Out::new(),
+            events: Out::none(),
         });
         Ok(())
     }
@@ -137,11 +129,11 @@ impl Trace {
 
     /// Takes the children out, with what stands after each.
     #[inline(always)]
-    pub fn take_children(&mut self, alloc: Global) -> Vec<AfterChild>
+    pub fn take_children(&mut self, alloc: Global) -> Vec<AfterChild<K>>
         ensures parted { IsParted self.old self.old.prefix self.old.fault result.items }
         ensures rest { self.new ≡ record self.old { handed = [] } }
     {
-        set(&mut self.awaited, Items(Vec::new(alloc)));
+        self.awaited = KnownList::none();
         mem::replace(&mut self.after, Vec::new(alloc))
     }
 
@@ -156,7 +148,7 @@ impl Trace {
 
     /// The events before the first child, and the fault that ends them, if there is one.
     #[inline(always)]
-    pub fn prefix(self) -> (Out, Option<Fault>)
+    pub fn prefix(self) -> (Out<K>, Option<Fault>)
         ensures prefix { result.0 ≡ self.prefix }
         ensures fault { result.1 ≡ self.fault }
     {
@@ -165,7 +157,7 @@ impl Trace {
     }
 }
 
-impl EventSink for Trace {
+impl<K: Keep> EventSink for Trace<K> {
     ghost after = { emit };
 
     #[inline(always)]

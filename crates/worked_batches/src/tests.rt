@@ -7,8 +7,8 @@ use ped_gen::{Shape, gen_script};
 use script_check::check;
 use script_grammar::Items;
 use script_text::{MAX_BYTES, parse};
-use seed_batch::{render_batch, run_batch};
-use serial_meaning::{Limits, Origin, Plan, Show};
+use seed_batch::{render_batch, run_batch, run_batch_of_prints};
+use serial_meaning::{Answer, Keep, Limits, Origin, Out, Plan, Prints, Show};
 use std::alloc::{AllocError, Global};
 use std::fmt::{Debug, Display};
 use std::hint;
@@ -52,13 +52,24 @@ fn plan_under<R: Abort + AllocGlobal>(
     seed: u64,
     budget: u32,
 ) -> Result<Arc<Plan>, Fail> {
+    plan_showing(rt, script, seed, budget, Show::Plain)
+}
+
+/// The same, of which this is shown.
+fn plan_showing<R: Abort + AllocGlobal>(
+    rt: &R,
+    script: &[u8],
+    seed: u64,
+    budget: u32,
+    show: Show,
+) -> Result<Arc<Plan>, Fail> {
     let alloc = rt.alloc();
     assert!(rt; script.len() <= MAX_BYTES);
     let checked = check(alloc, parse(alloc, script)?)?;
     let gamma = Gamma::of_seed(alloc, seed, 64)?;
     assert!(rt; gamma.len() == 64 && budget > 0);
     let limits = Limits { depth: 64, budget };
-    let plan = Plan::new(checked, gamma, limits, Show::Plain, 4);
+    let plan = Plan::new(checked, gamma, limits, show, 4);
     Ok(Arc::new(alloc, plan)?)
 }
 
@@ -143,6 +154,61 @@ fn each_part_is_its_plans_own(rt: HostRuntime) -> Result<(), Fail> {
     let parts = b"seed 7\n5\n3\nseed 18446744073709551615\n0\n1\n4\n9\n16\nseed 0\n1\n2\n3\n";
     for workers in [1, 2, 3, 8, 64] {
         let printed = batch(&rt, &plans, &seeds, workers, &OpenGate)?;
+        same(&rt, workers, printed.as_slice(), parts.as_slice());
+    }
+    Ok(())
+}
+
+/// How many events there are, and how many of them are kept.
+fn counts<K: Keep>(events: &Out<K>) -> (u64, u64) {
+    let mut kept = 0u64;
+    if let Some((full, last)) = events.kept_chunks() {
+        for chunk in full {
+            kept = kept.wrapping_add(chunk.events().len() as u64);
+        }
+        kept = kept.wrapping_add(last.len() as u64);
+    }
+    (events.len(), kept)
+}
+
+/// The answers of a batch that keeps prints alone, by so many workers.
+fn answers_of_prints<R: Host>(
+    rt: &R,
+    plans: &Items<Arc<Plan>>,
+    workers: u32,
+) -> Result<Items<Answer<Prints>>, Fail> {
+    let count = plans.as_slice().len();
+    assert!(rt; count >= 1 && count <= 256);
+    assert!(rt; workers >= 1 && workers <= 64);
+    Ok(run_batch_of_prints(rt, rt.alloc(), plans, workers, &OpenGate)?)
+}
+
+// The first run spawns, syncs twice and prints twice, and the second has a loop and five prints.
+static COUNTED: [(u64, u64); 3] = [(5, 2), (6, 5), (3, 3)];
+
+#[test]
+fn a_batch_of_prints_keeps_them_alone(rt: HostRuntime) -> Result<(), Fail> {
+    let plans = plans_of(&rt, &SEEDED)?;
+    for workers in [1, 4] {
+        let answers = answers_of_prints(&rt, &plans, workers)?;
+        assert!(rt; answers.as_slice().len() == COUNTED.len());
+        for (answer, &wanted) in answers.as_slice().iter().zip(COUNTED.iter()) {
+            same(&rt, workers, counts(&answer.out), wanted);
+        }
+    }
+    Ok(())
+}
+
+// A log has the line of each object and draw too.
+#[test]
+fn a_part_is_a_log_where_its_plan_shows_one(rt: HostRuntime) -> Result<(), Fail> {
+    let script = b"fn main() { let o = new; print o; return 0; }";
+    let log = plan_showing(&rt, script, 3, MOST_STEPS, Show::Log)?;
+    let plain = plan_showing(&rt, script, 4, MOST_STEPS, Show::Plain)?;
+    let plans = Items(Vec::from_array(rt.alloc(), [log, plain])?);
+    for workers in [1, 4] {
+        let printed = batch(&rt, &plans, &[3, 4], workers, &OpenGate)?;
+        let parts = b"seed 3\nnew 0\n0\nseed 4\n0\n";
         same(&rt, workers, printed.as_slice(), parts.as_slice());
     }
     Ok(())

@@ -6,6 +6,7 @@ mod measures;
 mod runs;
 mod scopes;
 mod scripts;
+mod shows;
 mod simulations;
 mod strands;
 mod workers;

@@ -1,5 +1,6 @@
 -- A stop is dealt with as its kind wants.
 use Rattle.std.proofs.Common.{◌≡◌, ℕ, ◌<◌, Result, OnOk, length, slice_index_or, slice_set, sym, subst}
+use Rattle.serial_meaning.specs.declared.keep.All.{All}
 use Rattle.strand_machine.specs.declared.stop.Stop.{Stop}
 use Rattle.sched_core.specs.Moves.{Stalls, StallsTask, StopsAt, WorkerChanges}
 use Rattle.sched_core.specs.Workers.{WorkerView}
@@ -7,8 +8,8 @@ use Rattle.sched_core.specs.declared.job.Job.{Job}
 use Rattle.sched_core.specs.declared.state.CoreState.{CoreState}
 use Rattle.sched_core.proofs.Worked.Placing.{change-at}
 
-pub by-kind : {T E : Type 0} (r : Result T E) (w number : ℕ) (stop kind : Stop) (s next : CoreState) → stop ≡ kind → OnOk r (StopsAt w number kind s next) → OnOk r (StopsAt w number stop s next)
-by-kind r w number stop kind s next e h = subst (λ (k : Stop). OnOk r (StopsAt w number k s next)) (sym e) h
+pub by-kind : {T E : Type 0} (r : Result T E) (w number : ℕ) (stop kind : Stop All) (s next : CoreState) → stop ≡ kind → OnOk r (StopsAt w number kind s next) → OnOk r (StopsAt w number stop s next)
+by-kind r w number stop kind s next e h = subst (λ (k : Stop All). OnOk r (StopsAt w number k s next)) (sym e) h
 
 -- the rest of the task goes to the end of its worker's stalled tasks
 pub stalls-at : (w : ℕ) (rest : Job) (s next : CoreState) (v after : WorkerView) → v ≡ slice_index_or s.workers.items w v → w < length s.workers.items → next.workers.items ≡ slice_set s.workers.items w after →

@@ -8,6 +8,7 @@ use Rattle.serial_meaning.specs.Plan.{PlanView}
 use Rattle.serial_meaning.specs.declared.origin.Origin.{Origin}
 use Rattle.strand_meaning.specs.Laws.{IsFaultOf}
 use Rattle.strand_meaning.specs.Task.{End}
+use Rattle.serial_meaning.specs.declared.keep.All.{All}
 use Rattle.strand_machine.specs.Stops.{IsStop}
 use Rattle.strand_machine.specs.AwaitedChildren.{awaited}
 use Rattle.strand_machine.specs.declared.stop.Stop.TheVariants as stop
@@ -91,7 +92,7 @@ pub record HasEnded (w : ℕ) (a : AnswerView) (v : WorkerView) (s next : CoreSt
   pub runs : next.runs ≡ s.runs + 1
 
 module _ (s next : CoreState) (t : IsConsistent s) (none : s.root ≡ None) (w : ℕ) (v : WorkerView) (there : slice_get s.workers.items w ≡ Some v) (j : Job) (current : v.current ≡ Some j) where
-  module _ (a : AnswerView) (give : _) (stops : IsStop j.task (stop.Done a give)) (p : HasEnded w a v s next) where
+  module _ (a : AnswerView) (give : _) (stops : IsStop {K = All} j.task (stop.Done a give)) (p : HasEnded w a v s next) where
     abbrev pub own : IsJob s.nodes.items j
     own = own-job s t w v there j current
 

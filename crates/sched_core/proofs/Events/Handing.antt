@@ -4,6 +4,7 @@ use Rattle.std.proofs.Common.{◌≡◌, ℕ, ◌+◌, ◌≤◌, false, List, [
 use Rattle.strand_meaning.specs.Task.{Task, start, Spawn}
 use Rattle.strand_meaning.proofs.NextStops.OneSoundStop.{stops_keep_origins}
 use Rattle.strand_machine.specs.AwaitedChildren.{awaited}
+use Rattle.serial_meaning.specs.declared.keep.All.{All}
 use Rattle.strand_machine.specs.Stops.{IsStop}
 use Rattle.strand_machine.specs.Tasks.{TaskView}
 use Rattle.strand_machine.specs.declared.stop.Stop.TheVariants as stop
@@ -41,7 +42,7 @@ pub record HasSpawned (w : ℕ) (node : SpawnNode) (j child rest : Job) (v : Wor
   pub runs : next.runs ≡ s.runs + 1
 
 module _ (s next : CoreState) (t : IsConsistent s) (none : s.root ≡ None) (w : ℕ) (v : WorkerView) (there : slice_get s.workers.items w ≡ Some v) (j : Job) (current : v.current ≡ Some j) where
-  module _ (child rest : Job) (stops : IsStop j.task (stop.Spawn child.task rest.task)) (begun : child.number ≡ length s.nodes.items) (number : rest.number ≡ j.number) (node : SpawnNode) (found : slice_get s.nodes.items j.number ≡ Some node)
+  module _ (child rest : Job) (stops : IsStop {K = All} j.task (stop.Spawn child.task rest.task)) (begun : child.number ≡ length s.nodes.items) (number : rest.number ≡ j.number) (node : SpawnNode) (found : slice_get s.nodes.items j.number ≡ Some node)
       (p : HasSpawned w node j child rest v s next) where
     abbrev after : List SpawnNode
     after = spawning.after (plan_of s) s.given s.nodes.items t.nodes j.number node found (task_in child).origin

@@ -4,6 +4,7 @@ use Rattle.std.proofs.Common.{◌≡◌, ℕ, ◌+◌, ◌≤◌, false, [], ◌
 use Rattle.strand_meaning.specs.Task.{Stop, Wait, IsNext}
 use Rattle.strand_meaning.proofs.NextStops.OneSoundStop.{stops_keep_origins}
 use Rattle.strand_machine.specs.AwaitedChildren.{awaited}
+use Rattle.serial_meaning.specs.declared.keep.All.{All}
 use Rattle.strand_machine.specs.Stops.{IsStop}
 use Rattle.strand_machine.specs.declared.stop.Stop.TheVariants as stop
 use Rattle.sched_meaning.specs.Core as machine
@@ -108,7 +109,7 @@ pub record HasStalled (w : ℕ) (j rest : Job) (v : WorkerView) (s next : CoreSt
   pub runs : next.runs ≡ s.runs + 1
 
 module _ (s next : CoreState) (t : IsConsistent s) (none : s.root ≡ None) (w : ℕ) (v : WorkerView) (there : slice_get s.workers.items w ≡ Some v) (j : Job) (current : v.current ≡ Some j) (rest : Job) where
-  module _ (stops : IsStop j.task (stop.Wait rest.task)) (number : rest.number ≡ j.number) (p : HasStalled w j rest v s next) where
+  module _ (stops : IsStop {K = All} j.task (stop.Wait rest.task)) (number : rest.number ≡ j.number) (p : HasStalled w j rest v s next) where
     own : IsJob s.nodes.items j
     own = own-job s t w v there j current
 

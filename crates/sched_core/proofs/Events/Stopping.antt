@@ -2,6 +2,7 @@
 use Rattle.std.proofs.Common.{◌≡◌, ℕ, zero, suc, ◌+◌, ◌≤◌, ◌<◌, List, [], ◌∷◌, ◌++◌, Option, Some, None, Contains, slice_get, slice_set, length, refl, sym, ap, ◌∙◌, subst, arith}
 use Rattle.std.proofs.lemmas.Option.{slice_get_within}
 use Rattle.serial_meaning.specs.Answer.{AnswerView}
+use Rattle.serial_meaning.specs.declared.keep.All.{All}
 use Rattle.strand_machine.specs.Stops.{Advances, IsStop}
 use Rattle.strand_machine.specs.Tasks.{TaskView}
 use Rattle.strand_machine.specs.declared.stop.Stop.{Stop}
@@ -78,14 +79,14 @@ module _ (s mid : CoreState) (t : IsConsistent s) (w : ℕ) (j : Job) (lets : Wo
     hears = subst (λ ns. CanAnswer ns own.node.link) (sym keeps.nodes) (can-hear own.node.link ((t.nodes j.number own.node own.there).link fresh));
   }
 
-  stops-so : (to : Stop) → Advances j.task to → IsStop j.task to
+  stops-so : (to : Stop All) → Advances j.task to → IsStop j.task to
   stops-so to a = a.goes_on own.uncut
 
   -- The stop
 
   module _ (none : s.root ≡ None) (after next : CoreState) (workers : next.workers.items ≡ after.workers.items) (nodes : next.nodes.items ≡ after.nodes.items) (plan : next.plan ≡ after.plan) (given : next.given ≡ after.given) (root : next.root ≡ after.root)
       (runs : next.runs ≡ s.runs + 1) where
-    waits : (rest : TaskView) → IsStop j.task (stop.Wait rest) → StallsTask w (job rest j.number) mid after → StepsTo (Run w) s next
+    waits : (rest : TaskView) → IsStop {K = All} j.task (stop.Wait rest) → StallsTask w (job rest j.number) mid after → StepsTo (Run w) s next
     waits rest stops p = wait-goes s next t none w b.worker b.there j b.first.0 (job rest j.number) stops refl (record {
       workers = workers ∙ b.next_is ∙ ap (slice_set s.workers.items w) after-is;
       nodes = nodes ∙ p.nodes ∙ keeps.nodes;
@@ -101,7 +102,7 @@ module _ (s mid : CoreState) (t : IsConsistent s) (w : ℕ) (j : Job) (lets : Wo
         after-is : b.after ≡ record b.worker { current = None; stalled = b.worker.stalled ++ job rest j.number ∷ [] }
         after-is = b.second ∙ ap (λ (v : WorkerView). record v { stalled = v.stalled ++ job rest j.number ∷ [] }) b.first.1
 
-    spawns : (child rest : TaskView) → IsStop j.task (stop.Spawn child rest) → BeginsTask w j.number child rest mid after → StepsTo (Run w) s next
+    spawns : (child rest : TaskView) → IsStop {K = All} j.task (stop.Spawn child rest) → BeginsTask w j.number child rest mid after → StepsTo (Run w) s next
     spawns child rest stops p =
         spawn-goes s next t none w b.worker b.there j b.first.0 (job child p.begun) (job rest j.number) stops (p.begun_is ∙ ap length keeps.nodes) refl p.nodes.node found (record {
           workers = workers ∙ b.next_is ∙ ap (slice_set s.workers.items w) after-is;
@@ -122,7 +123,7 @@ module _ (s mid : CoreState) (t : IsConsistent s) (w : ℕ) (j : Job) (lets : Wo
         found : slice_get s.nodes.items j.number ≡ Some p.nodes.node
         found = ap (λ ns. slice_get ns j.number) (sym keeps.nodes) ∙ p.nodes.there
 
-    ends : (answer : AnswerView) (give : _) → IsStop j.task (stop.Done answer give) → PutsAnswer j.number answer mid after → StepsTo (Run w) s next
+    ends : (answer : AnswerView) (give : _) → IsStop {K = All} j.task (stop.Done answer give) → PutsAnswer j.number answer mid after → StepsTo (Run w) s next
     ends answer give stops p = by_link p.node.link refl p.goes
       where
         same : own.node ≡ p.node
@@ -143,7 +144,7 @@ module _ (s mid : CoreState) (t : IsConsistent s) (w : ℕ) (j : Job) (lets : Wo
             child-goes s next t none w lets.worker lets.there j lets.does.0 answer give stops state l (ap (λ (n : SpawnNode). n.link) same ∙ e) g.1.node (ap (λ ns. slice_get ns l.parent) (sym keeps.nodes) ∙ g.1.there) g.1.does.child g.1.does.there
             (nodes ∙ g.1.next_is ∙ ap (λ ns. slice_set ns l.parent g.1.after) keeps.nodes ∙ ap (slice_set s.nodes.items l.parent) g.1.does.next_is) (root ∙ g.0 ∙ keeps.root)
 
-    pub run-goes : (to : Stop) → Advances j.task to → StopsAt w j.number to mid after → StepsTo (Run w) s next
+    pub run-goes : (to : Stop All) → Advances j.task to → StopsAt w j.number to mid after → StepsTo (Run w) s next
     run-goes (stop.Spawn child rest) a at = spawns child rest (stops-so (stop.Spawn child rest) a) at
     run-goes (stop.Wait rest) a at = waits rest (stops-so (stop.Wait rest) a) at
     run-goes (stop.Done answer give) a at = ends answer give (stops-so (stop.Done answer give) a) at

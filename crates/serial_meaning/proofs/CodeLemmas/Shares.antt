@@ -3,6 +3,7 @@
 use denote.Param.Send.{IsSend, IsSync, view_send, view_sync, sendable}
 use denote.Param.SendFields.{declared_send, declared_sync}
 use denote.Builtin.{u32}
+use denote.RattleType.{RattleType}
 use Rattle.std.proofs.Crossing.{Arc-send, Arc-sync}
 use Rattle.std.specs.contracts.alloc.Global as global
 use Rattle.std.specs.contracts.impls.GlobalAllocator.TheImpl.{ghosts}
@@ -19,6 +20,7 @@ use Rattle.serial_meaning.specs.contracts.answer.Answer as answer
 use Rattle.serial_meaning.specs.contracts.answer.Answer.TheInside as answer_inside
 use Rattle.serial_meaning.specs.contracts.answer_key.AnswerKey as key
 use Rattle.serial_meaning.specs.contracts.answer_key.AnswerKey.TheInside as key_inside
+use Rattle.serial_meaning.specs.declared.keep.Keep.{Ghosts}
 use Rattle.serial_meaning.specs.contracts.known.Known as known
 use Rattle.serial_meaning.specs.contracts.known.Known.TheInside as known_inside
 use Rattle.serial_meaning.specs.contracts.plan.Plan as plan
@@ -50,17 +52,18 @@ shared_plan_sends = Arc-send plan.the_row plan_sends plan_syncs
 pub shared_plan_syncs : IsSync (arc.the_row plan.the_row global.the_row ghosts)
 shared_plan_syncs = Arc-sync plan.the_row plan_sends plan_syncs
 
-answer_inside_sends : IsSend answer_inside.the_row
-answer_inside_sends = declared_send answer_inside.the_type (shared_plan_sends, (origin_shared.the_send, (out_shared.the_send, (outcome_shared.the_send, tt))))
+module _ (K : RattleType) (keeps : Ghosts K.Denot) where
+  answer_inside_sends : IsSend (answer_inside.the_row K keeps)
+  answer_inside_sends = declared_send (answer_inside.the_type K keeps) (shared_plan_sends, (origin_shared.the_send, (out_shared.the_send K keeps, (outcome_shared.the_send, tt))))
 
-answer_inside_syncs : IsSync answer_inside.the_row
-answer_inside_syncs = declared_sync answer_inside.the_type (shared_plan_syncs, (origin_shared.the_sync, (out_shared.the_sync, (outcome_shared.the_sync, tt))))
+  answer_inside_syncs : IsSync (answer_inside.the_row K keeps)
+  answer_inside_syncs = declared_sync (answer_inside.the_type K keeps) (shared_plan_syncs, (origin_shared.the_sync, (out_shared.the_sync K keeps, (outcome_shared.the_sync, tt))))
 
-pub answer_sends : IsSend answer.the_row
-answer_sends = view_send answer_inside.the_row _ _ _ _ answer_inside_sends
+  pub answer_sends : IsSend (answer.the_row K keeps)
+  answer_sends = view_send (answer_inside.the_row K keeps) _ _ _ _ answer_inside_sends
 
-pub answer_syncs : IsSync answer.the_row
-answer_syncs = view_sync answer_inside.the_row _ _ _ _ answer_inside_syncs
+  pub answer_syncs : IsSync (answer.the_row K keeps)
+  answer_syncs = view_sync (answer_inside.the_row K keeps) _ _ _ _ answer_inside_syncs
 
 key_inside_sends : IsSend key_inside.the_row
 key_inside_sends = declared_send key_inside.the_type (shared_plan_sends, (origin_shared.the_send, tt))

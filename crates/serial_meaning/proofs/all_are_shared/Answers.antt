@@ -1,6 +1,8 @@
 use denote.Param.Send.{IsSend, IsSync, param_send, param_sync}
 use contract.Lifetimes.{Lfts}
 use Rattle.serial_meaning.proofs.CodeLemmas.Shares.{plan_sends, plan_syncs, answer_sends, answer_syncs, key_sends, key_syncs, known_sends, known_syncs}
+use Rattle.serial_meaning.specs.contracts.keep.All as all
+use Rattle.serial_meaning.specs.contracts.keep.AllKeep.TheImpl.{ghosts}
 use Rattle.serial_meaning.proofs.all_are_shared.Lts as types
 use Rattle.serial_meaning.proofs.all_are_shared.Goals as goal
 
@@ -12,10 +14,10 @@ plan_is_read : (κs : Lfts 1) → IsSync (types.arg-4-0 κs)
 plan_is_read κs = record { shared = plan_syncs.shared }
 
 answer_goes : (κs : Lfts 1) → IsSend (types.arg-5-0 κs)
-answer_goes κs = record { owned = answer_sends.owned; leaving = answer_sends.leaving }
+answer_goes κs = let sends = answer_sends all.the_row ghosts in record { owned = sends.owned; leaving = sends.leaving }
 
 answer_is_read : (κs : Lfts 1) → IsSync (types.arg-5-0 κs)
-answer_is_read κs = record { shared = answer_syncs.shared }
+answer_is_read κs = let syncs = answer_syncs all.the_row ghosts in record { shared = syncs.shared }
 
 key_goes : (κs : Lfts 1) → IsSend (types.arg-6-0 κs)
 key_goes κs = record { owned = key_sends.owned; leaving = key_sends.leaving }

@@ -50,13 +50,13 @@ use Rattle.strand_machine.specs.declared.remaining.Remaining.TheVariants as rema
 
 -- Sound moves
 
-sound-step : StepsAreSound → (b : TaskState) (w : Remaining) (s : meaning.MoveOrStop) → IsSound b w → meaning.step (task_of b w) ≡ s → IsSoundStep (task_of b w) s
+sound-step : {K : Type 0} → StepsAreSound → (b : TaskState K) (w : Remaining) (s : meaning.MoveOrStop) → IsSound b w → meaning.step (task_of b w) ≡ s → IsSoundStep (task_of b w) s
 sound-step steps_are_sound b w s h e = subst (IsSoundStep (task_of b w)) e (steps_are_sound (task_of b w) h.task)
 
-pub pass-sound : StepsAreSound → (b : TaskState) (w next : Remaining) → IsSound b w → meaning.step (task_of b w) ≡ meaning.Passes (task_of (gone b) next) → RemainsAt b.family.plan b.family.origin next → IsSound (gone b) next
+pub pass-sound : {K : Type 0} → StepsAreSound → (b : TaskState K) (w next : Remaining) → IsSound b w → meaning.step (task_of b w) ≡ meaning.Passes (task_of (gone b) next) → RemainsAt b.family.plan b.family.origin next → IsSound (gone b) next
 pass-sound law b w next h e of_plan = record { task = sound-step law b w (meaning.Passes (task_of (gone b) next)) h e; family = h.family; of_plan = of_plan }
 
-pub wait-sound : StepsAreSound → (b : TaskState) (w next : Remaining) → IsSound b w → meaning.step (task_of b w) ≡ meaning.Stops (meaning.Wait (task_of (waiting b) next)) → RemainsAt b.family.plan b.family.origin next → IsSound (waiting b) next
+pub wait-sound : {K : Type 0} → StepsAreSound → (b : TaskState K) (w next : Remaining) → IsSound b w → meaning.step (task_of b w) ≡ meaning.Stops (meaning.Wait (task_of (waiting b) next)) → RemainsAt b.family.plan b.family.origin next → IsSound (waiting b) next
 wait-sound law b w next h e of_plan = record { task = sound-step law b w (meaning.Stops (meaning.Wait (task_of (waiting b) next))) h e; family = h.family; of_plan = of_plan }
 
 awaited-append : (ps qs : List AwaitedChild) → awaited (ps ++ qs) ≡ awaited ps ++ awaited qs
@@ -80,7 +80,7 @@ awaits-more family parts p h = record {
       ∙ ap (λ l. h.passed ++ l) (one-more (length parts) ∙ ap (λ n. replicate n false) (sym (length-append parts (p ∷ []))));
 }
 
-pub spawn-sound : StepsAreSound → (b : TaskState) (w next : Remaining) (child : Origin) (p : Destination) → IsSound b w → meaning.step (task_of b w) ≡ meaning.Stops (meaning.Spawn child (task_of (with_child b child p) next)) →
+pub spawn-sound : {K : Type 0} → StepsAreSound → (b : TaskState K) (w next : Remaining) (child : Origin) (p : Destination) → IsSound b w → meaning.step (task_of b w) ≡ meaning.Stops (meaning.Spawn child (task_of (with_child b child p) next)) →
     RemainsAt b.family.plan b.family.origin next → IsOriginOf b.family.plan child × IsSound (with_child b child p) next
 spawn-sound law b w next child p h e of_plan =
     let s = sound-step law b w (meaning.Stops (meaning.Spawn child (task_of (with_child b child p) next))) h e in
@@ -101,14 +101,14 @@ answer-of plan o out (outcome.Values vs) e f = e
 answer-of plan o out (outcome.Fault g) e f = e
 answer-of plan o out (outcome.Cut g) e f = absurd f
 
-pub end-answers : StepsAreSound → (b : TaskState) (w : Remaining) (o : Outcome) → IsSound b w → meaning.step (task_of b w) ≡ ends (task_of b w) o → IsAnswer b.family.plan b.family.origin b.trace.prefix (ended_by b.trace.fault o)
+pub end-answers : {K : Type 0} → StepsAreSound → (b : TaskState K) (w : Remaining) (o : Outcome) → IsSound b w → meaning.step (task_of b w) ≡ ends (task_of b w) o → IsAnswer b.family.plan b.family.origin b.trace.prefix (ended_by b.trace.fault o)
 end-answers law b w o h e =
     let s = sound-step law b w (meaning.Stops (meaning.End b.trace.prefix (ended_by b.trace.fault o))) h (e ∙ ends-is (task_of b w) o) in
     answer-of b.family.plan b.family.origin b.trace.prefix (ended_by b.trace.fault o) s.0 s.1
 
 -- What a call gives
 
-pub end-is : (b : TaskState) (w : Remaining) (o : Outcome) (s : MadeStep) → meaning.step (task_of b w) ≡ ends (task_of b w) o → s ≡ ended_move b o → IsStep (view_of b w) s
+pub end-is : {K : Type 0} (b : TaskState K) (w : Remaining) (o : Outcome) (s : MadeStep K) → meaning.step (task_of b w) ≡ ends (task_of b w) o → s ≡ ended_move b o → IsStep (view_of b w) s
 end-is b w o s e h = rw h (record { is = e ∙ ends-is (task_of b w) o; keeps = (refl, refl, refl) })
 
 -- no work of a task that goes on is that of one that took a cut
@@ -118,13 +118,13 @@ of_plan-on plan o (remaining.Runs s) h = refl
 of_plan-on plan o (remaining.Finished v gone_on) h = refl
 of_plan-on plan o (remaining.Ends ended) h = absurd h
 
-pub pass-is : (b : TaskState) (w next : Remaining) (s : MadeStep) → RemainsAt b.family.plan b.family.origin next → meaning.step (task_of b w) ≡ meaning.Passes (task_of (gone b) next) → s ≡ step-in.Passes (view_of (gone b) next) → IsStep (view_of b w) s
+pub pass-is : {K : Type 0} (b : TaskState K) (w next : Remaining) (s : MadeStep K) → RemainsAt b.family.plan b.family.origin next → meaning.step (task_of b w) ≡ meaning.Passes (task_of (gone b) next) → s ≡ step-in.Passes (view_of (gone b) next) → IsStep (view_of b w) s
 pass-is b w next s of_plan e h = rw h (record { is = e; keeps = (refl, refl, of_plan-on b.family.plan b.family.origin next of_plan) })
 
-pub wait-is : (b : TaskState) (w next : Remaining) (s : MadeStep) → RemainsAt b.family.plan b.family.origin next → meaning.step (task_of b w) ≡ meaning.Stops (meaning.Wait (task_of (waiting b) next)) → s ≡ step-in.Stops (stop-in.Wait (view_of (waiting b) next)) → IsStep (view_of b w) s
+pub wait-is : {K : Type 0} (b : TaskState K) (w next : Remaining) (s : MadeStep K) → RemainsAt b.family.plan b.family.origin next → meaning.step (task_of b w) ≡ meaning.Stops (meaning.Wait (task_of (waiting b) next)) → s ≡ step-in.Stops (stop-in.Wait (view_of (waiting b) next)) → IsStep (view_of b w) s
 wait-is b w next s of_plan e h = rw h (record { is = e; keeps = (refl, refl, of_plan-on b.family.plan b.family.origin next of_plan) })
 
-pub spawn-is : (b : TaskState) (w next : Remaining) (child : Origin) (p : Destination) (s : MadeStep) → RemainsAt b.family.plan b.family.origin next → meaning.step (task_of b w) ≡ meaning.Stops (meaning.Spawn child (task_of (with_child b child p) next)) →
+pub spawn-is : {K : Type 0} (b : TaskState K) (w next : Remaining) (child : Origin) (p : Destination) (s : MadeStep K) → RemainsAt b.family.plan b.family.origin next → meaning.step (task_of b w) ≡ meaning.Stops (meaning.Spawn child (task_of (with_child b child p) next)) →
     s ≡ step-in.Stops (stop-in.Spawn (fresh b.family.plan child) (view_of (with_child b child p) next)) → IsStep (view_of b w) s
 spawn-is b w next child p s of_plan e h = rw h (record { is = e; keeps = (refl, refl, refl, of_plan-on b.family.plan b.family.origin next of_plan) })
 
@@ -134,7 +134,7 @@ only-half : (o : Origin) (left : Range) → loop_part o (lower_half left) ≡ fi
 only-half (Instance function args path) left = refl
 only-half (Loop function rest first path range) left = refl
 
-pub split-many : (b : TaskState) (left upper : Left) (lower : Range) (child : Origin) → 2 ≤ left.range.hi - left.range.lo → lower ≡ lower_half left.range → upper.range ≡ upper_half left.range → child ≡ loop_part b.family.origin lower →
+pub split-many : {K : Type 0} (b : TaskState K) (left upper : Left) (lower : Range) (child : Origin) → 2 ≤ left.range.hi - left.range.lo → lower ≡ lower_half left.range → upper.range ≡ upper_half left.range → child ≡ loop_part b.family.origin lower →
     meaning.step (task_of b (remaining.Splits left)) ≡ meaning.Stops (meaning.Spawn child (task_of (with_child b child destination.Half) (remaining.Splits upper)))
 split-many b left upper lower child h l u c = by_size (left.range.hi - left.range.lo) refl h
   where
@@ -148,10 +148,10 @@ split-many b left upper lower child h l u c = by_size (left.range.hi - left.rang
         ap (λ (o : Origin). meaning.Stops (meaning.Spawn o (task_with (with_child b o destination.Half) (meaning.Splits (upper_half left.range))))) (sym same)
         ∙ ap (λ (r : Range). meaning.Stops (meaning.Spawn child (task_with (with_child b child destination.Half) (meaning.Splits r)))) (sym u)
 
-pub split-none : (b : TaskState) (left : Left) → left.range.hi - left.range.lo ≡ 0 → meaning.step (task_of b (remaining.Splits left)) ≡ ends (task_of b (remaining.Splits left)) (outcome.Values b.values)
+pub split-none : {K : Type 0} (b : TaskState K) (left : Left) → left.range.hi - left.range.lo ≡ 0 → meaning.step (task_of b (remaining.Splits left)) ≡ ends (task_of b (remaining.Splits left)) (outcome.Values b.values)
 split-none b left e = ap (split_step (task_of b (remaining.Splits left)) left.range) e
 
-pub split-one : (b : TaskState) (left : Left) (next : Remaining) → left.range.hi - left.range.lo ≡ 1 → remaining_of b.family.plan next ≡ begins_last b.family.plan b.family.origin →
+pub split-one : {K : Type 0} (b : TaskState K) (left : Left) (next : Remaining) → left.range.hi - left.range.lo ≡ 1 → remaining_of b.family.plan next ≡ begins_last b.family.plan b.family.origin →
     meaning.step (task_of b (remaining.Splits left)) ≡ meaning.Passes (task_of (gone b) next)
 split-one b left next e begun =
     ap (split_step (task_of b (remaining.Splits left)) left.range) e
@@ -189,34 +189,34 @@ over-ends t v (Loop function rest first path range) h = by_size (range.hi - rang
     by_size (suc zero) g k = rw g refl
     by_size (suc (suc n)) g k = absurd (true≢false (long n ∙ rw g at k))
 
-pub over-long : (b : TaskState) (v : Value) (gone_on : Bool) → gone_on ≡ false → is_long b.family.origin ≡ true →
+pub over-long : {K : Type 0} (b : TaskState K) (v : Value) (gone_on : Bool) → gone_on ≡ false → is_long b.family.origin ≡ true →
     meaning.step (task_of b (remaining.Finished v gone_on)) ≡ meaning.Stops (meaning.Wait (task_of (waiting b) (remaining.Finished v false)))
 over-long b v true e h = absurd (true≢false e)
 over-long b v false e h = over-waits (task_of b (remaining.Finished v false)) v b.family.origin h
 
-pub over-short : (b : TaskState) (v : Value) (gone_on : Bool) → gone_on ≡ false → is_long b.family.origin ≡ false →
+pub over-short : {K : Type 0} (b : TaskState K) (v : Value) (gone_on : Bool) → gone_on ≡ false → is_long b.family.origin ≡ false →
     meaning.step (task_of b (remaining.Finished v gone_on)) ≡ ends (task_of b (remaining.Finished v gone_on)) (outcome.Values (b.values ++ v ∷ []))
 over-short b v true e h = absurd (true≢false e)
 over-short b v false e h = over-ends (task_of b (remaining.Finished v false)) v b.family.origin h
 
-pub over-on : (b : TaskState) (v : Value) (gone_on : Bool) → gone_on ≡ true → meaning.step (task_of b (remaining.Finished v gone_on)) ≡ ends (task_of b (remaining.Finished v gone_on)) (outcome.Values (b.values ++ v ∷ []))
+pub over-on : {K : Type 0} (b : TaskState K) (v : Value) (gone_on : Bool) → gone_on ≡ true → meaning.step (task_of b (remaining.Finished v gone_on)) ≡ ends (task_of b (remaining.Finished v gone_on)) (outcome.Values (b.values ++ v ∷ []))
 over-on b v true e = refl
 over-on b v false e = absurd (true≢false (sym e))
 
 -- Instances
 
-pub give-instance : (b : TaskState) (v : Value) (function : ℕ) (args : List Value) (path : List ℕ) → b.family.origin ≡ Instance function args path →
+pub give-instance : {K : Type 0} (b : TaskState K) (v : Value) (function : ℕ) (args : List Value) (path : List ℕ) → b.family.origin ≡ Instance function args path →
     meaning.step (task_of b (remaining.Runs (stage.Returned v))) ≡ ends (task_of b (remaining.Runs (stage.Returned v))) (outcome.Value v)
 give-instance b v function args path e = ap (λ (o : Origin). returned (task_of b (remaining.Runs (stage.Returned v))) o v) e
 
-pub give-loop : (b : TaskState) (v : Value) (function : ℕ) (rest : List Value) (first : ℤ) (path : List ℕ) (range : Range) → b.family.origin ≡ Loop function rest first path range →
+pub give-loop : {K : Type 0} (b : TaskState K) (v : Value) (function : ℕ) (rest : List Value) (first : ℤ) (path : List ℕ) (range : Range) → b.family.origin ≡ Loop function rest first path range →
     meaning.step (task_of b (remaining.Runs (stage.Returned v))) ≡ meaning.Passes (task_of (gone b) (remaining.Finished v false))
 give-loop b v function rest first path range e = ap (λ (o : Origin). returned (task_of b (remaining.Runs (stage.Returned v))) o v) e
 
-pub fault-alone : (b : TaskState) (f : Fault) → b.trace.handed ≡ [] → meaning.step (task_of b (remaining.Runs (stage.Faulted f))) ≡ ends (task_of b (remaining.Runs (stage.Faulted f))) (outcome.Fault f)
+pub fault-alone : {K : Type 0} (b : TaskState K) (f : Fault) → b.trace.handed ≡ [] → meaning.step (task_of b (remaining.Runs (stage.Faulted f))) ≡ ends (task_of b (remaining.Runs (stage.Faulted f))) (outcome.Fault f)
 fault-alone b f e = ap (λ (ps : List AwaitedChild). faults_after ps (task_of b (remaining.Runs (stage.Faulted f))) f) e
 
-pub fault-after : (b : TaskState) (f : Fault) → (b.trace.handed ≡ [] → ⊥) → meaning.step (task_of b (remaining.Runs (stage.Faulted f))) ≡ meaning.Stops (meaning.Wait (task_of (waiting b) (remaining.Runs (stage.Faulted f))))
+pub fault-after : {K : Type 0} (b : TaskState K) (f : Fault) → (b.trace.handed ≡ [] → ⊥) → meaning.step (task_of b (remaining.Runs (stage.Faulted f))) ≡ meaning.Stops (meaning.Wait (task_of (waiting b) (remaining.Runs (stage.Faulted f))))
 fault-after b f h = from b.trace.handed h
   where
     from : (ps : List AwaitedChild) → (ps ≡ [] → ⊥) → faults_after ps (task_of b (remaining.Runs (stage.Faulted f))) f ≡ waits (task_of b (remaining.Runs (stage.Faulted f)))
@@ -225,7 +225,7 @@ fault-after b f h = from b.trace.handed h
 
 -- Moves
 
-module _ (b : TaskState) (i : RawInstance) where
+module _ {K : Type 0} (b : TaskState K) (i : RawInstance) where
   abbrev here : Task
   here = task_of b (remaining.Runs (stage.Running i))
 

@@ -75,10 +75,10 @@ awaits-emitted family trace e h = from trace.handed refl
 
 -- The body after an event
 
-abbrev pub with_trace : TaskState → Trace → TaskState
+abbrev pub with_trace : {K : Type 0} → TaskState K → Trace → TaskState K
 with_trace b p = record b { trace = p }
 
-module _ (b : TaskState) (i : RawInstance) where
+module _ {K : Type 0} (b : TaskState K) (i : RawInstance) where
   abbrev running : Remaining
   running = remaining.Runs (stage.Running i)
 
@@ -90,7 +90,7 @@ module _ (b : TaskState) (i : RawInstance) where
   pub nothing-sound : (s : Effects) → s ≡ effects-in.Nothing → HasSoundEffects b i s → IsSound (gone b) running
   nothing-sound s is h = let k : HasSoundEffects b i effects-in.Nothing = subst (HasSoundEffects b i) is h in record { task = k.task; family = k.family; of_plan = k.runs }
 
-  pub nothing-step : (s : Effects) (r : MadeStep) → s ≡ effects-in.Nothing → r ≡ step-in.Passes (view_of (gone b) running) →
+  pub nothing-step : (s : Effects) (r : MadeStep K) → s ≡ effects-in.Nothing → r ≡ step-in.Passes (view_of (gone b) running) →
       step_of r ≡ stops_at (child_in (effects_of s)) (task_after_effects b i s)
   nothing-step s r is h = rw (h, is) refl
 
@@ -99,7 +99,7 @@ module _ (b : TaskState) (i : RawInstance) where
   quiet-sound s (inr (inl (j, is))) h = let k : HasSoundEffects b i (effects-in.Opened j) = subst (HasSoundEffects b i) is h in record { task = k.task; family = k.family; of_plan = k.runs }
   quiet-sound s (inr (inr (j, is))) h = let k : HasSoundEffects b i (effects-in.Closed j) = subst (HasSoundEffects b i) is h in record { task = k.task; family = k.family; of_plan = k.runs }
 
-  pub quiet-step : (s : Effects) (r : MadeStep) → IsQuiet s → r ≡ step-in.Passes (view_of (gone b) running) → step_of r ≡ stops_at (child_in (effects_of s)) (task_after_effects b i s)
+  pub quiet-step : (s : Effects) (r : MadeStep K) → IsQuiet s → r ≡ step-in.Passes (view_of (gone b) running) → step_of r ≡ stops_at (child_in (effects_of s)) (task_after_effects b i s)
   quiet-step s r (inl is) h = nothing-step s r is h
   quiet-step s r (inr (inl (j, is))) h = rw (h, is) refl
   quiet-step s r (inr (inr (j, is))) h = rw (h, is) refl
@@ -112,7 +112,7 @@ module _ (b : TaskState) (i : RawInstance) where
   pub emitted-sound : (s : Effects) (e : Event) (p : Trace) → s ≡ effects-in.Emitted e → p ≡ emit e b.trace → HasSoundEffects b i s → IsSound (gone (with_trace b p)) running
   emitted-sound s e p is q h = subst (λ (x : Trace). IsSound (gone (with_trace b x)) running) (sym q) (emitted-at e (subst (HasSoundEffects b i) is h))
 
-  pub emitted-step : (s : Effects) (e : Event) (p : Trace) (r : MadeStep) → s ≡ effects-in.Emitted e → p ≡ emit e b.trace → r ≡ step-in.Passes (view_of (gone (with_trace b p)) running) →
+  pub emitted-step : (s : Effects) (e : Event) (p : Trace) (r : MadeStep K) → s ≡ effects-in.Emitted e → p ≡ emit e b.trace → r ≡ step-in.Passes (view_of (gone (with_trace b p)) running) →
       step_of r ≡ stops_at (child_in (effects_of s)) (task_after_effects b i s)
   emitted-step s e p r is q h = rw (h, q, is) refl
 
@@ -127,7 +127,7 @@ module _ (b : TaskState) (i : RawInstance) where
   pub synced-sound : (s : Effects) (e : Event) (p : Trace) → s ≡ effects-in.Synced e → p ≡ emit e b.trace → HasSoundEffects b i s → IsSound (gone (with_trace b p)) at-sync
   synced-sound s e p is q h = subst (λ (x : Trace). IsSound (gone (with_trace b x)) at-sync) (sym q) (synced-at e (subst (HasSoundEffects b i) is h))
 
-  pub synced-step : (s : Effects) (e : Event) (p : Trace) (r : MadeStep) → s ≡ effects-in.Synced e → p ≡ emit e b.trace → r ≡ step-in.Passes (view_of (gone (with_trace b p)) at-sync) →
+  pub synced-step : (s : Effects) (e : Event) (p : Trace) (r : MadeStep K) → s ≡ effects-in.Synced e → p ≡ emit e b.trace → r ≡ step-in.Passes (view_of (gone (with_trace b p)) at-sync) →
       step_of r ≡ stops_at (child_in (effects_of s)) (task_after_effects b i s)
   synced-step s e p r is q h = rw (h, q, is) refl
 
@@ -152,7 +152,7 @@ module _ (b : TaskState) (i : RawInstance) where
   spawned-sound s e o p is q h =
       subst (λ (x : Trace). IsSound (with_child (with_trace b x) o.child.origin (destination.Spawned o.height o.target)) running) (sym q) (spawned-at e o (subst (HasSoundEffects b i) is h))
 
-  pub spawned-step : (s : Effects) (e : Event) (o : SpawnedChild) (p : Trace) (r : MadeStep) → s ≡ effects-in.Spawned e o → p ≡ emit e b.trace →
+  pub spawned-step : (s : Effects) (e : Event) (o : SpawnedChild) (p : Trace) (r : MadeStep K) → s ≡ effects-in.Spawned e o → p ≡ emit e b.trace →
       r ≡ step-in.Stops (stop-in.Spawn (fresh b.family.plan o.child.origin) (view_of (with_child (with_trace b p) o.child.origin (destination.Spawned o.height o.target)) running)) →
       step_of r ≡ stops_at (child_in (effects_of s)) (task_after_effects b i s)
   spawned-step s e o p r is q h = rw (h, q, is) refl
@@ -181,34 +181,34 @@ module _ (b : TaskState) (i : RawInstance) where
   looped-sound s e o p is q h =
       subst (λ (x : Trace). IsSound (with_child (with_trace b x) o.child.origin (destination.Looped o.target)) at-loop) (sym q) (looped-at e o (subst (HasSoundEffects b i) is h))
 
-  pub looped-step : (s : Effects) (e : Event) (o : LoopedChild) (p : Trace) (r : MadeStep) → s ≡ effects-in.Looped e o → p ≡ emit e b.trace →
+  pub looped-step : (s : Effects) (e : Event) (o : LoopedChild) (p : Trace) (r : MadeStep K) → s ≡ effects-in.Looped e o → p ≡ emit e b.trace →
       r ≡ step-in.Stops (stop-in.Spawn (fresh b.family.plan o.child.origin) (view_of (with_child (with_trace b p) o.child.origin (destination.Looped o.target)) at-loop)) →
       step_of r ≡ stops_at (child_in (effects_of s)) (task_after_effects b i s)
   looped-step s e o p r is q h = rw (h, q, is) refl
 
 -- What the family keeps
 
-pub passes-keep : (b : TaskState) (p : Trace) (w next : Remaining) (r : MadeStep) → cut_of next ≡ None → r ≡ step-in.Passes (view_of (gone (with_trace b p)) next) → KeepsFamilyInStep (view_of b w) r
+pub passes-keep : {K : Type 0} (b : TaskState K) (p : Trace) (w next : Remaining) (r : MadeStep K) → cut_of next ≡ None → r ≡ step-in.Passes (view_of (gone (with_trace b p)) next) → KeepsFamilyInStep (view_of b w) r
 passes-keep b p w next r none h = rw h (refl, refl, none)
 
-pub spawns-keep : (b : TaskState) (p : Trace) (w next : Remaining) (o : Origin) (at : Destination) (r : MadeStep) → cut_of next ≡ None →
+pub spawns-keep : {K : Type 0} (b : TaskState K) (p : Trace) (w next : Remaining) (o : Origin) (at : Destination) (r : MadeStep K) → cut_of next ≡ None →
     r ≡ step-in.Stops (stop-in.Spawn (fresh b.family.plan o) (view_of (with_child (with_trace b p) o at) next)) → KeepsFamilyInStep (view_of b w) r
 spawns-keep b p w next o at r none h = rw h (refl, refl, refl, none)
 
-keeps-alike : (b : TaskState) (w other : Remaining) (r : MadeStep) → KeepsFamilyInStep (view_of b w) r → KeepsFamilyInStep (view_of b other) r
+keeps-alike : {K : Type 0} (b : TaskState K) (w other : Remaining) (r : MadeStep K) → KeepsFamilyInStep (view_of b w) r → KeepsFamilyInStep (view_of b other) r
 keeps-alike b w other (step-in.Passes next) h = h
 keeps-alike b w other (step-in.Stops (stop-in.Spawn child rest)) h = h
 keeps-alike b w other (step-in.Stops (stop-in.Wait rest)) h = h
 keeps-alike b w other (step-in.Stops (stop-in.Done answer give)) h = h
 
 -- The instance of a task that moves in a row have led to goes on.
-pub record IsOnRun (first : TaskView) (b : TaskState) (i : RawInstance) : Type 0 where
+pub record IsOnRun {K : Type 0} (first : TaskView) (b : TaskState K) (i : RawInstance) : Type 0 where
   pub sound : IsSound b (remaining.Runs (stage.Running i))
   pub leads : LeadsTo first (view_of b (remaining.Runs (stage.Running i)))
 
 -- A move
 
-module _ (b : TaskState) (i next : RawInstance) (plan : PlanView) (m : MoveResult) (p : plan ≡ b.family.plan) (e : move plan (moves.path_of i) (moves.machine_of plan i) ≡ run_of m (moves.machine_of plan next)) (h : IsSound b (remaining.Runs (stage.Running i))) where
+module _ {K : Type 0} (b : TaskState K) (i next : RawInstance) (plan : PlanView) (m : MoveResult) (p : plan ≡ b.family.plan) (e : move plan (moves.path_of i) (moves.machine_of plan i) ≡ run_of m (moves.machine_of plan next)) (h : IsSound b (remaining.Runs (stage.Running i))) where
   pub runs-on : moves.path_of next ≡ moves.path_of i → moves.IsInstance plan next → RunsAt b.family.plan (path_of (own_instance b.family.origin)) next
   runs-on path sound = record { sound = subst (λ (q : PlanView). moves.IsInstance q next) p sound; at = path ∙ h.of_plan.at }
 
@@ -225,27 +225,27 @@ module _ (b : TaskState) (i next : RawInstance) (plan : PlanView) (m : MoveResul
   pub returned-sound : StepsAreSound → (v : Value) → m ≡ move_result-in.Returned v → IsSound (gone b) (remaining.Runs (stage.Returned v))
   returned-sound law v is = pass-sound law b (remaining.Runs (stage.Running i)) (remaining.Runs (stage.Returned v)) h (go-returned b i next v h.of_plan (moves-so (move_result-in.Returned v) is)) tt
 
-  pub returned-is : (v : Value) (r : MadeStep) → m ≡ move_result-in.Returned v → r ≡ step-in.Passes (view_of (gone b) (remaining.Runs (stage.Returned v))) → IsStep (view_of b (remaining.Runs (stage.Running i))) r
+  pub returned-is : (v : Value) (r : MadeStep K) → m ≡ move_result-in.Returned v → r ≡ step-in.Passes (view_of (gone b) (remaining.Runs (stage.Returned v))) → IsStep (view_of b (remaining.Runs (stage.Running i))) r
   returned-is v r is = pass-is b (remaining.Runs (stage.Running i)) (remaining.Runs (stage.Returned v)) r tt (go-returned b i next v h.of_plan (moves-so (move_result-in.Returned v) is))
 
   pub faulted-sound : StepsAreSound → (f : Fault) → m ≡ move_result-in.Faulted f → IsSound (gone b) (remaining.Runs (stage.Faulted f))
   faulted-sound law f is = pass-sound law b (remaining.Runs (stage.Running i)) (remaining.Runs (stage.Faulted f)) h (go-faulted b i next f h.of_plan (moves-so (move_result-in.Faulted f) is)) tt
 
-  pub faulted-is : (f : Fault) (r : MadeStep) → m ≡ move_result-in.Faulted f → r ≡ step-in.Passes (view_of (gone b) (remaining.Runs (stage.Faulted f))) → IsStep (view_of b (remaining.Runs (stage.Running i))) r
+  pub faulted-is : (f : Fault) (r : MadeStep K) → m ≡ move_result-in.Faulted f → r ≡ step-in.Passes (view_of (gone b) (remaining.Runs (stage.Faulted f))) → IsStep (view_of b (remaining.Runs (stage.Running i))) r
   faulted-is f r is = pass-is b (remaining.Runs (stage.Running i)) (remaining.Runs (stage.Faulted f)) r tt (go-faulted b i next f h.of_plan (moves-so (move_result-in.Faulted f) is))
 
-  went-one : (s : Effects) (r : MadeStep) → m ≡ move_result-in.Went s → step_of r ≡ stops_at (child_in (effects_of s)) (task_after_effects b next s) → KeepsFamilyInStep (view_of b (remaining.Runs (stage.Running next))) r →
+  went-one : (s : Effects) (r : MadeStep K) → m ≡ move_result-in.Went s → step_of r ≡ stops_at (child_in (effects_of s)) (task_after_effects b next s) → KeepsFamilyInStep (view_of b (remaining.Runs (stage.Running next))) r →
       IsStep (view_of b (remaining.Runs (stage.Running i))) r
   went-one s r is g k = record { is = go-went b i next s h.of_plan (moves-so (move_result-in.Went s) is) ∙ sym g; keeps = keeps-alike b (remaining.Runs (stage.Running next)) (remaining.Runs (stage.Running i)) r k }
 
-  pub went-is : {X E : Type 0} (f : X → MadeStep) (s : Effects) (r : Result X E) → m ≡ move_result-in.Went s → IfOk r (λ x. step_of (f x) ≡ stops_at (child_in (effects_of s)) (task_after_effects b next s)) →
+  pub went-is : {X E : Type 0} (f : X → MadeStep K) (s : Effects) (r : Result X E) → m ≡ move_result-in.Went s → IfOk r (λ x. step_of (f x) ≡ stops_at (child_in (effects_of s)) (task_after_effects b next s)) →
       IfOk r (λ x. KeepsFamilyInStep (view_of b (remaining.Runs (stage.Running next))) (f x)) → IfOk r (λ x. IsStep (view_of b (remaining.Runs (stage.Running i))) (f x))
   went-is f s (Ok x) is g k = went-one s (f x) is g k
   went-is f s (Err x) is g k = tt
 
   -- one that shows nothing, or an event alone: the instance goes on
 
-  still-is : (s : Effects) → m ≡ move_result-in.Went s → s ≡ effects-in.Nothing → IsStep (view_of b (remaining.Runs (stage.Running i))) (step-in.Passes (view_of (gone b) (remaining.Runs (stage.Running next))))
+  still-is : (s : Effects) → m ≡ move_result-in.Went s → s ≡ effects-in.Nothing → IsStep {K = K} (view_of b (remaining.Runs (stage.Running i))) (step-in.Passes (view_of (gone b) (remaining.Runs (stage.Running next))))
   still-is s is shows = went-one s _ is (nothing-step b next s _ shows refl) (refl, refl, refl)
 
   pub still-on : StepsAreSound → MovesFall → (first : TaskView) → LeadsTo first (view_of b (remaining.Runs (stage.Running i))) → (s : Effects) → m ≡ move_result-in.Went s → s ≡ effects-in.Nothing →
@@ -259,7 +259,7 @@ module _ (b : TaskState) (i next : RawInstance) (plan : PlanView) (m : MoveResul
   still-falls fall s is shows = falls fall (view_of b (remaining.Runs (stage.Running i))) (view_of (gone b) (remaining.Runs (stage.Running next))) _ (still-is s is shows) refl
 
   emits-is : (s : Effects) (t : Event) (q : Trace) → m ≡ move_result-in.Went s → s ≡ effects-in.Emitted t → q ≡ emit t b.trace →
-      IsStep (view_of b (remaining.Runs (stage.Running i))) (step-in.Passes (view_of (gone (with_trace b q)) (remaining.Runs (stage.Running next))))
+      IsStep {K = K} (view_of b (remaining.Runs (stage.Running i))) (step-in.Passes (view_of (gone (with_trace b q)) (remaining.Runs (stage.Running next))))
   emits-is s t q is shows g = went-one s _ is (emitted-step b next s t q _ shows g refl) (refl, refl, refl)
 
   pub emits-on : StepsAreSound → MovesFall → (first : TaskView) → LeadsTo first (view_of b (remaining.Runs (stage.Running i))) → (s : Effects) (t : Event) (q : Trace) → m ≡ move_result-in.Went s → s ≡ effects-in.Emitted t → q ≡ emit t b.trace →
@@ -284,7 +284,7 @@ module _ (b : TaskState) (i next : RawInstance) (plan : PlanView) (m : MoveResul
       let k = synced-sound b next s t q shows g (went-sound law s is path sound trail) in wait-sound law (gone (with_trace b q)) syncs syncs k refl k.of_plan
 
   pub syncs-run : MovesFall → (first : TaskView) → LeadsTo first (view_of b (remaining.Runs (stage.Running i))) → (s : Effects) (t : Event) (q : Trace) → m ≡ move_result-in.Went s → s ≡ effects-in.Synced t → q ≡ emit t b.trace →
-      RunsAt b.family.plan (path_of (own_instance b.family.origin)) next → (r : MadeStep) → r ≡ step-in.Stops (stop-in.Wait (view_of (waiting (gone (with_trace b q))) syncs)) → IsRun first r
+      RunsAt b.family.plan (path_of (own_instance b.family.origin)) next → (r : MadeStep K) → r ≡ step-in.Stops (stop-in.Wait (view_of (waiting (gone (with_trace b q))) syncs)) → IsRun first r
   syncs-run fall first leads s t q is shows g at r e = record {
     before = view_of (gone (with_trace b q)) syncs;
     leads = leads-on fall first _ _ _ leads (went-one s (step-in.Passes (view_of (gone (with_trace b q)) syncs)) is (synced-step b next s t q _ shows g refl) (refl, refl, refl)) refl;
@@ -292,7 +292,7 @@ module _ (b : TaskState) (i next : RawInstance) (plan : PlanView) (m : MoveResul
   }
 
   pub gives-run : MovesFall → (first : TaskView) → LeadsTo first (view_of b (remaining.Runs (stage.Running i))) → (v : Value) → m ≡ move_result-in.Returned v →
-      (r : MadeStep) → IsStep (view_of (gone b) (remaining.Runs (stage.Returned v))) r → IsRun first r
+      (r : MadeStep K) → IsStep (view_of (gone b) (remaining.Runs (stage.Returned v))) r → IsRun first r
   gives-run fall first leads v is r e = record {
     before = view_of (gone b) (remaining.Runs (stage.Returned v));
     leads = leads-on fall first _ _ _ leads (returned-is v (step-in.Passes (view_of (gone b) (remaining.Runs (stage.Returned v)))) is refl) refl;
@@ -300,7 +300,7 @@ module _ (b : TaskState) (i next : RawInstance) (plan : PlanView) (m : MoveResul
   }
 
   pub faults-run : MovesFall → (first : TaskView) → LeadsTo first (view_of b (remaining.Runs (stage.Running i))) → (f : Fault) → m ≡ move_result-in.Faulted f →
-      (r : MadeStep) → IsStep (view_of (gone b) (remaining.Runs (stage.Faulted f))) r → IsRun first r
+      (r : MadeStep K) → IsStep (view_of (gone b) (remaining.Runs (stage.Faulted f))) r → IsRun first r
   faults-run fall first leads f is r e = record {
     before = view_of (gone b) (remaining.Runs (stage.Faulted f));
     leads = leads-on fall first _ _ _ leads (faulted-is f (step-in.Passes (view_of (gone b) (remaining.Runs (stage.Faulted f)))) is refl) refl;
@@ -309,11 +309,11 @@ module _ (b : TaskState) (i next : RawInstance) (plan : PlanView) (m : MoveResul
 
 -- Moves in a row
 
-module _ (first : TaskView) (b : TaskState) (i : RawInstance) (h : IsOnRun first b i) where
-  run-is : (r : MadeStep) → IsStep (view_of b (remaining.Runs (stage.Running i))) r → IsRun first r
+module _ {K : Type 0} (first : TaskView) (b : TaskState K) (i : RawInstance) (h : IsOnRun first b i) where
+  run-is : (r : MadeStep K) → IsStep (view_of b (remaining.Runs (stage.Running i))) r → IsRun first r
   run-is r k = record { before = view_of b (remaining.Runs (stage.Running i)); leads = h.leads; step = k }
 
-  pub run-is-ok : {X E : Type 0} (f : X → MadeStep) (r : Result X E) → IfOk r (λ x. IsStep (view_of b (remaining.Runs (stage.Running i))) (f x)) → IfOk r (λ x. IsRun first (f x))
+  pub run-is-ok : {X E : Type 0} (f : X → MadeStep K) (r : Result X E) → IfOk r (λ x. IsStep (view_of b (remaining.Runs (stage.Running i))) (f x)) → IfOk r (λ x. IsRun first (f x))
   run-is-ok f (Ok x) k = run-is (f x) k
   run-is-ok f (Err x) k = tt
 
@@ -333,7 +333,7 @@ next-alike : (t other : meaning.Task) (stop : meaning.Stop) → meaning.step t �
 next-alike t other stop same (Now e) = Now (same ∙ e)
 next-alike t other stop same (Later next e n) = Later next (same ∙ e) n
 
-module _ (b : TaskState) (i : RawInstance) where
+module _ {K : Type 0} (b : TaskState K) (i : RawInstance) where
   abbrev on_task : meaning.Task
   on_task = task_of b (remaining.Runs (stage.Running i))
 
@@ -365,7 +365,7 @@ module _ (b : TaskState) (i : RawInstance) where
 abbrev after : Event → Trace → Trace
 after e trace = emit e trace
 
-module _ (law : StepsAreSound) (fall : MovesFall) (plan : PlanView) (first : TaskView) (b : TaskState) (i : RawInstance) (p : plan ≡ b.family.plan) (h : IsOnRun first (gone b) i) where
+module _ {K : Type 0} (law : StepsAreSound) (fall : MovesFall) (plan : PlanView) (first : TaskView) (b : TaskState K) (i : RawInstance) (p : plan ≡ b.family.plan) (h : IsOnRun first (gone b) i) where
   row-on : (now : InstanceParts) (trace : Trace) → Row after plan i.parts.value b.trace now trace → IsOnRun first (gone (with_trace b trace)) (holding i now)
   row-on now trace (Still _ _ e q) =
       subst (λ (x : Trace). IsOnRun first (gone (with_trace b x)) (holding i now)) (sym q) (subst (λ (r : InstanceParts). IsOnRun first (gone b) (holding i r)) (sym e) h)
@@ -377,17 +377,17 @@ module _ (law : StepsAreSound) (fall : MovesFall) (plan : PlanView) (first : Tas
       emits-on (gone (with_trace b merging)) (holding i before) (holding i now) plan (move_result-in.Went (effects-in.Emitted t)) p e k.sound law fall first k.leads (effects-in.Emitted t) t trace refl refl q path sound tt
 
 -- where the moves in a row came to, before the last one
-pub row-run : StepsAreSound → MovesFall → (plan : PlanView) (b : TaskState) (i : RawInstance) → plan ≡ b.family.plan → IsSound b (remaining.Runs (stage.Running i)) → (now : InstanceParts) (trace : Trace) → Row after plan i.parts.value b.trace now trace →
+pub row-run : {K : Type 0} → StepsAreSound → MovesFall → (plan : PlanView) (b : TaskState K) (i : RawInstance) → plan ≡ b.family.plan → IsSound b (remaining.Runs (stage.Running i)) → (now : InstanceParts) (trace : Trace) → Row after plan i.parts.value b.trace now trace →
     IsOnRun (view_of b (remaining.Runs (stage.Running i))) (gone (with_trace b trace)) (holding i now)
 row-run law fall plan b i p sound now trace row =
     let first = view_of b (remaining.Runs (stage.Running i)) in
     row-on law fall plan first b i p (gone-run b i first (record { sound = sound; leads = leads-start first refl })) now trace row
 
-pub on-run-over : (first : TaskView) (b c : TaskState) (i j : RawInstance) → IsOnRun first b i → IsOnRun (view_of b (remaining.Runs (stage.Running i))) c j → IsOnRun first c j
+pub on-run-over : {K : Type 0} (first : TaskView) (b c : TaskState K) (i j : RawInstance) → IsOnRun first b i → IsOnRun (view_of b (remaining.Runs (stage.Running i))) c j → IsOnRun first c j
 on-run-over first b c i j h k = record { sound = k.sound; leads = leads-over first _ _ h.leads k.leads }
 
 -- A move of an instance to which moves in a row have led. This much was left before them.
-pub record IsLast (first : TaskView) (b : TaskState) (left : ℕ) (plan : PlanView) (m : MoveResult) (new : RawInstance) : Type 0 where
+pub record IsLast {K : Type 0} (first : TaskView) (b : TaskState K) (left : ℕ) (plan : PlanView) (m : MoveResult) (new : RawInstance) : Type 0 where
   pub before : RawInstance
   pub runs : IsOnRun first b before
   pub fewer : moves_left (task_of b (remaining.Runs (stage.Running before))) ≤ left
@@ -396,7 +396,7 @@ pub record IsLast (first : TaskView) (b : TaskState) (left : ℕ) (plan : PlanVi
   pub sound : moves.IsInstance plan new
 
 -- The instance to which moves in a row came, which a spawn may have looked at since, and one move more of it.
-module _ (law : StepsAreSound) (fall : MovesFall) (plan : PlanView) (first : TaskView) (b : TaskState) (i : RawInstance) (p : plan ≡ b.family.plan) (h : IsOnRun first b i) (now : RawInstance) (sent : Trace) (next : Option Stmt) (came : moves.ComesToStatement after plan i b.trace now sent next) (from : RawInstance) (same : from.parts.value ≡ now.parts.value) where
+module _ {K : Type 0} (law : StepsAreSound) (fall : MovesFall) (plan : PlanView) (first : TaskView) (b : TaskState K) (i : RawInstance) (p : plan ≡ b.family.plan) (h : IsOnRun first b i) (now : RawInstance) (sent : Trace) (next : Option Stmt) (came : moves.ComesToStatement after plan i b.trace now sent next) (from : RawInstance) (same : from.parts.value ≡ now.parts.value) where
   pub came-sound : moves.IsInstance plan from
   came-sound = subst (λ (r : InstanceParts). instance_parts.IsInstance plan r) (sym same) (comes-sound after plan i.parts.value b.trace now.parts.value sent next came)
 

@@ -108,14 +108,14 @@ leads-over first now next h g = record {
   cut = g.cut;
 }
 
-pub falls : MovesFall → (now next : TaskView) (s : MadeStep) → IsStep now s → s ≡ step-in.Passes next → moves_left next.task < moves_left now.task
-falls law now next s g e =
-    let k : IsStep now (step-in.Passes next) = subst (IsStep now) e g in
+pub falls : {K : Type 0} → MovesFall → (now next : TaskView) (s : MadeStep K) → IsStep now s → s ≡ step-in.Passes next → moves_left next.task < moves_left now.task
+falls {K} law now next s g e =
+    let k : IsStep {K = K} now (step-in.Passes next) = subst (IsStep now) e g in
     law now.task next.task k.is
 
-pub leads-on : MovesFall → (first now next : TaskView) (s : MadeStep) → LeadsTo first now → IsStep now s → s ≡ step-in.Passes next → LeadsTo first next
-leads-on law first now next s h g e =
-    let k : IsStep now (step-in.Passes next) = subst (IsStep now) e g in
+pub leads-on : {K : Type 0} → MovesFall → (first now next : TaskView) (s : MadeStep K) → LeadsTo first now → IsStep now s → s ≡ step-in.Passes next → LeadsTo first next
+leads-on {K} law first now next s h g e =
+    let k : IsStep {K = K} now (step-in.Passes next) = subst (IsStep now) e g in
     let of = pass-of now.task next.task k.is in
     let fall : moves_left next.task < moves_left now.task = law now.task next.task k.is in
     record {
@@ -128,7 +128,7 @@ leads-on law first now next s h g e =
       cut = k.keeps.2;
     }
 
-keeps-first : (first now : TaskView) (stop : MadeStop) → LeadsTo first now → KeepsFamily now stop → KeepsFamily first stop
+keeps-first : {K : Type 0} (first now : TaskView) (stop : MadeStop K) → LeadsTo first now → KeepsFamily now stop → KeepsFamily first stop
 keeps-first first now (stop-in.Spawn child rest) h k = (
   k.0 ∙ ap (λ (p : PlanView). fresh p child.task.origin) h.plan,
   k.1 ∙ ap (λ (l : List Origin). l ++ child.task.origin ∷ []) h.children,
@@ -139,12 +139,12 @@ keeps-first first now (stop-in.Wait rest) h k = (k.0 ∙ h.children, k.1 ∙ h.l
 keeps-first first now (stop-in.Done answer give) h k =
     (k.0 ∙ h.plan, k.1 ∙ h.origin, k.2 ∙ ap (λ (p : PlanView). tag p now.task.origin) h.plan ∙ ap (tag first.task.plan) h.origin)
 
-known-of : (t : TaskView) (stop : MadeStop) → IsSoundStop t.task (stop_of stop) → IsKnownStop t stop
+known-of : {K : Type 0} (t : TaskView) (stop : MadeStop K) → IsSoundStop t.task (stop_of stop) → IsKnownStop t stop
 known-of t (stop-in.Spawn child rest) h = h.0
 known-of t (stop-in.Wait rest) h = tt
 known-of t (stop-in.Done answer give) h = h.1
 
-pub stops-there : StopsAreSound → (first now : TaskView) (s : MadeStep) (stop : MadeStop) → IsTask first.task → LeadsTo first now → IsStep now s → s ≡ step-in.Stops stop → IsStop first stop
+pub stops-there : {K : Type 0} → StopsAreSound → (first now : TaskView) (s : MadeStep K) (stop : MadeStop K) → IsTask first.task → LeadsTo first now → IsStep now s → s ≡ step-in.Stops stop → IsStop first stop
 stops-there law first now s stop sound h g e =
     let k : IsStep now (step-in.Stops stop) = subst (IsStep now) e g in
     let n : IsNext first.task (stop_of stop) = h.next (stop_of stop) (Now k.is) in
@@ -152,10 +152,10 @@ stops-there law first now s stop sound h g e =
 
 -- What a call that makes moves in a row leads to
 
-one-step : (now : TaskView) (s : MadeStep) → now.cut ≡ None → IsStep now s → IsRun now s
+one-step : {K : Type 0} (now : TaskView) (s : MadeStep K) → now.cut ≡ None → IsStep now s → IsRun now s
 one-step now s goes g = record { before = now; leads = leads-start now goes; step = g }
 
-runs : (now : TaskView) (s : MadeStep) → now.cut ≡ None → StepsOn now s → IsRun now s
+runs : {K : Type 0} (now : TaskView) (s : MadeStep K) → now.cut ≡ None → StepsOn now s → IsRun now s
 runs now s goes g = by_remaining now.task.remaining g
   where
     by_stage : (stage : meaning.Stage) → stage_goes_on stage now s → IsRun now s
@@ -169,41 +169,41 @@ runs now s goes g = by_remaining now.task.remaining g
     by_remaining (meaning.Runs stage) h = by_stage stage h
     by_remaining (meaning.Finished v gone_on) h = one-step now s goes h
 
-pub run-leads : MovesFall → (first now next : TaskView) (s : MadeStep) → LeadsTo first now → StepsOn now s → s ≡ step-in.Passes next → LeadsTo first next
+pub run-leads : {K : Type 0} → MovesFall → (first now next : TaskView) (s : MadeStep K) → LeadsTo first now → StepsOn now s → s ≡ step-in.Passes next → LeadsTo first next
 run-leads law first now next s h g e =
     let r = runs now s h.cut g in leads-on law first r.before next s (leads-over first now r.before h r.leads) r.step e
 
-pub run-falls : MovesFall → (now next : TaskView) (s : MadeStep) → now.cut ≡ None → StepsOn now s → s ≡ step-in.Passes next → moves_left next.task < moves_left now.task
+pub run-falls : {K : Type 0} → MovesFall → (now next : TaskView) (s : MadeStep K) → now.cut ≡ None → StepsOn now s → s ≡ step-in.Passes next → moves_left next.task < moves_left now.task
 run-falls law now next s goes g e =
     let r = runs now s goes g in
     let last : moves_left next.task < moves_left r.before.task = falls law r.before next s r.step e in
     omega (arith, last, r.leads.fewer)
 
-pub run-stops : StopsAreSound → (first now : TaskView) (s : MadeStep) (stop : MadeStop) → IsTask first.task → LeadsTo first now → StepsOn now s → s ≡ step-in.Stops stop → IsStop first stop
+pub run-stops : {K : Type 0} → StopsAreSound → (first now : TaskView) (s : MadeStep K) (stop : MadeStop K) → IsTask first.task → LeadsTo first now → StepsOn now s → s ≡ step-in.Stops stop → IsStop first stop
 run-stops law first now s stop sound h g e =
     let r = runs now s h.cut g in stops-there law first r.before s stop sound (leads-over first now r.before h r.leads) r.step e
 
 -- what holds of a task by its type, where it took no cut
-pub holds-sound : (b : TaskState) (w : Remaining) → cut_of w ≡ None → HoldsOfTask b w → IsSound b w
+pub holds-sound : {K : Type 0} (b : TaskState K) (w : Remaining) → cut_of w ≡ None → HoldsOfTask b w → IsSound b w
 holds-sound b (remaining.Splits left) e h = h
 holds-sound b (remaining.Runs s) e h = h
 holds-sound b (remaining.Finished v gone_on) e h = h
 holds-sound b (remaining.Ends ended) e h = absurd (cc)
 
-pub sound_holds : (b : TaskState) (w : Remaining) → IsSound b w → HoldsOfTask b w
+pub sound_holds : {K : Type 0} (b : TaskState K) (w : Remaining) → IsSound b w → HoldsOfTask b w
 sound_holds b (remaining.Splits left) h = h
 sound_holds b (remaining.Runs s) h = h
 sound_holds b (remaining.Finished v gone_on) h = h
 sound_holds b (remaining.Ends ended) h = absurd h.of_plan
 
-pub is-sound : (b : TaskState) (w : Remaining) (t : TaskView) → view_of b w ≡ t → t.cut ≡ None → HoldsOfTask b w → IsSound b w
+pub is-sound : {K : Type 0} (b : TaskState K) (w : Remaining) (t : TaskView) → view_of b w ≡ t → t.cut ≡ None → HoldsOfTask b w → IsSound b w
 is-sound b w t view goes h = holds-sound b w (ap (λ (v : TaskView). v.cut) view ∙ goes) h
 
-pub is-task : (b : TaskState) (w : Remaining) (t : TaskView) → view_of b w ≡ t → t.cut ≡ None → HoldsOfTask b w → IsTask t.task
+pub is-task : {K : Type 0} (b : TaskState K) (w : Remaining) (t : TaskView) → view_of b w ≡ t → t.cut ≡ None → HoldsOfTask b w → IsTask t.task
 is-task b w t view goes h = subst (λ (v : TaskView). IsTask v.task) view (is-sound b w t view goes h).task
 
 -- a task that waits took none
-pub waits-sound : (b : TaskState) (w : Remaining) (t : TaskView) → view_of b w ≡ t → t.task.waiting ≡ true → HoldsOfTask b w → IsSound b w
+pub waits-sound : {K : Type 0} (b : TaskState K) (w : Remaining) (t : TaskView) → view_of b w ≡ t → t.task.waiting ≡ true → HoldsOfTask b w → IsSound b w
 waits-sound b (remaining.Splits left) t view waits h = h
 waits-sound b (remaining.Runs s) t view waits h = h
 waits-sound b (remaining.Finished v gone_on) t view waits h = h
@@ -217,12 +217,12 @@ not-cut (Some ended) e = absurd (true≢false e)
 pub goes-on-uncut : (o : Option Outcome) (r : Bool) → r ≡ is_cut_short o → r ≡ false → o ≡ None
 goes-on-uncut o r e f = not-cut o (sym e ∙ f)
 
-pub advances-uncut : (t : TaskView) (stop : MadeStop) → t.cut ≡ None → IsStop t stop → Advances t stop
+pub advances-uncut : {K : Type 0} (t : TaskView) (stop : MadeStop K) → t.cut ≡ None → IsStop t stop → Advances t stop
 advances-uncut t stop e h = advances-so t stop None e h
 
 -- one that took a cut ends so
 
-pub is-short : (b : TaskState) (w : Remaining) (t : TaskView) → view_of b w ≡ t → is_cut_short t.cut ≡ true → ((o : Outcome) → w ≡ remaining.Ends o → ⊥) → ⊥
+pub is-short : {K : Type 0} (b : TaskState K) (w : Remaining) (t : TaskView) → view_of b w ≡ t → is_cut_short t.cut ≡ true → ((o : Outcome) → w ≡ remaining.Ends o → ⊥) → ⊥
 is-short b w t view short other = by_remaining w (ap (λ (v : TaskView). is_cut_short v.cut) view ∙ short) other
   where
     by_remaining : (x : Remaining) → is_cut_short (cut_of x) ≡ true → ((o : Outcome) → x ≡ remaining.Ends o → ⊥) → ⊥
@@ -231,15 +231,15 @@ is-short b w t view short other = by_remaining w (ap (λ (v : TaskView). is_cut_
     by_remaining (remaining.Finished v gone_on) e h = true≢false (sym e)
     by_remaining (remaining.Ends o) e h = h o refl
 
-held-short : (b : TaskState) (w : Remaining) (o : Outcome) → w ≡ remaining.Ends o → HoldsOfTask b w → IsCutShort b o
+held-short : {K : Type 0} (b : TaskState K) (w : Remaining) (o : Outcome) → w ≡ remaining.Ends o → HoldsOfTask b w → IsCutShort b o
 held-short b w o is h = subst (HoldsOfTask b) is h
 
-pub short-answers : (b : TaskState) (w : Remaining) (o : Outcome) (prefix : List Event) → w ≡ remaining.Ends o → prefix ≡ b.trace.prefix → HoldsOfTask b w → IsAnswer b.family.plan b.family.origin prefix o
+pub short-answers : {K : Type 0} (b : TaskState K) (w : Remaining) (o : Outcome) (prefix : List Event) → w ≡ remaining.Ends o → prefix ≡ b.trace.prefix → HoldsOfTask b w → IsAnswer b.family.plan b.family.origin prefix o
 short-answers b w o prefix is same h = subst (λ (es : List Event). IsAnswer b.family.plan b.family.origin es o) (sym same) (held-short b w o is h).answers
 
-pub short-ends : (b : TaskState) (w : Remaining) (o : Outcome) (t : TaskView) → view_of b w ≡ t → w ≡ remaining.Ends o → HoldsOfTask b w → (prefix : List Event) (answer : AnswerView) (give : AnswerTag) → prefix ≡ b.trace.prefix →
-    answer ≡ record { plan = b.family.plan; origin = b.family.origin; out = prefix; outcome = o } → give ≡ tag b.family.plan b.family.origin → Advances t (stop-in.Done answer give)
-short-ends b w o t view is h prefix answer give same e g = subst (λ (v : TaskView). Advances v (stop-in.Done answer give)) view (subst (λ (x : Remaining). Advances (view_of b x) (stop-in.Done answer give)) (sym is) (advances-so (view_of b (remaining.Ends o)) (stop-in.Done answer give) (Some o) refl (record {
+pub short-ends : {K : Type 0} (b : TaskState K) (w : Remaining) (o : Outcome) (t : TaskView) → view_of b w ≡ t → w ≡ remaining.Ends o → HoldsOfTask b w → (prefix : List Event) (answer : AnswerView) (give : AnswerTag) → prefix ≡ b.trace.prefix →
+    answer ≡ record { plan = b.family.plan; origin = b.family.origin; out = prefix; outcome = o } → give ≡ tag b.family.plan b.family.origin → Advances {K = K} t (stop-in.Done answer give)
+short-ends {K} b w o t view is h prefix answer give same e g = subst (λ (v : TaskView). Advances {K = K} v (stop-in.Done answer give)) view (subst (λ (x : Remaining). Advances {K = K} (view_of b x) (stop-in.Done answer give)) (sym is) (advances-so (view_of b (remaining.Ends o)) (stop-in.Done answer give) (Some o) refl (record {
   is = ap (λ (a : AnswerView). stop-in.Done a give) (e ∙ ap (λ (es : List Event). record { plan = b.family.plan; origin = b.family.origin; out = es; outcome = o }) same)
       ∙ ap (λ (y : AnswerTag). stop-in.Done (record { plan = b.family.plan; origin = b.family.origin; out = b.trace.prefix; outcome = o }) y) g;
   known = (held-short b w o is h).known;

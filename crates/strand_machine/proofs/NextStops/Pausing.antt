@@ -1,5 +1,5 @@
 -- A task that comes to a stop and still has what it answers.
-use Rattle.std.proofs.Common.{◌≡◌, true, false, Option, None, refl, sym, ap, subst}
+use Rattle.std.proofs.Common.{◌≡◌, true, false, None, refl, sym, ap, subst}
 use Rattle.serial_meaning.specs.Answer.{AnswerView, AnswerTag, IsAnswer}
 use Rattle.serial_meaning.specs.Plan.{PlanView}
 use Rattle.serial_meaning.specs.declared.answer.Outcome.{Outcome}
@@ -31,50 +31,50 @@ by-fault plan (outcome.Fault f) h = h
 by-fault plan (outcome.Cut f) h = absurd h
 
 -- The fault by which it ended is known.
-pub knows-end : (t : TaskView) (p : Parts) (passed : Passed) → StopsSo t (made p passed) → KnowsEnd p passed
+pub knows-end : {K : Type 0} (t : TaskView) (p : Parts K) (passed : Passed K) → StopsSo t (made p passed) → KnowsEnd p passed
 knows-end t p passed-in.Continues h = tt
 knows-end t p passed-in.Waits h = tt
 knows-end t p (passed-in.Spawned child) h = tt
 knows-end t p (passed-in.Ends o) h =
     let ended = ended_by p.state.trace.fault o in by-fault p.state.family.plan ended (subst (λ (plan : PlanView). IsFaultOf plan ended) (sym h.keeps.0) h.known)
 
-kept-end : (t rest : TaskView) (a : AnswerView) (give : AnswerTag) → IsStop t (stop-in.Done a give) → KeepsAnswer a (paused-in.Ended rest) → HasEnded t rest
-kept-end t rest a give h k =
+kept-end : {K : Type 0} (t rest : TaskView) (a : AnswerView) (give : AnswerTag) → IsStop {K = K} t (stop-in.Done a give) → KeepsAnswer {K = K} a (paused-in.Ended rest) → HasEnded K t rest
+kept-end {K} t rest a give h k =
     let answer : record { plan = rest.task.plan; origin = rest.task.origin; out = rest.task.trace.prefix; outcome = a.outcome } ≡ a = rw (k.0, k.1, k.2) refl in
     let give-is : tag rest.task.plan rest.task.origin ≡ give = rw (k.0, k.1, h.keeps.0, h.keeps.1) (sym h.keeps.2) in
     record {
       outcome = a.outcome;
       cut = k.3;
-      stop = subst (λ (x : AnswerView). IsStop t (stop-in.Done x (tag rest.task.plan rest.task.origin))) (sym answer) (subst (λ (y : AnswerTag). IsStop t (stop-in.Done a y)) (sym give-is) h);
+      stop = subst (λ (x : AnswerView). IsStop {K = K} t (stop-in.Done x (tag rest.task.plan rest.task.origin))) (sym answer) (subst (λ (y : AnswerTag). IsStop {K = K} t (stop-in.Done a y)) (sym give-is) h);
     }
 
 -- What a task answers that has ended is its next stop.
-pub ended-stop : (t rest : TaskView) (s : Stop) → HasEnded t rest → Advances rest s → IsStop t s
+pub ended-stop : {K : Type 0} (t rest : TaskView) (s : Stop K) → HasEnded K t rest → Advances rest s → IsStop t s
 ended-stop t rest s h a =
     let end : IsCutEnd rest h.outcome s = a.has_ended h.outcome h.cut in
     subst (IsStop t) (sym end.is) h.stop
 
 -- What the code makes of a stop.
-pub waits-as : (p : Parts) (passed : Passed) → passed ≡ passed-in.Waits → PausesAs (made p passed) (paused-in.Wait (view_of p.state p.remaining))
-waits-as p passed is = subst (λ (x : Passed). PausesAs (made p x) (paused-in.Wait (view_of p.state p.remaining))) (sym is) refl
+pub waits-as : {K : Type 0} (p : Parts K) (passed : Passed K) → passed ≡ passed-in.Waits → PausesAs (made p passed) (paused-in.Wait (view_of p.state p.remaining))
+waits-as p passed is = subst (λ (x : Passed _). PausesAs (made p x) (paused-in.Wait (view_of p.state p.remaining))) (sym is) refl
 
-pub spawns-as : (p : Parts) (passed : Passed) (child : TaskView) → passed ≡ passed-in.Spawned child → PausesAs (made p passed) (paused-in.Spawn child (view_of p.state p.remaining))
-spawns-as p passed child is = subst (λ (x : Passed). PausesAs (made p x) (paused-in.Spawn child (view_of p.state p.remaining))) (sym is) refl
+pub spawns-as : {K : Type 0} (p : Parts K) (passed : Passed K) (child : TaskView) → passed ≡ passed-in.Spawned child → PausesAs (made p passed) (paused-in.Spawn child (view_of p.state p.remaining))
+spawns-as p passed child is = subst (λ (x : Passed _). PausesAs (made p x) (paused-in.Spawn child (view_of p.state p.remaining))) (sym is) refl
 
-pub knows-at : (p : Parts) (passed : Passed) (o : Outcome) → passed ≡ passed-in.Ends o → KnowsEnd p passed → IsByFaultOf p.state.family.plan (ended_by p.state.trace.fault o)
+pub knows-at : {K : Type 0} (p : Parts K) (passed : Passed K) (o : Outcome) → passed ≡ passed-in.Ends o → KnowsEnd p passed → IsByFaultOf p.state.family.plan (ended_by p.state.trace.fault o)
 knows-at p passed o is h = subst (KnowsEnd p) is h
 
-pub keeps-end : (p new : Parts) (passed : Passed) (o : Outcome) → passed ≡ passed-in.Ends o → new.remaining ≡ remaining.Ends (ended_by p.state.trace.fault o) → new.state.family ≡ p.state.family → new.state.trace.prefix ≡ p.state.trace.prefix →
+pub keeps-end : {K : Type 0} (p new : Parts K) (passed : Passed K) (o : Outcome) → passed ≡ passed-in.Ends o → new.remaining ≡ remaining.Ends (ended_by p.state.trace.fault o) → new.state.family ≡ p.state.family → new.state.trace.prefix ≡ p.state.trace.prefix →
     PausesAs (made p passed) (paused-in.Ended (view_of new.state new.remaining))
 keeps-end p new passed o is ends family prefix =
-    subst (λ (x : Passed). PausesAs (made p x) (paused-in.Ended (view_of new.state new.remaining))) (sym is)
+    subst (λ (x : Passed _). PausesAs (made p x) (paused-in.Ended (view_of new.state new.remaining))) (sym is)
     (ap (λ (f : FamilyView). f.plan) family, ap (λ (f : FamilyView). f.origin) family, prefix, ap cut_of ends)
 
-pub holds-end : (b : TaskState) (ended : Outcome) (w : Remaining) → w ≡ remaining.Ends ended → IsAnswer b.family.plan b.family.origin b.trace.prefix ended → IsByFaultOf b.family.plan ended → b.waiting ≡ false → HoldsOfTask b w
+pub holds-end : {K : Type 0} (b : TaskState K) (ended : Outcome) (w : Remaining) → w ≡ remaining.Ends ended → IsAnswer b.family.plan b.family.origin b.trace.prefix ended → IsByFaultOf b.family.plan ended → b.waiting ≡ false → HoldsOfTask b w
 holds-end b ended w is answers known waits = subst (HoldsOfTask b) (sym is) (record { answers = answers; known = known; waits = waits })
 
 -- What the code makes of it is its pause.
-pub pauses : (t : TaskView) (m : MoveOrStop) (p : Paused) → StopsSo t m → PausesAs m p → Pauses t p
+pub pauses : {K : Type 0} (t : TaskView) (m : MoveOrStop K) (p : Paused K) → StopsSo t m → PausesAs m p → Pauses t p
 pauses t (step-in.Passes next) p h k = absurd k
 pauses t (step-in.Stops (stop-in.Spawn child rest)) p h k = subst (Pauses t) (sym k) h
 pauses t (step-in.Stops (stop-in.Wait rest)) p h k = subst (Pauses t) (sym k) h
@@ -83,18 +83,18 @@ pauses t (step-in.Stops (stop-in.Done a give)) (paused-in.Wait rest) h k = absur
 pauses t (step-in.Stops (stop-in.Done a give)) (paused-in.Ended rest) h k = kept-end t rest a give h k
 
 -- The stop that a pause comes to.
-module _ (t : TaskView) (p : Paused) (h : Pauses t p) where
-  pub spawns-so : (child rest : TaskView) → t.cut ≡ None → p ≡ paused-in.Spawn child rest → Advances t (stop-in.Spawn child rest)
+module _ {K : Type 0} (t : TaskView) (p : Paused K) (h : Pauses t p) where
+  pub spawns-so : (child rest : TaskView) → t.cut ≡ None → p ≡ paused-in.Spawn child rest → Advances {K = K} t (stop-in.Spawn child rest)
   spawns-so child rest goes is = advances-uncut t (stop-in.Spawn child rest) goes (subst (Pauses t) is h)
 
-  pub waits-so : (rest : TaskView) → t.cut ≡ None → p ≡ paused-in.Wait rest → Advances t (stop-in.Wait rest)
+  pub waits-so : (rest : TaskView) → t.cut ≡ None → p ≡ paused-in.Wait rest → Advances {K = K} t (stop-in.Wait rest)
   waits-so rest goes is = advances-uncut t (stop-in.Wait rest) goes (subst (Pauses t) is h)
 
-  has-ended : (rest : TaskView) → p ≡ paused-in.Ended rest → HasEnded t rest
+  has-ended : (rest : TaskView) → p ≡ paused-in.Ended rest → HasEnded K t rest
   has-ended rest is = subst (Pauses t) is h
 
   pub ended-short : (rest : TaskView) → p ≡ paused-in.Ended rest → is_cut_short rest.cut ≡ true
   ended-short rest is = ap is_cut_short (has-ended rest is).cut
 
-  pub ends-so : (rest : TaskView) (s : Stop) → t.cut ≡ None → p ≡ paused-in.Ended rest → Advances rest s → Advances t s
+  pub ends-so : (rest : TaskView) (s : Stop K) → t.cut ≡ None → p ≡ paused-in.Ended rest → Advances rest s → Advances t s
   ends-so rest s goes is a = advances-uncut t s goes (ended-stop t rest s (has-ended rest is) a)

@@ -2,6 +2,7 @@
 use Rattle.std.proofs.Common.{◌≡◌, ℕ, List, [], ◌++◌, Option, Some, None, refl, sym, ap, ◌∙◌, subst}
 use Rattle.serial_meaning.specs.declared.event.Event.{Event}
 use Rattle.serial_meaning.specs.declared.event.Fault.{Fault}
+use Rattle.serial_meaning.specs.declared.keep.All.{All}
 use Rattle.strand_meaning.specs.Laws.{MovesFall, StopsAreSound}
 use Rattle.strand_meaning.specs.Observation as meaning
 use Rattle.strand_meaning.specs.Observation.{newest, also, no_observation, step_observation, Shows, Now, Later}
@@ -66,9 +67,9 @@ module _ (first : TaskView) (j : List ℕ) (eye : Eye) (now : TaskView) (observa
       ∙ sym (events_at-append j (own_events h.front.items) (own_events step-shows.items))
       ∙ ap (events_at j) (sym (own-append h.front.items step-shows.items))
 
-  pub observed-on : MovesFall → (next : TaskView) (s : MadeStep) → IsStep now s → s ≡ step-in.Passes next → LeadsObserved first j eye next after
+  pub observed-on : MovesFall → (next : TaskView) (s : MadeStep All) → IsStep now s → s ≡ step-in.Passes next → LeadsObserved first j eye next after
   observed-on law next s g e =
-      let k : IsStep now (step-in.Passes next) = subst (IsStep now) e g in
+      let k : IsStep {K = All} now (step-in.Passes next) = subst (IsStep now) e g in
       record {
         leads = leads-on law first now next s h.leads g e;
         front = also h.front step-shows;
@@ -79,7 +80,7 @@ module _ (first : TaskView) (j : List ℕ) (eye : Eye) (now : TaskView) (observa
         child_fault = ap (λ (n : Observed). n.child_fault) same ∙ ap (λ (f : Option Fault). newest f step-shows.child_fault) h.child_fault;
       }
 
-  pub observed-stop : StopsAreSound → IsTask first.task → (stop : MadeStop) (s : MadeStep) → IsStep now s → s ≡ step-in.Stops stop →
+  pub observed-stop : StopsAreSound → IsTask first.task → (stop : MadeStop All) (s : MadeStep All) → IsStep now s → s ≡ step-in.Stops stop →
       IsObserved first j eye (record { stop = stop; eye = after.eye; events = after.events; fault = after.fault; child_fault = after.child_fault })
   observed-stop sounds sound stop s g e =
       let k : IsStep now (step-in.Stops stop) = subst (IsStep now) e g in

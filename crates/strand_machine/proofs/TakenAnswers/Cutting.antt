@@ -95,16 +95,16 @@ answers-then p ps a answers before between after h k = record {
   said = (h.said.0, k.said);
 }
 
-pub answers-next : (xs ys : List AnswerView) (bs cs : List AfterChild) (a : AnswerView) (b : AfterChild) (before between after : Merge) → xs ≡ a ∷ ys → bs ≡ b ∷ cs →
+pub answers-next : {K : Type 0} (xs ys : List AnswerView) (bs cs : List (AfterChild K)) (a : AnswerView) (b : AfterChild K) (before between after : Merge) → xs ≡ a ∷ ys → bs ≡ b ∷ cs →
     TakesAnswers (awaited_child a.origin b ∷ []) (a ∷ []) before between → TakesAnswers (awaited_children (origins (answer_tags ys)) cs) ys between after →
     TakesAnswers (awaited_children (origins (answer_tags xs)) bs) xs before after
 answers-next xs ys bs cs a b before between after e k h more =
     let all : TakesAnswers (awaited_children (origins (answer_tags (a ∷ ys))) (b ∷ cs)) (a ∷ ys) before after =
     answers-then (awaited_child a.origin b) (awaited_children (origins (answer_tags ys)) cs) a ys before between after h more in
-    subst (λ (ds : List AfterChild). TakesAnswers (awaited_children (origins (answer_tags xs)) ds) xs before after) (sym k)
+    subst (λ (ds : List (AfterChild _)). TakesAnswers (awaited_children (origins (answer_tags xs)) ds) xs before after) (sym k)
     (subst (λ (zs : List AnswerView). TakesAnswers (awaited_children (origins (answer_tags zs)) (b ∷ cs)) zs before after) (sym e) all)
 
-pub answers-no-more : (xs : List AnswerView) (bs : List AfterChild) (g : Merge) → length xs ≡ 0 → length bs ≡ 0 → TakesAnswers (awaited_children (origins (answer_tags xs)) bs) xs g g
+pub answers-no-more : {K : Type 0} (xs : List AnswerView) (bs : List (AfterChild K)) (g : Merge) → length xs ≡ 0 → length bs ≡ 0 → TakesAnswers (awaited_children (origins (answer_tags xs)) bs) xs g g
 answers-no-more [] bs g h k = record { takes = takes-none g; ended = refl; cut = sym (or-false g.cut); said = tt }
 answers-no-more (x ∷ xs) bs g h k = absurd (omega arith)
 
@@ -158,7 +158,7 @@ fault-first : (f : Option Fault) → end_of f false ≡ by_fault f
 fault-first None = refl
 fault-first (Some f) = refl
 
-pub own-children : (b : TaskState) (os : List Origin) (bs : List AfterChild) (ts : List AnswerTag) → awaited_children os bs ≡ b.trace.handed → length os ≡ length bs → ts ≡ tags b.family.plan (awaited b.trace.handed) → origins ts ≡ os
+pub own-children : {K : Type 0} (b : TaskState K) (os : List Origin) (bs : List (AfterChild K)) (ts : List AnswerTag) → awaited_children os bs ≡ b.trace.handed → length os ≡ length bs → ts ≡ tags b.family.plan (awaited b.trace.handed) → origins ts ≡ os
 own-children b os bs ts parts same e = ap origins e ∙ origins-tags b.family.plan (awaited b.trace.handed) ∙ ap awaited (sym parts) ∙ awaited_parts os bs same
 
 pub went-whole : (answers : List AnswerView) (t next : TaskView) → any_cut answers ≡ false → next ≡ view_on t → WentOn answers t next
@@ -169,32 +169,32 @@ went-short answers t next cut h = record { whole = λ none. absurd (true≢false
 
 -- Answers change the trace and the values of a body, and what remains.
 
-pub keeps-then : (p q r : Parts) → KeepsRest p q → KeepsRest q r → KeepsRest p r
-keeps-then p q r h k = record { state = k.state ∙ ap (λ (b : TaskState). record b { trace = r.state.trace; values = r.state.values }) h.state; handed = k.handed }
+pub keeps-then : {K : Type 0} (p q r : Parts K) → KeepsRest p q → KeepsRest q r → KeepsRest p r
+keeps-then p q r h k = record { state = k.state ∙ ap (λ (b : TaskState _). record b { trace = r.state.trace; values = r.state.values }) h.state; handed = k.handed }
 
-pub of_plan-then : (p q : Parts) (merging after : Merging) (ps : List AwaitedChild) (answers : List AnswerView) → KeepsRest p q → TakesAnswers ps answers (merge_of p merging) (merge_of q after) →
+pub of_plan-then : {K : Type 0} (p q : Parts K) (merging after : Merging) (ps : List AwaitedChild) (answers : List AnswerView) → KeepsRest p q → TakesAnswers ps answers (merge_of p merging) (merge_of q after) →
     IsRemainingOfPlan p.state.family.plan p.remaining → IsRemainingOfPlan q.state.family.plan q.remaining
 of_plan-then p q merging after ps answers kept h w =
-    subst (λ (f : FamilyView). IsRemainingOfPlan f.plan q.remaining) (sym (ap (λ (b : TaskState). b.family) kept.state)) (w.0, h.takes.remaining.of_plan p.state.family.plan w.0 w.1)
+    subst (λ (f : FamilyView). IsRemainingOfPlan f.plan q.remaining) (sym (ap (λ (b : TaskState _). b.family) kept.state)) (w.0, h.takes.remaining.of_plan p.state.family.plan w.0 w.1)
 
 -- the variables of the children that are left are found still
-pub found-then : (p q : Parts) (merging after : Merging) (child : AwaitedChild) (a : AnswerView) (bs : List AfterChild) → KeepsRest p q → TakesAnswers (child ∷ []) (a ∷ []) (merge_of p merging) (merge_of q after) →
+pub found-then : {K : Type 0} (p q : Parts K) (merging after : Merging) (child : AwaitedChild) (a : AnswerView) (bs : List (AfterChild K)) → KeepsRest p q → TakesAnswers (child ∷ []) (a ∷ []) (merge_of p merging) (merge_of q after) →
     RemainingFindsAll p.state.family.plan bs (remaining_of p.state.family.plan p.remaining) → RemainingFindsAll q.state.family.plan bs (remaining_of q.state.family.plan q.remaining)
 found-then p q merging after child a bs kept h found =
-    subst (λ (f : FamilyView). RemainingFindsAll f.plan bs (remaining_of f.plan q.remaining)) (sym (ap (λ (b : TaskState). b.family) kept.state))
+    subst (λ (f : FamilyView). RemainingFindsAll f.plan bs (remaining_of f.plan q.remaining)) (sym (ap (λ (b : TaskState _). b.family) kept.state))
     (found-kept p.state.family.plan child.destination (evaluation_of a.out a.outcome).ending p.remaining q.remaining bs h.takes.remaining found)
 
-pub kept-state : (p q : Parts) → KeepsRest p q → q.state ≡ record p.state { trace = record q.state.trace { handed = [] }; values = q.state.values }
+pub kept-state : {K : Type 0} (p q : Parts K) → KeepsRest p q → q.state ≡ record p.state { trace = record q.state.trace { handed = [] }; values = q.state.values }
 kept-state p q k = k.state ∙ ap (λ (ps : List AwaitedChild). record p.state { trace = record q.state.trace { handed = ps }; values = q.state.values }) k.handed
 
 -- the task as it was before its children were taken out of the trace
-pub taken-from : (b : TaskState) (w : Remaining) (trace : Trace) (ps : List AwaitedChild) (answers : List AnswerView) (after : Merge) → trace ≡ record b.trace { handed = [] } →
+pub taken-from : {K : Type 0} (b : TaskState K) (w : Remaining) (trace : Trace) (ps : List AwaitedChild) (answers : List AnswerView) (after : Merge) → trace ≡ record b.trace { handed = [] } →
     TakesAnswers ps answers (begins (record b { trace = trace }) w) after → TakesAnswers ps answers (begins b w) after
 taken-from b w trace ps answers after e h = subst (λ (t : Trace). TakesAnswers ps answers (begins (record b { trace = t }) w) after) e h
 
 -- What is left of a task that took a cut
 
-module _ (b : TaskState) (w : Remaining) (os : List Origin) (bs : List AfterChild) (answers : List AnswerView) (after : Merge) where
+module _ {K : Type 0} (b : TaskState K) (w : Remaining) (os : List Origin) (bs : List (AfterChild K)) (answers : List AnswerView) (after : Merge) where
   -- where none is a cut they are the children's evaluations
   pub takes-whole : AnswersAreEvaluations → TakesAnswers (awaited_children (origins (answer_tags answers)) bs) answers (begins b w) after → any_cut answers ≡ false →
       IsMergeOf (awaited_children (origins (answer_tags answers)) bs) (meanings (answer_tags answers)) (begins b w) after
@@ -239,8 +239,8 @@ short-some family g r h e none = let some : Some h.outcome ≡ None = sym h.ende
 same-end : (family : FamilyView) (g : Merge) (h : EndsShort family g) (o : Outcome) (r : Option Outcome) → r ≡ ended_of g → r ≡ Some o → h.outcome ≡ o
 same-end family g h o r e is = let some : Some h.outcome ≡ Some o = sym h.ended ∙ sym e ∙ is in cc
 
-pub short-holds : (family : FamilyView) (g : Merge) → EndsShort family g → (o : Outcome) (r : Option Outcome) → r ≡ ended_of g → r ≡ Some o →
-    (b : TaskState) → b.family ≡ family → b.trace ≡ record { prefix = g.prefix; fault = None; handed = [] } → b.waiting ≡ false → IsCutShort b o
+pub short-holds : {K : Type 0} (family : FamilyView) (g : Merge) → EndsShort family g → (o : Outcome) (r : Option Outcome) → r ≡ ended_of g → r ≡ Some o →
+    (b : TaskState K) → b.family ≡ family → b.trace ≡ record { prefix = g.prefix; fault = None; handed = [] } → b.waiting ≡ false → IsCutShort b o
 short-holds family g h o r e is b same trace waits =
     let prefix : b.trace.prefix ≡ g.prefix = ap (λ (p : Trace). p.prefix) trace in
     let end = same-end family g h o r e is in
@@ -251,8 +251,8 @@ short-holds family g h o r e is b same trace waits =
       waits = waits;
     }
 
-pub short-view : (family : FamilyView) (g : Merge) (advanced : Bool) (o : Outcome) (r : Option Outcome) → r ≡ ended_of g → r ≡ Some o →
-    (b : TaskState) → b.family ≡ family → b.trace ≡ record { prefix = g.prefix; fault = None; handed = [] } → b.waiting ≡ false → b.advanced ≡ advanced → IsShort family g advanced (view_of b (remaining.Ends o))
+pub short-view : {K : Type 0} (family : FamilyView) (g : Merge) (advanced : Bool) (o : Outcome) (r : Option Outcome) → r ≡ ended_of g → r ≡ Some o →
+    (b : TaskState K) → b.family ≡ family → b.trace ≡ record { prefix = g.prefix; fault = None; handed = [] } → b.waiting ≡ false → b.advanced ≡ advanced → IsShort family g advanced (view_of b (remaining.Ends o))
 short-view family g advanced o r e is b same trace waits was = record {
   plan = ap (λ (f : FamilyView). f.plan) same;
   origin = ap (λ (f : FamilyView). f.origin) same;

@@ -84,7 +84,7 @@ faulted-answer t is f h =
 pub faulted-known : (t : Task) → IsTask t → (f : Fault) → t.trace.fault ≡ Some f → IsFaultOf t.plan (outcome.Fault f)
 faulted-known t is f h = subst (λ (q : Evaluation). EndsWithin (faults t.plan) q.ending) (sym (faulted-same t is f h)) (origins_end_within_faults t.plan t.origin is.known)
 
-pub answers-by : (b : TaskState) (w : Remaining) (prefix : List Event) (f : Fault) → IsSound b w → prefix ≡ b.trace.prefix → b.trace.fault ≡ Some f → IsEval b.family.plan b.family.origin prefix (outcome.Fault f)
+pub answers-by : {K : Type 0} (b : TaskState K) (w : Remaining) (prefix : List Event) (f : Fault) → IsSound b w → prefix ≡ b.trace.prefix → b.trace.fault ≡ Some f → IsEval b.family.plan b.family.origin prefix (outcome.Fault f)
 answers-by b w prefix f sound same h = subst (λ (es : List Event). IsEval b.family.plan b.family.origin es (outcome.Fault f)) (sym same) (faulted-answer (task_of b w) sound.task f h)
 
 -- The call
@@ -124,7 +124,7 @@ not-none v begun after ts t same on tagged err none =
     last-err v.task.plan v.task.trace.handed ts t tagged err (record v.task.trace { handed = [] }) (ap (λ (w : TaskView). w.task.trace.fault) (sym is) ∙ none)
 
 -- the answer of the task after them is the task's own
-pub ends-by : (b : TaskState) (w : Remaining) (v begun after : TaskView) → begun ≡ v → after ≡ view_on begun → view_of b w ≡ after → IsSound b w → (f : Fault) → b.trace.fault ≡ Some f →
+pub ends-by : {K : Type 0} (b : TaskState K) (w : Remaining) (v begun after : TaskView) → begun ≡ v → after ≡ view_on begun → view_of b w ≡ after → IsSound b w → (f : Fault) → b.trace.fault ≡ Some f →
     (out : List Event) (answer : AnswerView) (by : AnswerTag) → answer ≡ record { plan = b.family.plan; origin = b.family.origin; out = out; outcome = outcome.Fault f } → by ≡ tag b.family.plan b.family.origin →
     EndsByFault v answer by
 ends-by b w v begun after same on view sound f h out answer by e g =

@@ -199,13 +199,13 @@ takes-none g = record {
 
 -- All children
 
-meanings-tags : (plan : PlanView) (os : List Origin) (bs : List AfterChild) → length os ≡ length bs → meanings (tags plan os) ≡ evaluations (eval plan) (awaited_children os bs)
+meanings-tags : {K : Type 0} (plan : PlanView) (os : List Origin) (bs : List (AfterChild K)) → length os ≡ length bs → meanings (tags plan os) ≡ evaluations (eval plan) (awaited_children os bs)
 meanings-tags plan [] bs h = refl
 meanings-tags plan (o ∷ os) [] h = absurd (omega arith)
 meanings-tags plan (o ∷ os) (b ∷ bs) h = ap (λ es. eval plan o ∷ es) (meanings-tags plan os bs (omega arith))
 
 -- answers with the children's tags are the children's evaluations
-pub takes-awaited : (plan : PlanView) (os : List Origin) (bs : List AfterChild) (ts : List AnswerTag) (before after : Merge) → length os ≡ length bs → ts ≡ tags plan (awaited (awaited_children os bs)) →
+pub takes-awaited : {K : Type 0} (plan : PlanView) (os : List Origin) (bs : List (AfterChild K)) (ts : List AnswerTag) (before after : Merge) → length os ≡ length bs → ts ≡ tags plan (awaited (awaited_children os bs)) →
     IsMergeOf (awaited_children (origins ts) bs) (meanings ts) before after → IsMergeOf (awaited_children os bs) (evaluations (eval plan) (awaited_children os bs)) before after
 takes-awaited plan os bs ts before after same are h =
     let all : ts ≡ tags plan os = are ∙ ap (tags plan) (awaited_parts os bs same) in
@@ -230,11 +230,11 @@ goes-on t before after rest trace values remaining h over =
 
 -- The task after its wait
 
-abbrev pub begins : TaskState → Remaining → Merge
+abbrev pub begins : {K : Type 0} → TaskState K → Remaining → Merge
 begins b w = record { prefix = b.trace.prefix; fault = b.trace.fault; values = b.values; remaining = w; cut = false; by_cut = false }
 
-module _ (b : TaskState) (w : Remaining) (os : List Origin) (bs : List AfterChild) (ts : List AnswerTag) (after : Merge) (rest : Remaining) where
-  abbrev next-state : TaskState
+module _ {K : Type 0} (b : TaskState K) (w : Remaining) (os : List Origin) (bs : List (AfterChild K)) (ts : List AnswerTag) (after : Merge) (rest : Remaining) where
+  abbrev next-state : TaskState K
   next-state = record b { trace = trace_of after; values = after.values; waiting = false }
 
   task-on : awaited_children os bs ≡ b.trace.handed → length os ≡ length bs → ts ≡ tags b.family.plan (awaited b.trace.handed) → IsMergeOf (awaited_children (origins ts) bs) (meanings ts) (begins b w) after →
@@ -263,7 +263,7 @@ module _ (b : TaskState) (w : Remaining) (os : List Origin) (bs : List AfterChil
         of_plan = over.of_plan plan _ (h.remaining.of_plan plan _ sound.of_plan);
       }
 
-pub answered-sound : (b : TaskState) (w : Remaining) → IsSound b w → HasTakenAnswers b w
+pub answered-sound : {K : Type 0} (b : TaskState K) (w : Remaining) → IsSound b w → HasTakenAnswers b w
 answered-sound b w h = record { task = h.task; taken = taken-length b.family _ (awaits-count b.family b.trace.handed h.family); of_plan = h.of_plan }
 
 -- Looks
@@ -274,14 +274,14 @@ looked-last f g ps ready loads e h =
     subst (λ (x : FamilyView). AwaitsLast x ps) (sym e) there
 
 -- a look that finds no answers leaves the task as it was
-pub looked-sound : (b : TaskState) (w : Remaining) (g : FamilyView) (ready : Bool) (loads : List ℕ) → g ≡ record b.family { ready = ready; loads = loads } → IsSound b w → IsSound (record b { family = g }) w
+pub looked-sound : {K : Type 0} (b : TaskState K) (w : Remaining) (g : FamilyView) (ready : Bool) (loads : List ℕ) → g ≡ record b.family { ready = ready; loads = loads } → IsSound b w → IsSound (record b { family = g }) w
 looked-sound b w g ready loads e h =
     let there : IsSound (record b { family = record b.family { ready = ready; loads = loads } }) w =
     record { task = h.task; family = looked-last b.family (record b.family { ready = ready; loads = loads }) b.trace.handed ready loads refl h.family; of_plan = h.of_plan } in
     subst (λ (x : FamilyView). IsSound (record b { family = x }) w) (sym e) there
 
 -- a look that finds all answers, and the answers taken
-pub taken-answered : (b : TaskState) (w : Remaining) (g k : FamilyView) (ready : Bool) (loads : List ℕ) → g ≡ record b.family { ready = ready; loads = loads } → k ≡ record g { taken = k.taken } →
+pub taken-answered : {K : Type 0} (b : TaskState K) (w : Remaining) (g k : FamilyView) (ready : Bool) (loads : List ℕ) → g ≡ record b.family { ready = ready; loads = loads } → k ≡ record g { taken = k.taken } →
     length k.taken ≡ length g.taken → IsSound b w → HasTakenAnswers (record b { family = k }) w
 taken-answered b w g k ready loads e d same h =
     let looked = looked-sound b w g ready loads e h in
@@ -289,7 +289,7 @@ taken-answered b w g k ready loads e d same h =
     let there : HasTakenAnswers (record b { family = record g { taken = k.taken } }) w = record { task = whole.task; taken = same ∙ whole.taken; of_plan = whole.of_plan } in
     subst (λ (x : FamilyView). HasTakenAnswers (record b { family = x }) w) (sym d) there
 
-pub looked-same : (b : TaskState) (w : Remaining) (g : FamilyView) (ready : Bool) (loads : List ℕ) → g ≡ record b.family { ready = ready; loads = loads } → (t : TaskView) → view_of b w ≡ t → HasStopped b.family.loads g.loads →
+pub looked-same : {K : Type 0} (b : TaskState K) (w : Remaining) (g : FamilyView) (ready : Bool) (loads : List ℕ) → g ≡ record b.family { ready = ready; loads = loads } → (t : TaskView) → view_of b w ≡ t → HasStopped b.family.loads g.loads →
     (task_of (record b { family = g }) w ≡ t.task) × (g.children ≡ t.children) × HasStopped t.loads g.loads × (cut_of w ≡ t.cut)
 looked-same b w g ready loads e t view stopped = (
   ap (λ (f : FamilyView). task_of (record b { family = f }) w) e ∙ ap (λ (v : TaskView). v.task) view,
@@ -299,14 +299,14 @@ looked-same b w g ready loads e t view stopped = (
 )
 
 -- with the numbers that the look has loaded
-taken-view : (b : TaskState) (w : Remaining) (g k : FamilyView) (ready : Bool) (loads : List ℕ) → g ≡ record b.family { ready = ready; loads = loads } → k ≡ record g { taken = k.taken } → (t : TaskView) → view_of b w ≡ t →
+taken-view : {K : Type 0} (b : TaskState K) (w : Remaining) (g k : FamilyView) (ready : Bool) (loads : List ℕ) → g ≡ record b.family { ready = ready; loads = loads } → k ≡ record g { taken = k.taken } → (t : TaskView) → view_of b w ≡ t →
     view_of (record b { family = k }) w ≡ record t { loads = g.loads }
 taken-view b w g k ready loads e d t view =
     ap (λ (f : FamilyView). view_of (record b { family = f }) w) d
     ∙ ap (λ (f : FamilyView). record (view_of (record b { family = record f { taken = k.taken } }) w) { loads = g.loads }) e
     ∙ ap (λ (v : TaskView). record v { loads = g.loads }) view
 
-pub resumed-on : (b : TaskState) (w : Remaining) (g k : FamilyView) (ready : Bool) (loads : List ℕ) → g ≡ record b.family { ready = ready; loads = loads } → k ≡ record g { taken = k.taken } →
+pub resumed-on : {K : Type 0} (b : TaskState K) (w : Remaining) (g k : FamilyView) (ready : Bool) (loads : List ℕ) → g ≡ record b.family { ready = ready; loads = loads } → k ≡ record g { taken = k.taken } →
     (t next : TaskView) → view_of b w ≡ t → t.cut ≡ None → (answers : List AnswerView) → AreAnswersOf k.plan b.trace.handed answers → WentOn answers (view_of (record b { family = k }) w) next → HasPassed b.family.loads g.loads →
     (xs : List AnswerView) × AreAnswersOf t.task.plan t.task.trace.handed xs × WentOn xs (looked next.loads t) next × HasPassed t.loads next.loads
 resumed-on b w g k ready loads e d t next view goes answers are went-on passed = (answers, frame_with_answer, looks, read)

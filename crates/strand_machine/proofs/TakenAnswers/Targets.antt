@@ -95,16 +95,16 @@ module _ (plan : PlanView) (destination : machine.Destination) where
   remaining-keeps p q (Runs s) h = stage-keeps p q s h
   remaining-keeps p q (Finished v gone_on) h = h
 
-all-keep : (plan : PlanView) (p : machine.Destination) (q : Result (List Value) Fault) (w : meaning.Remaining) (bs : List AfterChild) → RemainingFindsAll plan bs w → RemainingFindsAll plan bs (with_stage (takes p q) w)
+all-keep : {K : Type 0} (plan : PlanView) (p : machine.Destination) (q : Result (List Value) Fault) (w : meaning.Remaining) (bs : List (AfterChild K)) → RemainingFindsAll plan bs w → RemainingFindsAll plan bs (with_stage (takes p q) w)
 all-keep plan p q w [] h = tt
 all-keep plan p q w (b ∷ bs) h = (remaining-keeps plan (destination_of b.destination) p q w h.0, all-keep plan p q w bs h.1)
 
-pub found-kept : (plan : PlanView) (p : machine.Destination) (q : Result (List Value) Fault) (before after : Remaining) (bs : List AfterChild) → BecomesRemaining (with_stage (takes p q)) before after →
+pub found-kept : {K : Type 0} (plan : PlanView) (p : machine.Destination) (q : Result (List Value) Fault) (before after : Remaining) (bs : List (AfterChild K)) → BecomesRemaining (with_stage (takes p q)) before after →
     RemainingFindsAll plan bs (remaining_of plan before) → RemainingFindsAll plan bs (remaining_of plan after)
 found-kept plan p q before after bs h found = subst (RemainingFindsAll plan bs) (sym (h.is plan)) (all-keep plan p q (remaining_of plan before) bs found)
 
 -- At first those of all children are found.
-pub all-found : (plan : PlanView) (w : meaning.Remaining) (os : List Origin) (bs : List AfterChild) → length os ≡ length bs → FindsTargets plan (functions_left w) (awaited_children os bs) → RemainingFindsAll plan bs w
+pub all-found : {K : Type 0} (plan : PlanView) (w : meaning.Remaining) (os : List Origin) (bs : List (AfterChild K)) → length os ≡ length bs → FindsTargets plan (functions_left w) (awaited_children os bs) → RemainingFindsAll plan bs w
 all-found plan w [] [] same h = tt
 all-found plan w [] (b ∷ bs) same h = absurd (omega arith)
 all-found plan w (o ∷ os) [] same h = tt

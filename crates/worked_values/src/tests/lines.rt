@@ -2,7 +2,9 @@ use super::same;
 use loop_range::IterRange;
 use ped_path::{Ped, Pedigree};
 use script_grammar::Items;
-use serial_meaning::{Event, Fault, FaultKind, Memory, Origin, Out, Strand, Value, render_strand};
+use serial_meaning::{
+    All, Event, Fault, FaultKind, Keep, Memory, Origin, Out, Prints, Strand, Value, render_strand,
+};
 use std::alloc::Global;
 use std::ops::Range;
 use std::test::Fail;
@@ -194,6 +196,112 @@ fn a_chunk_knows_whether_it_has_a_print(rt: HostRuntime) -> Result<(), Fail> {
         prints.as_slice(),
         [true, false, true, false].as_slice(),
     );
+    Ok(())
+}
+
+/// An event of each of these ranks: a print where it is even, and else an object.
+fn alternating<K: Keep>(alloc: Global, ranks: Range<u32>) -> Result<Out<K>, Memory> {
+    let mut events = Out::none();
+    for rank in ranks {
+        let at = strand(alloc, rank)?;
+        let event = if rank % 2 == 0 {
+            Event::Print(at, Value::Int(1))
+        } else {
+            Event::New(at)
+        };
+        events.push(alloc, event)?;
+    }
+    Ok(events)
+}
+
+/// Those of the ranks below `middle`, and those up to `end` appended.
+fn in_two<K: Keep>(alloc: Global, middle: u32, end: u32) -> Result<Out<K>, Memory> {
+    let mut events = alternating(alloc, 0..middle)?;
+    events.append(alternating(alloc, middle..end)?)?;
+    Ok(events)
+}
+
+/// The ranks of these events, at the end of the others.
+fn add_ranks(ranks: &mut Vec<u64>, events: &[Event]) -> Result<(), Memory> {
+    for event in events {
+        match event {
+            Event::Print(at, _) => ranks.push(at.rank)?,
+            Event::New(at) => ranks.push(at.rank)?,
+            _ => {}
+        }
+    }
+    Ok(())
+}
+
+/// The ranks of the events that are kept.
+fn kept_ranks<K: Keep>(alloc: Global, events: &Out<K>) -> Result<Vec<u64>, Memory> {
+    let mut ranks = Vec::new(alloc);
+    if let Some((full, last)) = events.kept_chunks() {
+        for chunk in full {
+            add_ranks(&mut ranks, chunk.events())?;
+        }
+        add_ranks(&mut ranks, last)?;
+    }
+    Ok(ranks)
+}
+
+// Where the second list begins, where it ends, and the ranks of the prints.
+static APPENDED: [(u32, u32, &[u64]); 13] = [
+    (0, 0, &[]),
+    (0, 1, &[0]),
+    (0, 4, &[0, 2]),
+    (1, 1, &[0]),
+    (1, 2, &[0]),
+    (1, 3, &[0, 2]),
+    (1, 7, &[0, 2, 4, 6]),
+    (2, 3, &[0, 2]),
+    (4, 4, &[0, 2]),
+    (4, 5, &[0, 2, 4]),
+    (4, 8, &[0, 2, 4, 6]),
+    (4, 24, &[0, 2, 4, 6, 8, 10, 12, 14, 16, 18, 20, 22]),
+    (
+        20,
+        40,
+        &[
+            0, 2, 4, 6, 8, 10, 12, 14, 16, 18, 20, 22, 24, 26, 28, 30, 32, 34, 36, 38,
+        ],
+    ),
+];
+
+#[test]
+fn a_list_of_prints_keeps_them_alone(rt: HostRuntime) -> Result<(), Fail> {
+    for &(middle, end, prints) in &APPENDED {
+        let events: Out<Prints> = in_two(rt.alloc(), middle, end)?;
+        let kept = kept_ranks(rt.alloc(), &events)?;
+        same(&rt, format_args!("{middle} {end}"), kept.as_slice(), prints);
+        same(&rt, format_args!("length {end}"), events.len(), end as u64);
+    }
+    Ok(())
+}
+
+/// The numbers below `end`.
+fn numbers(alloc: Global, end: u32) -> Result<Vec<u64>, Memory> {
+    let mut numbers = Vec::new(alloc);
+    for number in 0..end {
+        numbers.push(number as u64)?;
+    }
+    Ok(numbers)
+}
+
+#[test]
+fn a_list_of_all_events_keeps_each(rt: HostRuntime) -> Result<(), Fail> {
+    for &(middle, end, _) in &APPENDED {
+        let events: Out<All> = in_two(rt.alloc(), middle, end)?;
+        let kept = kept_ranks(rt.alloc(), &events)?;
+        let wanted = numbers(rt.alloc(), end)?;
+        same(
+            &rt,
+            format_args!("{middle} {end}"),
+            kept.as_slice(),
+            wanted.as_slice(),
+        );
+        same(&rt, format_args!("length {end}"), events.len(), end as u64);
+    }
     Ok(())
 }
 

@@ -4,7 +4,7 @@ use Rattle.crew.proofs.Cutting.{is_cut}
 use Rattle.crew.proofs.faults.cutting.Goals as goal
 
 pub returns : goal.returns
-returns c =
+returns g c =
     let may : IsTrue c.may_cut.result = search rules in
     let one : IsTrue c.is_of.result = search rules in
     let plan : c.deref.result.now ≡ c.args.task.now.task.plan = search rules in

@@ -3,7 +3,7 @@ use Rattle.crew.proofs.Meeting.{thieves-more, hands-more}
 use Rattle.crew.proofs.hiring.add_thieves.Goals as goal
 
 pub loop-hand-preserved : goal.loop-hand-preserved
-loop-hand-preserved c =
+loop-hand-preserved g c =
     let l = c.loop-hand in
     let made = c.in_ok-thief.ensures in
     record {

@@ -3,10 +3,10 @@ use Rattle.crew.proofs.Meeting.{starts-meeting, meets-next, all-exchange_thieves
 use Rattle.crew.proofs.hiring.exchange_thieves.Goals as goal
 
 pub loop-own-init : goal.loop-own-init
-loop-own-init c = record { count = search rules; meeting = λ decks e. starts-meeting decks c.args.hands.now e }
+loop-own-init g c = record { count = search rules; meeting = λ decks e. starts-meeting decks c.args.hands.now e }
 
 pub loop-own-preserved : goal.loop-own-preserved
-loop-own-preserved c =
+loop-own-preserved g c =
     let l = c.loop-own in
     let whole = c.split_at_mut-front.ensures in
     let parts = c.split_at_mut-one.ensures in
@@ -19,4 +19,4 @@ loop-own-preserved c =
     }
 
 pub returns-clause-met : goal.returns-clause-met
-returns-clause-met c = λ decks e. all-exchange_thieves c.loop-own.own decks c.loop-own.hands (c.loop-own.invariant.meeting decks e) (search rules)
+returns-clause-met g c = λ decks e. all-exchange_thieves c.loop-own.own decks c.loop-own.hands (c.loop-own.invariant.meeting decks e) (search rules)

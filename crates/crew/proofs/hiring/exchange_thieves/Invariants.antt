@@ -5,7 +5,7 @@ use Rattle.crew.proofs.Meeting.{IsMeeting}
 use Rattle.crew.proofs.hiring.exchange_thieves.Given as goal
 
 abbrev pub invariant-loop-own : goal.invariant-loop-own
-invariant-loop-own l = record {
+invariant-loop-own g l = record {
   count : length l.hands ≡ length l.fn.hands;
   meeting : (decks : List DeckId) → l.fn.hands ≡ map new_hand decks → IsMeeting decks l.own l.hands;
 }

@@ -6,7 +6,7 @@ use Rattle.crew.proofs.Meeting.{are-idle, as-many}
 use Rattle.crew.proofs.hiring.hire.Goals as goal
 
 pub returns-clause-idle : goal.returns-clause-idle
-returns-clause-idle c =
+returns-clause-idle g c =
     let new = c.in_ok-hands.hands.items in
     let met = c.exchange_thieves.new.hands in
     let now = take c.in_ok-hands.hands.len (met ++ drop (length met) new) in
@@ -16,4 +16,4 @@ returns-clause-idle c =
     subst (AreIdle c.args.workers) (sym overflow) (are-idle c.args.workers new met c.in_ok-hands.ensures (subst (λ (l : List HandView). HaveMet l met) whole c.in_ok-exchange_thieves.ensures.met))
 
 pub returns-clause-count : goal.returns-clause-count
-returns-clause-count c = as-many c.args.workers _ (returns-clause-idle c)
+returns-clause-count g c = as-many c.args.workers _ (returns-clause-idle g c)

@@ -2,7 +2,7 @@ use Rattle.crew.proofs.Dealing.{all-but-one, refused-late, pushed-alone}
 use Rattle.crew.proofs.steps.put_all.Goals as goal
 
 pub loop-task-preserved : goal.loop-task-preserved
-loop-task-preserved c =
+loop-task-preserved g c =
     let l = c.loop-task in
     let put = c.in_ok-put_rest.ensures.ok in
     record {

@@ -5,7 +5,7 @@ use Rattle.crew.specs.Hands.{missed}
 use Rattle.crew.proofs.steps.steal.Given as goal
 
 abbrev pub invariant-loop-thief : goal.invariant-loop-thief
-invariant-loop-thief l = record {
+invariant-loop-thief g l = record {
   count : length l.thieves ≡ length l.fn.thieves;
   miss : (k : ℕ) (d : ThiefEnd TaskView) → k < l.thief-index → get_or l.thieves k d ≡ missed (get_or l.fn.thieves k d);
   same : (k : ℕ) (d : ThiefEnd TaskView) → l.thief-index ≤ k → get_or l.thieves k d ≡ get_or l.fn.thieves k d;

@@ -8,7 +8,7 @@ use Rattle.engine.proofs.ReportLemmas.{main_text, main_ending}
 use Rattle.engine.proofs.play.answer_report.Goals as goal
 
 pub returns : goal.returns
-returns c =
+returns g c =
     let a = c.args.answer.now in
     let is : IsAnswer a.plan a.origin a.out a.outcome = subst (λ (x : AnswerView). IsAnswer x.plan x.origin x.out x.outcome) c.answer.view_is c.answer.invariant in
     let evals = c.whole_answers_are_evals.ensures in

@@ -4,7 +4,7 @@ use Rattle.seed_batch.proofs.Parts.{part-more}
 use Rattle.seed_batch.proofs.render.render_batch.Goals as goal
 
 pub loop-i-preserved : goal.loop-i-preserved
-loop-i-preserved c =
+loop-i-preserved g c =
     let l = c.loop-i in
     let a = c.answer-item.result in
     let as-many : length c.as_slice-answer-items.result.now ≡ length c.args.answers.now = ap length c.as_slice-answer-items.ensures in

@@ -4,4 +4,4 @@ use Rattle.seed_batch.proofs.render.render_batch.Given as goal
 
 -- with the parts that are left it is the whole
 abbrev pub invariant-loop-i : goal.invariant-loop-i
-invariant-loop-i l = l.text.items ++ batch_text (drop l.i l.fn.seeds) (drop l.i l.fn.answers) ≡ batch_text l.fn.seeds l.fn.answers
+invariant-loop-i g l = l.text.items ++ batch_text (drop l.i l.fn.seeds) (drop l.i l.fn.answers) ≡ batch_text l.fn.seeds l.fn.answers

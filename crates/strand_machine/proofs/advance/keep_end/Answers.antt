@@ -6,7 +6,7 @@ use Rattle.strand_machine.proofs.NextStops.Pausing.{holds-end}
 use Rattle.strand_machine.proofs.advance.keep_end.Goals as goal
 
 pub returns-clause-holds : goal.returns-clause-holds
-returns-clause-holds c =
+returns-clause-holds g c =
     let f = c.args.parts.now.state.family in
     let e = c.end-ended in
     let can = subst (IsAnswer f.plan f.origin c.args.parts.now.state.trace.prefix) (sym e.ensures.ended) c.requires.can in

@@ -9,34 +9,34 @@ use Rattle.strand_machine.proofs.NextStops.Pausing.{keeps-end, knows-at, spawns-
 use Rattle.strand_machine.proofs.advance.paused.Goals as goal
 
 pub unreachable-requires : goal.unreachable-requires
-unreachable-requires c = never-goes c.args.passed c.in-Continues.is c.requires.stops
+unreachable-requires g c = never-goes c.args.passed c.in-Continues.is c.requires.stops
 
 pub invariant_of-result : goal.invariant_of-result
-invariant_of-result c = waits-holds c.args.parts.value c.args.passed c.in-Waits.is c.requires.sound
+invariant_of-result g c = waits-holds c.args.parts.value c.args.passed c.in-Waits.is c.requires.sound
 
 pub returns-in-Waits : goal.returns-in-Waits
-returns-in-Waits c = waits-as c.args.parts.value c.args.passed c.in-Waits.is
+returns-in-Waits g c = waits-as c.args.parts.value c.args.passed c.in-Waits.is
 
 pub invariant_of-result-in-Spawned : goal.invariant_of-result-in-Spawned
-invariant_of-result-in-Spawned c = spawned-holds c.args.parts.value c.args.passed c.in-Spawned.child c.in-Spawned.is c.requires.sound
+invariant_of-result-in-Spawned g c = spawned-holds c.args.parts.value c.args.passed c.in-Spawned.child c.in-Spawned.is c.requires.sound
 
 pub returns-in-Spawned : goal.returns-in-Spawned
-returns-in-Spawned c = spawns-as c.args.parts.value c.args.passed c.in-Spawned.child c.in-Spawned.is
+returns-in-Spawned g c = spawns-as c.args.parts.value c.args.passed c.in-Spawned.child c.in-Spawned.is
 
 pub keep_end-requires-clause-can : goal.keep_end-requires-clause-can
-keep_end-requires-clause-can c =
-    subst (λ (p : Parts). CanEnd p.state c.in-Ends.outcome) (sym c.deref_mut.ensures.value) (ends-can c.args.parts.value c.args.passed c.in-Ends.outcome c.in-Ends.is c.requires.sound)
+keep_end-requires-clause-can g c =
+    subst (λ (p : Parts _). CanEnd p.state c.in-Ends.outcome) (sym c.deref_mut.ensures.value) (ends-can c.args.parts.value c.args.passed c.in-Ends.outcome c.in-Ends.is c.requires.sound)
 
 pub keep_end-requires-clause-known : goal.keep_end-requires-clause-known
-keep_end-requires-clause-known c =
-    subst (λ (p : Parts). IsByFaultOf p.state.family.plan (ended_by p.state.trace.fault c.in-Ends.outcome)) (sym c.deref_mut.ensures.value)
+keep_end-requires-clause-known g c =
+    subst (λ (p : Parts _). IsByFaultOf p.state.family.plan (ended_by p.state.trace.fault c.in-Ends.outcome)) (sym c.deref_mut.ensures.value)
     (knows-at c.args.parts.value c.args.passed c.in-Ends.outcome c.in-Ends.is c.requires.known)
 
 pub invariant_of-result-in-Ends : goal.invariant_of-result-in-Ends
-invariant_of-result-in-Ends c = c.keep_end.ensures.holds
+invariant_of-result-in-Ends g c = c.keep_end.ensures.holds
 
 pub returns-in-Ends : goal.returns-in-Ends
-returns-in-Ends c =
+returns-in-Ends g c =
     let k = c.keep_end.ensures in
     let left = c.keep_end.new.parts in
-    subst (λ (p : Parts). PausesAs (made p c.args.passed) (paused-in.Ended (view_of left.state left.remaining))) c.deref_mut.ensures.value (keeps-end c.deref_mut.result.now c.keep_end.new.parts c.args.passed c.in-Ends.outcome c.in-Ends.is k.remaining k.family k.prefix)
+    subst (λ (p : Parts _). PausesAs (made p c.args.passed) (paused-in.Ended (view_of left.state left.remaining))) c.deref_mut.ensures.value (keeps-end c.deref_mut.result.now c.keep_end.new.parts c.args.passed c.in-Ends.outcome c.in-Ends.is k.remaining k.family k.prefix)

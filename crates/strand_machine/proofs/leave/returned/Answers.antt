@@ -6,25 +6,25 @@ use Rattle.strand_machine.proofs.Moves.Dispatch.{end-answers, end-is, pass-sound
 use Rattle.strand_machine.proofs.leave.returned.Goals as goal
 
 pub returns-in-Instance-clause-step : goal.returns-in-Instance-clause-step
-returns-in-Instance-clause-step c =
+returns-in-Instance-clause-step g c =
     let b = c.args.parts.now.state in
     let v = c.args.value in
     end-is b (remaining.Runs (stage.Returned v)) (outcome.Value v) _ (give-instance b v _ _ _ (sym c.origin.ensures ∙ c.in-Instance.is)) refl
 
 pub returns-in-Instance-clause-sound : goal.returns-in-Instance-clause-sound
-returns-in-Instance-clause-sound c =
+returns-in-Instance-clause-sound g c =
     let b = c.args.parts.now.state in
     let v = c.args.value in
     end-answers c.steps_are_sound.ensures b (remaining.Runs (stage.Returned v)) (outcome.Value v) c.requires (give-instance b v _ _ _ (sym c.origin.ensures ∙ c.in-Instance.is))
 
 pub pass-requires : goal.pass-requires
-pass-requires c =
+pass-requires g c =
     let b = c.args.parts.now.state in
     let v = c.args.value in
     pass-sound c.steps_are_sound.ensures b (remaining.Runs (stage.Returned v)) (remaining.Finished v false) c.requires (give-loop b v _ _ _ _ _ (sym c.origin.ensures ∙ c.in-Loop.is)) tt
 
 pub returns-in-Loop-clause-step : goal.returns-in-Loop-clause-step
-returns-in-Loop-clause-step c =
+returns-in-Loop-clause-step g c =
     let b = c.args.parts.now.state in
     let v = c.args.value in
     pass-is b (remaining.Runs (stage.Returned v)) (remaining.Finished v false) _ tt (give-loop b v _ _ _ _ _ (sym c.origin.ensures ∙ c.in-Loop.is)) c.pass.ensures.made

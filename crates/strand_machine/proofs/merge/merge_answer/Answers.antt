@@ -14,19 +14,19 @@ use Rattle.strand_machine.proofs.TakenAnswers.Taking.{on-both, ok-of}
 use Rattle.strand_machine.proofs.merge.merge_answer.Goals as goal
 
 pub merge_value-requires-clause-of_plan : goal.merge_value-requires-clause-of_plan
-merge_value-requires-clause-of_plan c = subst (λ (p : PlanView). IsRemainingOfPlan p c.args.parts.now.remaining) (sym c.plan.ensures) c.requires.of_plan
+merge_value-requires-clause-of_plan g c = subst (λ (p : PlanView). IsRemainingOfPlan p c.args.parts.now.remaining) (sym c.plan.ensures) c.requires.of_plan
 
 pub merge_value-requires-clause-found : goal.merge_value-requires-clause-found
-merge_value-requires-clause-found c = subst (λ (p : PlanView). RemainingFinds p (destination_of c.args.after.destination) (remaining_of p c.args.parts.now.remaining)) (sym c.plan.ensures) c.requires.found
+merge_value-requires-clause-found g c = subst (λ (p : PlanView). RemainingFinds p (destination_of c.args.after.destination) (remaining_of p c.args.parts.now.remaining)) (sym c.plan.ensures) c.requires.found
 
 pub returns-in-Ok-clause-takes : goal.returns-in-Ok-clause-takes
-returns-in-Ok-clause-takes c =
+returns-in-Ok-clause-takes g c =
     let a = c.answer.inside in
     let v : AnswerView = record { plan = arc_value a.plan; origin = a.origin; out = a.out; outcome = a.outcome } in
     let p : AwaitedChild = awaited_child a.origin c.args.after in
     let e = c.in-Ok.ensures in
-    let b : TaskState = c.args.parts.now.state in
-    let after : Parts = record { state = record b { trace = c.merge_events.new.trace; values = c.merge_value.new.values }; remaining = c.merge_value.new.remaining } in
+    let b : TaskState _ = c.args.parts.now.state in
+    let after : Parts _ = record { state = record b { trace = c.merge_events.new.trace; values = c.merge_value.new.values }; remaining = c.merge_value.new.remaining } in
     subst (λ (x : AnswerView). OnOk c.merge_value.result (TakesAnswers (awaited_child x.origin c.args.after ∷ []) (x ∷ []) (merge_of c.args.parts.now c.args.merging.now) (merge_of after c.merge_events.new.self))) c.answer.view_is
     (on-both c.merge_value.result _ _ _
     (λ values remaining. takes-answer p v (merge_of c.args.parts.now c.args.merging.now) (merge_of after c.merge_events.new.self) (merging-front p (record { items = a.out; ending = result_of_outcome a.outcome }) b.trace c.merge_events.new.trace (e.trace p refl))
@@ -34,7 +34,7 @@ returns-in-Ok-clause-takes c =
     c.merge_value.ensures.values c.merge_value.ensures.remaining)
 
 pub returns-in-Ok-clause-rest : goal.returns-in-Ok-clause-rest
-returns-in-Ok-clause-rest c =
+returns-in-Ok-clause-rest g c =
     let a = c.answer.inside in
     let p : AwaitedChild = awaited_child a.origin c.args.after in
     ok-of c.merge_value.result _

@@ -18,20 +18,20 @@ use Rattle.strand_machine.proofs.TakenAnswers.Targets.{all-found}
 use Rattle.strand_machine.proofs.resume.go_on.Goals as goal
 
 pub merge_all-requires-clause-many : goal.merge_all-requires-clause-many
-merge_all-requires-clause-many c =
+merge_all-requires-clause-many g c =
     let b = c.args.parts.now.state in
     let q = c.take_children-after.ensures.parted in
     sym (length-answer-tags c.args.answers) ∙ ap length c.requires.tags ∙ length-tags b.family.plan (awaited b.trace.handed)
     ∙ ap (λ (x : Trace). length (awaited x.handed)) (sym q.is) ∙ ap length (awaited_parts q.children c.take_children-after.result.items q.many) ∙ q.many
 
 pub merge_all-requires-clause-handed : goal.merge_all-requires-clause-handed
-merge_all-requires-clause-handed c = ap (λ (x : Trace). x.handed) c.take_children-after.ensures.rest
+merge_all-requires-clause-handed g c = ap (λ (x : Trace). x.handed) c.take_children-after.ensures.rest
 
 pub merge_all-requires-clause-of_plan : goal.merge_all-requires-clause-of_plan
-merge_all-requires-clause-of_plan c = (c.args.parts.now.state.family.origin, c.requires.sound.of_plan)
+merge_all-requires-clause-of_plan g c = (c.args.parts.now.state.family.origin, c.requires.sound.of_plan)
 
 pub merge_all-requires-clause-found : goal.merge_all-requires-clause-found
-merge_all-requires-clause-found c =
+merge_all-requires-clause-found g c =
     let b = c.args.parts.now.state in
     let left = remaining_of b.family.plan c.args.parts.now.remaining in
     let q = c.take_children-after.ensures.parted in
@@ -41,7 +41,7 @@ merge_all-requires-clause-found c =
     (subst (FindsTargets b.family.plan (functions_left left)) (sym (ap (λ (x : Trace). x.handed) q.is)) (c.requires.sound.task.found found))
 
 pub cut_short-requires-clause-ends : goal.cut_short-requires-clause-ends
-cut_short-requires-clause-ends c =
+cut_short-requires-clause-ends g c =
     let b = c.args.parts.now.state in
     let w = c.args.parts.now.remaining in
     let q = c.take_children-after.ensures.parted in
@@ -49,15 +49,15 @@ cut_short-requires-clause-ends c =
     let after = merge_of c.merge_all.new.parts c.merge_all.new.merging in
     let parts = ap (λ (x : Trace). x.handed) q.is in
     let h = taken-from b w _ _ c.args.answers after c.take_children-after.ensures.rest c.in_ok-left.ensures.takes in
-    subst (λ (f : FamilyView). EndsShort f after) (sym (ap (λ (x : TaskState). x.family) c.in_ok-left.ensures.rest.state))
+    subst (λ (f : FamilyView). EndsShort f after) (sym (ap (λ (x : TaskState _). x.family) c.in_ok-left.ensures.rest.state))
     (ends-short b w q.children bs c.args.answers after parts (own-children b q.children bs (answer_tags c.args.answers) parts q.many c.requires.tags) h c.answers_end.ensures c.requires.sound.task
     (answers-of b.family.plan b.trace.handed c.args.answers h.said c.requires.tags) (sym h.cut ∙ c.if-merging.true))
 
 pub cut_short-requires-clause-handed : goal.cut_short-requires-clause-handed
-cut_short-requires-clause-handed c = c.in_ok-left.ensures.rest.handed
+cut_short-requires-clause-handed g c = c.in_ok-left.ensures.rest.handed
 
 pub returns-then-merging-clause-went : goal.returns-then-merging-clause-went
-returns-then-merging-clause-went c =
+returns-then-merging-clause-went g c =
     let b = c.args.parts.now.state in
     let w = c.args.parts.now.remaining in
     let q = c.take_children-after.ensures.parted in
@@ -68,13 +68,13 @@ returns-then-merging-clause-went c =
     let h = taken-from b w _ _ c.args.answers after c.take_children-after.ensures.rest c.in_ok-left.ensures.takes in
     went-short c.args.answers (view_of b w) next (sym h.cut ∙ c.if-merging.true)
     (short-on b w q.children bs c.args.answers after parts (own-children b q.children bs (answer_tags c.args.answers) parts q.many c.requires.tags) h next
-    (subst (λ (x : TaskState). IsShort x.family after x.advanced next) c.in_ok-left.ensures.rest.state c.cut_short.ensures.short))
+    (subst (λ (x : TaskState _). IsShort x.family after x.advanced next) c.in_ok-left.ensures.rest.state c.cut_short.ensures.short))
 
 pub returns-then-merging-clause-answers : goal.returns-then-merging-clause-answers
-returns-then-merging-clause-answers c = let b = c.args.parts.now.state in answers-of b.family.plan b.trace.handed c.args.answers c.in_ok-left.ensures.takes.said c.requires.tags
+returns-then-merging-clause-answers g c = let b = c.args.parts.now.state in answers-of b.family.plan b.trace.handed c.args.answers c.in_ok-left.ensures.takes.said c.requires.tags
 
 pub returns-clause-went : goal.returns-clause-went
-returns-clause-went c =
+returns-clause-went g c =
     let b = c.args.parts.now.state in
     let w = c.args.parts.now.remaining in
     let q = c.take_children-after.ensures.parted in
@@ -87,15 +87,15 @@ returns-clause-went c =
     let whole = sym h.cut ∙ c.if-merging.false in
     let takes = takes-whole b w q.children bs c.args.answers after c.answers_are_evaluations.ensures h whole in
     let state : next.state ≡ record b { trace = trace_of after; values = after.values; waiting = false } =
-    c.in_ok-end_wait.ensures.state ∙ ap (λ (x : TaskState). record x { waiting = false }) (kept-state _ kept c.in_ok-left.ensures.rest) in
+    c.in_ok-end_wait.ensures.state ∙ ap (λ (x : TaskState _). record x { waiting = false }) (kept-state _ kept c.in_ok-left.ensures.rest) in
     went-whole c.args.answers (view_of b w) _ whole
-    (ap (λ (x : TaskState). view_of x next.remaining) state ∙ goes-on-view b w q.children bs (answer_tags c.args.answers) after next.remaining parts q.many c.requires.tags takes c.in_ok-end_wait.ensures.remaining c.requires.sound)
+    (ap (λ (x : TaskState _). view_of x next.remaining) state ∙ goes-on-view b w q.children bs (answer_tags c.args.answers) after next.remaining parts q.many c.requires.tags takes c.in_ok-end_wait.ensures.remaining c.requires.sound)
 
 pub returns-clause-answers : goal.returns-clause-answers
-returns-clause-answers c = let b = c.args.parts.now.state in answers-of b.family.plan b.trace.handed c.args.answers c.in_ok-left.ensures.takes.said c.requires.tags
+returns-clause-answers g c = let b = c.args.parts.now.state in answers-of b.family.plan b.trace.handed c.args.answers c.in_ok-left.ensures.takes.said c.requires.tags
 
 pub returns-clause-holds : goal.returns-clause-holds
-returns-clause-holds c =
+returns-clause-holds g c =
     let b = c.args.parts.now.state in
     let w = c.args.parts.now.remaining in
     let q = c.take_children-after.ensures.parted in
@@ -107,6 +107,6 @@ returns-clause-holds c =
     let h = taken-from b w _ _ c.args.answers after c.take_children-after.ensures.rest c.in_ok-left.ensures.takes in
     let takes = takes-whole b w q.children bs c.args.answers after c.answers_are_evaluations.ensures h (sym h.cut ∙ c.if-merging.false) in
     let state : next.state ≡ record b { trace = trace_of after; values = after.values; waiting = false } =
-    c.in_ok-end_wait.ensures.state ∙ ap (λ (x : TaskState). record x { waiting = false }) (kept-state _ kept c.in_ok-left.ensures.rest) in
-    sound_holds _ next.remaining (subst (λ (x : TaskState). IsSound x next.remaining) (sym state)
+    c.in_ok-end_wait.ensures.state ∙ ap (λ (x : TaskState _). record x { waiting = false }) (kept-state _ kept c.in_ok-left.ensures.rest) in
+    sound_holds _ next.remaining (subst (λ (x : TaskState _). IsSound x next.remaining) (sym state)
     (goes-on-sound b w q.children bs (answer_tags c.args.answers) after next.remaining parts q.many c.requires.tags takes c.in_ok-end_wait.ensures.remaining c.answers_keep_tasks.ensures c.requires.sound))

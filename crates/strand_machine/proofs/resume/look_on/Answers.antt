@@ -10,41 +10,41 @@ use Rattle.strand_machine.proofs.TakenAnswers.Taking.{looked-last, looked-same, 
 use Rattle.strand_machine.proofs.resume.look_on.Goals as goal
 
 pub returns-in-NotYet-clause-resumed : goal.returns-in-NotYet-clause-resumed
-returns-in-NotYet-clause-resumed c =
+returns-in-NotYet-clause-resumed g c =
     let b = c.args.parts.now.state in
     let w = c.args.parts.now.remaining in looked-same b w c.look.new.self false c.look.new.self.loads c.in-NotYet.ensures.1 (view_of b w) refl c.in-NotYet.ensures.0
 
 pub returns-in-NotYet-clause-holds : goal.returns-in-NotYet-clause-holds
-returns-in-NotYet-clause-holds c =
+returns-in-NotYet-clause-holds g c =
     let b = c.args.parts.now.state in
     let w = c.args.parts.now.remaining in
     sound_holds (record b { family = c.look.new.self }) w (looked-sound b w c.look.new.self false c.look.new.self.loads c.in-NotYet.ensures.1 c.requires.sound)
 
 pub take_answers-requires-clause-ready : goal.take_answers-requires-clause-ready
-take_answers-requires-clause-ready c = ap (λ (f : FamilyView). f.ready) c.in-Ready.ensures.1
+take_answers-requires-clause-ready g c = ap (λ (f : FamilyView). f.ready) c.in-Ready.ensures.1
 
 pub take_answers-requires-clause-last : goal.take_answers-requires-clause-last
-take_answers-requires-clause-last c =
+take_answers-requires-clause-last g c =
     let b = c.args.parts.now.state in
     let last = looked-last b.family c.look.new.self b.trace.handed true c.look.new.self.loads c.in-Ready.ensures.1 c.requires.sound.family in
-    subst (AwaitsCount c.look.new.self) (sym (ap length (c.as_slice.ensures ∙ c.awaited.ensures))) (awaits-count c.look.new.self b.trace.handed last)
+    subst (AwaitsCount c.look.new.self) (sym c.awaited_count-awaited.ensures) (awaits-count c.look.new.self b.trace.handed last)
 
 pub go_on-requires-clause-sound : goal.go_on-requires-clause-sound
-go_on-requires-clause-sound c =
+go_on-requires-clause-sound g c =
     let b = c.args.parts.now.state in
     let w = c.args.parts.now.remaining in
     taken-answered b w c.look.new.self c.take_answers.new.family true c.look.new.self.loads c.in-Ready.ensures.1 c.take_answers.ensures.family c.take_answers.ensures.length c.requires.sound
 
 pub go_on-requires-clause-tags : goal.go_on-requires-clause-tags
-go_on-requires-clause-tags c =
+go_on-requires-clause-tags g c =
     let b = c.args.parts.now.state in
-    let g = c.look.new.self in
-    let last = looked-last b.family g b.trace.handed true g.loads c.in-Ready.ensures.1 c.requires.sound.family in
-    c.in_ok-answers-in-Ready.ensures.tags ∙ ap (λ (n : ℕ). tags g.plan (drop (length g.children - n) g.children)) (ap length (c.as_slice.ensures ∙ c.awaited.ensures))
-    ∙ ap (tags g.plan) (last-awaited g b.trace.handed last) ∙ ap (λ (p : PlanView). tags p (awaited b.trace.handed)) (sym (ap (λ (f : FamilyView). f.plan) c.take_answers.ensures.family))
+    let f = c.look.new.self in
+    let last = looked-last b.family f b.trace.handed true f.loads c.in-Ready.ensures.1 c.requires.sound.family in
+    c.in_ok-answers-in-Ready.ensures.tags ∙ ap (λ (n : ℕ). tags f.plan (drop (length f.children - n) f.children)) c.awaited_count-awaited.ensures
+    ∙ ap (tags f.plan) (last-awaited f b.trace.handed last) ∙ ap (λ (p : PlanView). tags p (awaited b.trace.handed)) (sym (ap (λ (x : FamilyView). x.plan) c.take_answers.ensures.family))
 
 pub returns-in_ok-left-in-Ready-clause-resumed : goal.returns-in_ok-left-in-Ready-clause-resumed
-returns-in_ok-left-in-Ready-clause-resumed c =
+returns-in_ok-left-in-Ready-clause-resumed g c =
     let b = c.args.parts.now.state in
     let w = c.args.parts.now.remaining in
     resumed-on b w c.look.new.self c.take_answers.new.family true c.look.new.self.loads c.in-Ready.ensures.1 c.take_answers.ensures.family (view_of b w) _ refl

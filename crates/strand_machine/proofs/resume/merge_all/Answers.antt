@@ -12,7 +12,7 @@ use Rattle.strand_machine.proofs.TakenAnswers.Cutting.{answers-next, answers-no-
 use Rattle.strand_machine.proofs.resume.merge_all.Goals as goal
 
 pub loop-part-init : goal.loop-part-init
-loop-part-init c =
+loop-part-init g c =
     let gives = c.into_iter-part-iterator.ensures.into_iter_gives in
     let parts : into_iter_items c.into_iter-part-iterator.result ≡ c.args.after.items = gives.0 in
     let back : reverse c.reverse.new.self.items ≡ c.args.answers = ap reverse c.reverse.ensures.items ∙ reverse-reverse _ ∙ c.answers.view_is in
@@ -21,38 +21,38 @@ loop-part-init c =
       parts = gives.1 ∙ c.args.after.ok.0 ∙ ap length (sym parts);
       same = sym (length-reverse c.reverse.new.self.items) ∙ ap length back ∙ c.requires.many ∙ ap length (sym parts);
       takes = λ after h. subst (λ (xs : List AnswerView). TakesAnswers (awaited_children (origins (answer_tags xs)) c.args.after.items) xs before after) back
-          (subst (λ (bs : List AfterChild). TakesAnswers (awaited_children (origins (answer_tags (reverse c.reverse.new.self.items))) bs) (reverse c.reverse.new.self.items) before after) parts h);
+          (subst (λ (bs : List (AfterChild _)). TakesAnswers (awaited_children (origins (answer_tags (reverse c.reverse.new.self.items))) bs) (reverse c.reverse.new.self.items) before after) parts h);
       rest = record { state = refl; handed = c.requires.handed };
       of_plan = c.requires.of_plan;
       found =
-          subst (λ (bs : List AfterChild). RemainingFindsAll c.args.parts.now.state.family.plan bs (remaining_of c.args.parts.now.state.family.plan c.args.parts.now.remaining)) (sym parts) c.requires.found;
+          subst (λ (bs : List (AfterChild _)). RemainingFindsAll c.args.parts.now.state.family.plan bs (remaining_of c.args.parts.now.state.family.plan c.args.parts.now.remaining)) (sym parts) c.requires.found;
     }
 
 pub merge_answer-requires-clause-handed : goal.merge_answer-requires-clause-handed
-merge_answer-requires-clause-handed c = c.loop-part.invariant.rest.handed
+merge_answer-requires-clause-handed g c = c.loop-part.invariant.rest.handed
 
 pub merge_answer-requires-clause-of_plan : goal.merge_answer-requires-clause-of_plan
-merge_answer-requires-clause-of_plan c = c.loop-part.invariant.of_plan
+merge_answer-requires-clause-of_plan g c = c.loop-part.invariant.of_plan
 
 pub merge_answer-requires-clause-found : goal.merge_answer-requires-clause-found
-merge_answer-requires-clause-found c =
-    let all = subst (λ (bs : List AfterChild). RemainingFindsAll c.loop-part.parts.state.family.plan bs (remaining_of c.loop-part.parts.state.family.plan c.loop-part.parts.remaining)) c.in-Some.ensures.steps.0 c.loop-part.invariant.found in
+merge_answer-requires-clause-found g c =
+    let all = subst (λ (bs : List (AfterChild _)). RemainingFindsAll c.loop-part.parts.state.family.plan bs (remaining_of c.loop-part.parts.state.family.plan c.loop-part.parts.remaining)) c.in-Some.ensures.steps.0 c.loop-part.invariant.found in
     all.0
 
 pub unreachable-requires : goal.unreachable-requires
-unreachable-requires c =
+unreachable-requires g c =
     let longer = ap length c.in-Some.ensures.steps.0 in
     let same = c.loop-part.invariant.same in
     let none = c.in_default.ensures.cases in
     omega (arith, none.0, c.loop-part.left.ok.0, longer, same)
 
 pub loop-part-preserved : goal.loop-part-preserved
-loop-part-preserved c =
+loop-part-preserved g c =
     let was = c.loop-part.invariant in
     let parts = c.in-Some.ensures.steps in
     let shorter = ap length parts.0 in
     let popped : c.loop-part.left.items ≡ c.pop.new.self.items ++ c.in-Some-pop.answer ∷ [] = c.in-Some-pop.ensures.items in
-    let all = subst (λ (bs : List AfterChild). RemainingFindsAll c.loop-part.parts.state.family.plan bs (remaining_of c.loop-part.parts.state.family.plan c.loop-part.parts.remaining)) parts.0 was.found in
+    let all = subst (λ (bs : List (AfterChild _)). RemainingFindsAll c.loop-part.parts.state.family.plan bs (remaining_of c.loop-part.parts.state.family.plan c.loop-part.parts.remaining)) parts.0 was.found in
     let front : reverse c.loop-part.left.items ≡ c.in-Some-pop.answer ∷ reverse c.pop.new.self.items = ap reverse popped ∙ reverse-append c.pop.new.self.items (c.in-Some-pop.answer ∷ []) in
     record {
       parts = omega (arith, was.parts, parts.1, shorter);
@@ -66,7 +66,7 @@ loop-part-preserved c =
     }
 
 pub returns-clause-takes : goal.returns-clause-takes
-returns-clause-takes c =
+returns-clause-takes g c =
     let was = c.loop-part.invariant in
     let none = c.in-None.ensures.steps in
     let left : length (into_iter_items c.loop-part.part-iterator) ≡ 0 = sym was.parts ∙ none.0 in
@@ -74,7 +74,7 @@ returns-clause-takes c =
     was.takes now (answers-no-more _ _ now (length-reverse c.loop-part.left.items ∙ was.same ∙ left) left)
 
 pub returns-clause-none : goal.returns-clause-none
-returns-clause-none c =
+returns-clause-none g c =
     let was = c.loop-part.invariant in
     let none = c.in-None.ensures.steps in
     let left : length (into_iter_items c.loop-part.part-iterator) ≡ 0 = sym was.parts ∙ none.0 in

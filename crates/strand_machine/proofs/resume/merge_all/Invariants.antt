@@ -9,7 +9,7 @@ use Rattle.strand_machine.proofs.resume.merge_all.Given as goal
 
 -- whoever takes the answers that are left, the last one first, has taken all
 abbrev pub invariant-loop-part : goal.invariant-loop-part
-invariant-loop-part l =
+invariant-loop-part g l =
     let all = answer_tags l.fn.answers in
     let rest = reverse l.left.items in
     record {

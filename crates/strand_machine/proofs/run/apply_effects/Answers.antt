@@ -22,52 +22,52 @@ use Rattle.strand_machine.proofs.run.apply_effects.Goals as goal
 -- nothing, or where a scope begins or has ended
 
 pub pass-requires : goal.pass-requires
-pass-requires c = quiet-sound c.args.parts.now.state c.args.instance c.args.effects c.in-Nothing.is c.requires
+pass-requires g c = quiet-sound c.args.parts.now.state c.args.instance c.args.effects c.in-Nothing.is c.requires
 
 pub returns-in-Nothing-clause-step : goal.returns-in-Nothing-clause-step
-returns-in-Nothing-clause-step c = quiet-step c.args.parts.now.state c.args.instance c.args.effects _ c.in-Nothing.is c.pass.ensures.made
+returns-in-Nothing-clause-step g c = quiet-step c.args.parts.now.state c.args.instance c.args.effects _ c.in-Nothing.is c.pass.ensures.made
 
 pub returns-in-Nothing-clause-keeps : goal.returns-in-Nothing-clause-keeps
-returns-in-Nothing-clause-keeps c =
+returns-in-Nothing-clause-keeps g c =
     let w = remaining.Runs (stage.Running c.args.instance) in
     passes-keep c.args.parts.now.state c.args.parts.now.state.trace w w _ refl c.pass.ensures.made
 
 -- an event
 
 pub pass-requires-in-Emitted : goal.pass-requires-in-Emitted
-pass-requires-in-Emitted c = emitted-sound c.args.parts.now.state c.args.instance c.args.effects c.in-Emitted.event c.emit.new.self c.in-Emitted.is c.in_ok-emit-in-Emitted.ensures c.requires
+pass-requires-in-Emitted g c = emitted-sound c.args.parts.now.state c.args.instance c.args.effects c.in-Emitted.event c.emit.new.self c.in-Emitted.is c.in_ok-emit-in-Emitted.ensures c.requires
 
 pub returns-in-Emitted-clause-step : goal.returns-in-Emitted-clause-step
-returns-in-Emitted-clause-step c =
+returns-in-Emitted-clause-step g c =
     emitted-step c.args.parts.now.state c.args.instance c.args.effects c.in-Emitted.event c.emit.new.self _ c.in-Emitted.is c.in_ok-emit-in-Emitted.ensures c.pass-in-Emitted.ensures.made
 
 pub returns-in-Emitted-clause-keeps : goal.returns-in-Emitted-clause-keeps
-returns-in-Emitted-clause-keeps c =
+returns-in-Emitted-clause-keeps g c =
     let w = remaining.Runs (stage.Running c.args.instance) in
     passes-keep c.args.parts.now.state c.emit.new.self w w _ refl c.pass-in-Emitted.ensures.made
 
 -- a sync
 
 pub pass-requires-in-Synced : goal.pass-requires-in-Synced
-pass-requires-in-Synced c = synced-sound c.args.parts.now.state c.args.instance c.args.effects c.in-Synced.event c.emit-in-Synced.new.self c.in-Synced.is c.in_ok-emit-in-Synced.ensures c.requires
+pass-requires-in-Synced g c = synced-sound c.args.parts.now.state c.args.instance c.args.effects c.in-Synced.event c.emit-in-Synced.new.self c.in-Synced.is c.in_ok-emit-in-Synced.ensures c.requires
 
 pub returns-in-Synced-clause-step : goal.returns-in-Synced-clause-step
-returns-in-Synced-clause-step c =
+returns-in-Synced-clause-step g c =
     synced-step c.args.parts.now.state c.args.instance c.args.effects c.in-Synced.event c.emit-in-Synced.new.self _ c.in-Synced.is c.in_ok-emit-in-Synced.ensures c.pass-in-Synced.ensures.made
 
 pub returns-in-Synced-clause-keeps : goal.returns-in-Synced-clause-keeps
-returns-in-Synced-clause-keeps c =
+returns-in-Synced-clause-keeps g c =
     let i = c.args.instance in
     passes-keep c.args.parts.now.state c.emit-in-Synced.new.self (remaining.Runs (stage.Running i)) (remaining.Runs (stage.AtSync i)) _ refl c.pass-in-Synced.ensures.made
 
 -- a child
 
 pub show_spawn-requires : goal.show_spawn-requires
-show_spawn-requires c =
+show_spawn-requires g c =
     let is = c.in-Spawned.is ∙ ap (λ (o : SpawnedChild). effect.Spawned c.in-Spawned.event o) (sym c.unboxed-spawned.ensures) in subst (HasSoundEffects c.args.parts.now.state c.args.instance) is c.requires
 
 pub returns-in-Spawned-clause-step : goal.returns-in-Spawned-clause-step
-returns-in-Spawned-clause-step c =
+returns-in-Spawned-clause-step g c =
     let b = c.args.parts.now.state in
     let i = c.args.instance in
     let is = c.in-Spawned.is ∙ ap (λ (o : SpawnedChild). effect.Spawned c.in-Spawned.event o) (sym c.unboxed-spawned.ensures) in
@@ -76,35 +76,35 @@ returns-in-Spawned-clause-step c =
 -- a loop
 
 pub spawn-requires-clause-known : goal.spawn-requires-clause-known
-spawn-requires-clause-known c =
+spawn-requires-clause-known g c =
     looped-known c.args.parts.now.state c.args.instance c.args.effects c.in-Looped.event c.unboxed-child.result (c.in-Looped.is ∙ ap (λ (o : LoopedChild). effect.Looped c.in-Looped.event o) (sym c.unboxed-child.ensures)) c.requires
 
 pub spawn-requires-clause-trail : goal.spawn-requires-clause-trail
-spawn-requires-clause-trail c =
+spawn-requires-clause-trail g c =
     looped-trail c.args.parts.now.state c.args.instance c.args.effects c.in-Looped.event c.unboxed-child.result (c.in-Looped.is ∙ ap (λ (o : LoopedChild). effect.Looped c.in-Looped.event o) (sym c.unboxed-child.ensures)) c.requires
 
 pub spawn-requires-clause-sound : goal.spawn-requires-clause-sound
-spawn-requires-clause-sound c =
+spawn-requires-clause-sound g c =
     looped-sound c.args.parts.now.state c.args.instance c.args.effects c.in-Looped.event c.unboxed-child.result c.emit-in-Looped.new.self (c.in-Looped.is ∙ ap (λ (o : LoopedChild). effect.Looped c.in-Looped.event o) (sym c.unboxed-child.ensures)) c.in_ok-emit-in-Looped.ensures c.requires
 
 pub returns-clause-step : goal.returns-clause-step
-returns-clause-step c =
+returns-clause-step g c =
     let b = c.args.parts.now.state in
     let i = c.args.instance in
     let o = c.unboxed-child.result in
     let p = c.emit-in-Looped.new.self in
     made-ok c.spawn.new.parts c.spawn.result
-    (λ (r : MoveOrStop). r ≡ step.Stops (stop.Spawn (fresh b.family.plan o.child.origin) (view_of (with_child (with_trace b p) o.child.origin (destination.Looped o.target)) (remaining.Runs (stage.AtLoop i)))))
-    (λ (r : MoveOrStop). step_of r ≡ stops_at (child_in (effects_of c.args.effects)) (task_after_effects b i c.args.effects))
+    (λ (r : MoveOrStop _). r ≡ step.Stops (stop.Spawn (fresh b.family.plan o.child.origin) (view_of (with_child (with_trace b p) o.child.origin (destination.Looped o.target)) (remaining.Runs (stage.AtLoop i)))))
+    (λ (r : MoveOrStop _). step_of r ≡ stops_at (child_in (effects_of c.args.effects)) (task_after_effects b i c.args.effects))
     (λ r h. looped-step b i c.args.effects c.in-Looped.event o p r (c.in-Looped.is ∙ ap (λ (o : LoopedChild). effect.Looped c.in-Looped.event o) (sym c.unboxed-child.ensures)) c.in_ok-emit-in-Looped.ensures h) c.spawn.ensures.made
 
 pub returns-clause-keeps : goal.returns-clause-keeps
-returns-clause-keeps c =
+returns-clause-keeps g c =
     let b = c.args.parts.now.state in
     let i = c.args.instance in
     let o = c.unboxed-child.result in
     let p = c.emit-in-Looped.new.self in
     let at = destination.Looped o.target in
     made-ok c.spawn.new.parts c.spawn.result
-    (λ (r : MoveOrStop). r ≡ step.Stops (stop.Spawn (fresh b.family.plan o.child.origin) (view_of (with_child (with_trace b p) o.child.origin at) (remaining.Runs (stage.AtLoop i)))))
+    (λ (r : MoveOrStop _). r ≡ step.Stops (stop.Spawn (fresh b.family.plan o.child.origin) (view_of (with_child (with_trace b p) o.child.origin at) (remaining.Runs (stage.AtLoop i)))))
     (KeepsFamilyInStep (view_of b (remaining.Runs (stage.Running i)))) (λ r h. spawns-keep b p (remaining.Runs (stage.Running i)) (remaining.Runs (stage.AtLoop i)) o.child.origin at r refl h) c.spawn.ensures.made

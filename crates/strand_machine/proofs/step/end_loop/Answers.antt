@@ -6,14 +6,14 @@ use Rattle.strand_machine.proofs.Moves.Making.{closes, closes-sound}
 use Rattle.strand_machine.proofs.step.end_loop.Goals as goal
 
 pub returns-then-gone_on-clause-step : goal.returns-then-gone_on-clause-step
-returns-then-gone_on-clause-step c =
+returns-then-gone_on-clause-step g c =
     let b = c.args.parts.now.state in
     let v = c.args.value in
     closes b c.end_loop_with.new.state (remaining.Finished v c.args.gone_on) c.args.parts.now.remaining (outcome.Values (b.values ++ v ∷ [])) c.end_loop_with.result c.end_loop_with.ensures.ends c.end_loop_with.ensures.state
     (over-on b v c.args.gone_on c.if-gone_on.true)
 
 pub returns-then-gone_on-clause-sound : goal.returns-then-gone_on-clause-sound
-returns-then-gone_on-clause-sound c =
+returns-then-gone_on-clause-sound g c =
     let b = c.args.parts.now.state in
     let v = c.args.value in
     let o = outcome.Values (b.values ++ v ∷ []) in
@@ -21,27 +21,27 @@ returns-then-gone_on-clause-sound c =
     (end-answers c.steps_are_sound.ensures b (remaining.Finished v c.args.gone_on) o c.requires (over-on b v c.args.gone_on c.if-gone_on.true))
 
 pub wait-requires : goal.wait-requires
-wait-requires c =
+wait-requires g c =
     let b = c.args.parts.now.state in
     let v = c.args.value in
     wait-sound c.steps_are_sound.ensures b (remaining.Finished v c.args.gone_on) (remaining.Finished v false) c.requires
     (over-long b v c.args.gone_on c.if-gone_on.false (sym c.is_long.ensures ∙ c.if-is_long.true)) tt
 
 pub returns-then-is_long-clause-step : goal.returns-then-is_long-clause-step
-returns-then-is_long-clause-step c =
+returns-then-is_long-clause-step g c =
     let b = c.args.parts.now.state in
     let v = c.args.value in
     wait-is b (remaining.Finished v c.args.gone_on) (remaining.Finished v false) _ tt (over-long b v c.args.gone_on c.if-gone_on.false (sym c.is_long.ensures ∙ c.if-is_long.true)) c.wait.ensures.made
 
 pub returns-clause-step : goal.returns-clause-step
-returns-clause-step c =
+returns-clause-step g c =
     let b = c.args.parts.now.state in
     let v = c.args.value in
     closes b c.end_loop_with-2.new.state (remaining.Finished v c.args.gone_on) c.args.parts.now.remaining (outcome.Values (b.values ++ v ∷ [])) c.end_loop_with-2.result c.end_loop_with-2.ensures.ends c.end_loop_with-2.ensures.state
     (over-short b v c.args.gone_on c.if-gone_on.false (sym c.is_long.ensures ∙ c.if-is_long.false))
 
 pub returns-clause-sound : goal.returns-clause-sound
-returns-clause-sound c =
+returns-clause-sound g c =
     let b = c.args.parts.now.state in
     let v = c.args.value in
     let o = outcome.Values (b.values ++ v ∷ []) in

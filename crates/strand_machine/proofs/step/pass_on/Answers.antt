@@ -6,15 +6,15 @@ use Rattle.strand_machine.proofs.Moves.Making.{sound-at}
 use Rattle.strand_machine.proofs.step.pass_on.Goals as goal
 
 pub go-requires : goal.go-requires
-go-requires c = let p = c.args.parts.now in sound-at p.state p.remaining _ c.in-Some.ensures.some c.requires
+go-requires g c = let p = c.args.parts.now in sound-at p.state p.remaining _ c.in-Some.ensures.some c.requires
 
 pub returns-in-Some-clause-step : goal.returns-in-Some-clause-step
-returns-in-Some-clause-step c =
+returns-in-Some-clause-step g c =
     subst (λ (x : Remaining). IfOk c.go.result (λ passed. StepsOn (view_of c.args.parts.now.state x) (made c.go.new.parts passed))) (sym c.in-Some.ensures.some) c.go.ensures.step
 
 pub pass_with-requires : goal.pass_with-requires
-pass_with-requires c = let p = c.args.parts.now in sound-at p.state p.remaining _ (sym (c.replace-remaining.ensures.value ∙ c.in_default.ensures.none)) c.requires
+pass_with-requires g c = let p = c.args.parts.now in sound-at p.state p.remaining _ (sym (c.replace-remaining.ensures.value ∙ c.in_default.ensures.none)) c.requires
 
 pub returns-clause-step : goal.returns-clause-step
-returns-clause-step c =
+returns-clause-step g c =
     subst (λ (x : Remaining). IfOk c.pass_with.result (λ passed. StepsOn (view_of c.args.parts.now.state x) (made c.pass_with.new.parts passed))) (c.replace-remaining.ensures.value ∙ c.in_default.ensures.none) c.pass_with.ensures.step

@@ -3,24 +3,24 @@ use Rattle.strand_machine.proofs.Moves.Making.{is-stopped, way-falls, way-on, wa
 use Rattle.strand_machine.proofs.step.run_on.Goals as goal
 
 pub loop-passed-init : goal.loop-passed-init
-loop-passed-init c = way-start c.args.parts.now c.requires
+loop-passed-init g c = way-start c.args.parts.now c.requires
 
 pub pass_on-requires : goal.pass_on-requires
-pass_on-requires c = c.loop-passed.invariant.sound
+pass_on-requires g c = c.loop-passed.invariant.sound
 
 pub loop-passed-smaller : goal.loop-passed-smaller
-loop-passed-smaller c =
+loop-passed-smaller g c =
     let p = c.args.parts.now in
     way-falls (view_of p.state p.remaining) c.loop-passed.parts c.pass_on.new.parts _ c.loop-passed.invariant c.in_ok-passed.ensures.step c.in_ok-passed.ensures.sound c.moves_fall.ensures c.in-Continues.is
 
 pub loop-passed-preserved : goal.loop-passed-preserved
-loop-passed-preserved c =
+loop-passed-preserved g c =
     let p = c.args.parts.now in
     way-on (view_of p.state p.remaining) c.loop-passed.parts c.pass_on.new.parts _ c.loop-passed.invariant c.in_ok-passed.ensures.step c.in_ok-passed.ensures.sound c.moves_fall.ensures c.in-Continues.is
 
 pub returns-in_default-clause-stopped : goal.returns-in_default-clause-stopped
-returns-in_default-clause-stopped c = is-stopped _ c.in_default.not-Continues
+returns-in_default-clause-stopped g c = is-stopped _ c.in_default.not-Continues
 
 pub returns-in_default-clause-stop : goal.returns-in_default-clause-stop
-returns-in_default-clause-stop c =
+returns-in_default-clause-stop g c =
     way-stops c.stops_are_sound.ensures c.args.parts.now c.loop-passed.parts c.pass_on.new.parts _ c.requires c.loop-passed.invariant c.in_ok-passed.ensures.step (is-stopped _ c.in_default.not-Continues)

@@ -4,7 +4,7 @@ use Rattle.strand_machine.proofs.Moves.Making.{IsOnWay}
 use Rattle.strand_machine.proofs.step.run_on.Given as goal
 
 abbrev pub invariant-loop-passed : goal.invariant-loop-passed
-invariant-loop-passed l = IsOnWay (view_of l.initial.parts.state l.initial.parts.remaining) l.parts
+invariant-loop-passed g l = IsOnWay (view_of l.initial.parts.state l.initial.parts.remaining) l.parts
 
 abbrev pub decreases-loop-passed : goal.decreases-loop-passed
-decreases-loop-passed l = moves_left (task_of l.parts.state l.parts.remaining)
+decreases-loop-passed g l = moves_left (task_of l.parts.state l.parts.remaining)

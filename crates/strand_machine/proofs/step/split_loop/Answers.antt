@@ -15,7 +15,7 @@ use Rattle.strand_machine.proofs.Moves.Halves.{many, halves, only-one}
 use Rattle.strand_machine.proofs.step.split_loop.Goals as goal
 
 pub spawn-requires-clause-known : goal.spawn-requires-clause-known
-spawn-requires-clause-known c =
+spawn-requires-clause-known g c =
     let b = c.args.parts.now.state in
     let l = c.args.left in
     let p = c.in-Some.halves in
@@ -27,14 +27,14 @@ spawn-requires-clause-known c =
     (split-many b l upper p.0 c.in_ok-origin.origin two parts.0 parts.1 child) c.requires.of_plan).0
 
 pub spawn-requires-clause-trail : goal.spawn-requires-clause-trail
-spawn-requires-clause-trail c =
+spawn-requires-clause-trail g c =
     let b = c.args.parts.now.state in
     let p = c.in-Some.halves in
     let child : c.in_ok-origin.origin ≡ loop_part b.family.origin p.0 = c.in_ok-origin.ensures ∙ ap (λ (o : Origin). loop_part o p.0) c.origin.ensures in
     part-trail b.family.plan b.family.origin c.in_ok-origin.origin p.0 c.args.left.trail c.in_ok-shared.shared child c.in_ok-shared.ensures c.requires.of_plan
 
 pub spawn-requires-clause-sound : goal.spawn-requires-clause-sound
-spawn-requires-clause-sound c =
+spawn-requires-clause-sound g c =
     let b = c.args.parts.now.state in
     let l = c.args.left in
     let p = c.in-Some.halves in
@@ -46,7 +46,7 @@ spawn-requires-clause-sound c =
     (split-many b l upper p.0 c.in_ok-origin.origin two parts.0 parts.1 child) c.requires.of_plan).1
 
 pub returns-in-Some-clause-step : goal.returns-in-Some-clause-step
-returns-in-Some-clause-step c =
+returns-in-Some-clause-step g c =
     let b = c.args.parts.now.state in
     let l = c.args.left in
     let p = c.in-Some.halves in
@@ -60,21 +60,21 @@ returns-in-Some-clause-step c =
     c.spawn.ensures.made
 
 pub returns-then-len-eq0-clause-step : goal.returns-then-len-eq0-clause-step
-returns-then-len-eq0-clause-step c =
+returns-then-len-eq0-clause-step g c =
     let b = c.args.parts.now.state in
     let l = c.args.left in
     rw (c.take_values-values.ensures.rest, c.take_values-values.ensures.values)
     (end-is b (remaining.Splits l) (outcome.Values b.values) _ (split-none b l (sym c.len.ensures.count ∙ c.if-len-eq0.true)) refl)
 
 pub returns-then-len-eq0-clause-sound : goal.returns-then-len-eq0-clause-sound
-returns-then-len-eq0-clause-sound c =
+returns-then-len-eq0-clause-sound g c =
     let b = c.args.parts.now.state in
     let l = c.args.left in
     rw (c.take_values-values.ensures.rest, c.take_values-values.ensures.values)
     (end-answers c.steps_are_sound.ensures b (remaining.Splits l) (outcome.Values b.values) c.requires (split-none b l (sym c.len.ensures.count ∙ c.if-len-eq0.true)))
 
 pub pass-requires : goal.pass-requires
-pass-requires c =
+pass-requires g c =
     let b = c.args.parts.now.state in
     let l = c.args.left in
     let one = only-one (l.range.hi - l.range.lo) c.split.result c.in_default.is c.split.ensures.too_few (λ z. c.if-len-eq0.false (c.len.ensures.count ∙ z)) in
@@ -82,7 +82,7 @@ pass-requires c =
     (split-one b l c.in_ok-remaining.remaining one (rw (c.plan.ensures, c.origin-2.ensures) at c.in_ok-remaining.ensures.begun)) (rw (c.plan.ensures, c.origin-2.ensures) at c.in_ok-remaining.ensures.of_plan)
 
 pub returns-clause-step : goal.returns-clause-step
-returns-clause-step c =
+returns-clause-step g c =
     let b = c.args.parts.now.state in
     let l = c.args.left in
     let one = only-one (l.range.hi - l.range.lo) c.split.result c.in_default.is c.split.ensures.too_few (λ z. c.if-len-eq0.false (c.len.ensures.count ∙ z)) in

@@ -2,13 +2,13 @@ use Rattle.strand_machine.proofs.Moves.Making.{ends-can, never-goes, spawned-hol
 use Rattle.strand_machine.proofs.step.to_stop.Goals as goal
 
 pub unreachable-requires : goal.unreachable-requires
-unreachable-requires c = never-goes c.args.passed c.in-Continues.is c.requires.stops
+unreachable-requires g c = never-goes c.args.passed c.in-Continues.is c.requires.stops
 
 pub invariant_of-result : goal.invariant_of-result
-invariant_of-result c = waits-holds c.args.parts.value c.args.passed c.in-Waits.is c.requires.sound
+invariant_of-result g c = waits-holds c.args.parts.value c.args.passed c.in-Waits.is c.requires.sound
 
 pub invariant_of-result-in-Spawned : goal.invariant_of-result-in-Spawned
-invariant_of-result-in-Spawned c = spawned-holds c.args.parts.value c.args.passed c.in-Spawned.child c.in-Spawned.is c.requires.sound
+invariant_of-result-in-Spawned g c = spawned-holds c.args.parts.value c.args.passed c.in-Spawned.child c.in-Spawned.is c.requires.sound
 
 pub end-requires : goal.end-requires
-end-requires c = ends-can c.args.parts.value c.args.passed c.in-Ends.outcome c.in-Ends.is c.requires.sound
+end-requires g c = ends-can c.args.parts.value c.args.passed c.in-Ends.outcome c.in-Ends.is c.requires.sound

@@ -3,3 +3,6 @@ use Rattle.worked_batches.proofs.tests.batch.Goals as goal
 
 pub render_batch-requires-clause-whole : goal.render_batch-requires-clause-whole
 render_batch-requires-clause-whole g c = all_are_whole _ _ c.in_ok-answers.ensures
+
+pub render_batch-requires-clause-lines : goal.render_batch-requires-clause-lines
+render_batch-requires-clause-lines g c = λ k d within e no. absurd (cc)

@@ -3,4 +3,4 @@ use Rattle.strand_family.proofs.Tags.{looked}
 use Rattle.strand_family.proofs.family.Family.look.Goals as goal
 
 pub returns : goal.returns
-returns c = rw (← c.self.view_is) (looked (arc_value c.self.inside.plan) c.self.inside.origin c.self.inside.join c.look.new.self c.look.result c.look.ensures.answers)
+returns g c = rw (← c.self.view_is) (looked (arc_value c.self.inside.plan) c.self.inside.origin c.self.inside.join c.look.new.self c.look.result c.look.ensures.answers)

@@ -12,22 +12,22 @@ use Rattle.strand_machine.proofs.Moves.Starting.{start-sound, start-view}
 use Rattle.strand_machine.proofs.task.Task.begin.Goals as goal
 
 pub boxed-requires : goal.boxed-requires
-boxed-requires c =
+boxed-requires g c =
     let plan = arc_value c.args.plan in
     let o = c.args.child.origin in
     let w = c.in-Ok.remaining in
     let valid : IsValid plan.script = subst (λ (p : PlanView). IsValid p.script) (c.behind-plan.view_is ∙ c.deref.ensures) c.script-script.ensures.valid in
     let begun : remaining_of plan w ≡ begun_remaining plan o = subst (λ (p : PlanView). remaining_of p w ≡ begun_remaining p o) c.deref-2.ensures c.in-Ok.ensures.begun in
     let of_plan : RemainsAt plan o w = subst (λ (p : PlanView). RemainsAt p o w) c.deref-2.ensures c.in-Ok.ensures.of_plan in
-    subst (λ (b : TaskState). HoldsOfTask b w) (sym c.new-state.ensures)
-    (sound_holds _ w (start-sound plan o w c.in-Ok-new.family no_trace c.in-Ok-new.ensures refl begun c.tasks_begin.ensures c.valid_plans_are_clear.ensures c.requires.known valid of_plan))
+    subst (λ (b : TaskState _). HoldsOfTask b w) (sym c.new-state.ensures)
+    (sound_holds _ w (start-sound _ plan o w c.in-Ok-new.family no_trace c.in-Ok-new.ensures refl begun c.tasks_begin.ensures c.valid_plans_are_clear.ensures c.requires.known valid of_plan))
 
 pub returns : goal.returns
-returns c =
+returns g c =
     let plan = arc_value c.args.plan in
     let o = c.args.child.origin in
     let w = c.in-Ok.remaining in
     let begun : remaining_of plan w ≡ begun_remaining plan o = subst (λ (p : PlanView). remaining_of p w ≡ begun_remaining p o) c.deref-2.ensures c.in-Ok.ensures.begun in
     let of_plan : RemainsAt plan o w = subst (λ (p : PlanView). RemainsAt p o w) c.deref-2.ensures c.in-Ok.ensures.of_plan in
-    let is = ap (λ (b : TaskState). view_of b w) c.new-state.ensures ∙ start-view plan o w c.in-Ok-new.family no_trace c.in-Ok-new.ensures refl begun (of_plan-on plan o w of_plan) in
+    let is = ap (λ (b : TaskState _). view_of b w) c.new-state.ensures ∙ start-view g.row.K.Denot plan o w c.in-Ok-new.family no_trace c.in-Ok-new.ensures refl begun (of_plan-on plan o w of_plan) in
     subst (λ (t : TaskView). IfOk c.boxed.result (λ task. task ≡ t)) is c.boxed.ensures

@@ -14,40 +14,40 @@ use Rattle.strand_machine.proofs.TakenAnswers.Taking.{answered-sound}
 use Rattle.strand_machine.proofs.task.Task.end_by.Goals as goal
 
 pub go_on-requires-clause-sound : goal.go_on-requires-clause-sound
-go_on-requires-clause-sound c =
+go_on-requires-clause-sound g c =
     let p = c.self.inside.parts.value in
-    subst (λ (q : Parts). HasTakenAnswers q.state q.remaining) (sym c.deref_mut.ensures.value)
+    subst (λ (q : Parts _). HasTakenAnswers q.state q.remaining) (sym c.deref_mut.ensures.value)
     (answered-sound p.state p.remaining (is-sound p.state p.remaining c.args.self c.self.view_is c.requires.goes_on c.self.invariant))
 
 pub go_on-requires-clause-tags : goal.go_on-requires-clause-tags
-go_on-requires-clause-tags c =
-    let view = ap (λ (q : Parts). view_of q.state q.remaining) c.deref_mut.ensures.value ∙ c.self.view_is in
+go_on-requires-clause-tags g c =
+    let view = ap (λ (q : Parts _). view_of q.state q.remaining) c.deref_mut.ensures.value ∙ c.self.view_is in
     subst (λ (t : TaskView). answer_tags c.push.new.self.items ≡ tags t.task.plan (awaited t.task.trace.handed)) (sym view)
     (tags-with _ _ _ c.args.last _ c.in_ok-push.ensures.items c.answers.view_is c.requires.tags)
 
 pub unreachable-requires : goal.unreachable-requires
-unreachable-requires c =
+unreachable-requires g c =
     let a = c.last.inside in
     let p = c.go_on.new.parts in
-    let view = ap (λ (q : Parts). view_of q.state q.remaining) c.deref_mut.ensures.value ∙ c.self.view_is in
+    let view = ap (λ (q : Parts _). view_of q.state q.remaining) c.deref_mut.ensures.value ∙ c.self.view_is in
     let on = goes-whole _ _ _ c.args.last _ _ c.in_ok-push.ensures.items c.answers.view_is c.requires.whole c.requires.fault c.in_ok-go_on.ensures.went in
     not-none c.args.self _ _ (answer_tags c.args.answers) (tag c.args.last.plan c.args.last.origin) view on c.requires.tags
     (view-err (arc_value a.plan) a.origin a.out a.outcome c.args.last c.last.view_is c.last.invariant c.requires.fault)
     (sym c.end-family.ensures.fault ∙ c.in_default.is)
 
 pub answer-requires : goal.answer-requires
-answer-requires c =
+answer-requires g c =
     let p = c.go_on.new.parts in
-    let view = ap (λ (q : Parts). view_of q.state q.remaining) c.deref_mut.ensures.value ∙ c.self.view_is in
+    let view = ap (λ (q : Parts _). view_of q.state q.remaining) c.deref_mut.ensures.value ∙ c.self.view_is in
     let on = goes-whole _ _ _ c.args.last _ _ c.in_ok-push.ensures.items c.answers.view_is c.requires.whole c.requires.fault c.in_ok-go_on.ensures.went in
     let uncut = ap (λ (w : TaskView). w.cut) on ∙ ap (λ (w : TaskView). w.cut) view ∙ c.requires.goes_on in
     let by = answers-by p.state p.remaining _ c.in-Some.fault (holds-sound p.state p.remaining uncut c.in_ok-go_on.ensures.holds) c.end-family.ensures.prefix (sym c.end-family.ensures.fault ∙ c.in-Some.is) in
     subst (λ (f : FamilyView). IsAnswer f.plan f.origin c.end-family.result.1 (outcome.Fault c.in-Some.fault)) (sym c.end-family.ensures.family) by
 
 pub returns : goal.returns
-returns c =
+returns g c =
     let p = c.go_on.new.parts in
-    let view = ap (λ (q : Parts). view_of q.state q.remaining) c.deref_mut.ensures.value ∙ c.self.view_is in
+    let view = ap (λ (q : Parts _). view_of q.state q.remaining) c.deref_mut.ensures.value ∙ c.self.view_is in
     let on = goes-whole _ _ _ c.args.last _ _ c.in_ok-push.ensures.items c.answers.view_is c.requires.whole c.requires.fault c.in_ok-go_on.ensures.went in
     let uncut = ap (λ (w : TaskView). w.cut) on ∙ ap (λ (w : TaskView). w.cut) view ∙ c.requires.goes_on in
     let answer = c.answer.ensures.answer

@@ -10,18 +10,18 @@ use Rattle.strand_machine.proofs.TakenAnswers.Taking.{answered-sound}
 use Rattle.strand_machine.proofs.task.Task.resume_by.Goals as goal
 
 pub go_on-requires-clause-sound : goal.go_on-requires-clause-sound
-go_on-requires-clause-sound c =
+go_on-requires-clause-sound g c =
     let p = c.self.inside.parts.value in
-    subst (λ (q : Parts). HasTakenAnswers q.state q.remaining) (sym c.deref_mut.ensures.value)
+    subst (λ (q : Parts _). HasTakenAnswers q.state q.remaining) (sym c.deref_mut.ensures.value)
     (answered-sound p.state p.remaining (waits-sound p.state p.remaining c.args.self c.self.view_is c.requires.waits c.self.invariant))
 
 pub go_on-requires-clause-tags : goal.go_on-requires-clause-tags
-go_on-requires-clause-tags c =
-    let same = ap (λ (q : Parts). view_of q.state q.remaining) c.deref_mut.ensures.value ∙ c.self.view_is in
+go_on-requires-clause-tags g c =
+    let same = ap (λ (q : Parts _). view_of q.state q.remaining) c.deref_mut.ensures.value ∙ c.self.view_is in
     subst (λ (t : TaskView). answer_tags c.args.answers ≡ tags t.task.plan (awaited t.task.trace.handed)) (sym same) c.requires.tags
 
 pub returns-clause-went : goal.returns-clause-went
-returns-clause-went c =
-    let same = ap (λ (q : Parts). view_of q.state q.remaining) c.deref_mut.ensures.value ∙ c.self.view_is in
+returns-clause-went g c =
+    let same = ap (λ (q : Parts _). view_of q.state q.remaining) c.deref_mut.ensures.value ∙ c.self.view_is in
     let after = c.go_on.new.parts in
     subst (λ (t : TaskView). WentOn c.args.answers t (view_of after.state after.remaining)) same c.in_ok-left.ensures.went

@@ -3,16 +3,16 @@ use Rattle.std.specs.Arc.{arc_value}
 use Rattle.crew.specs.Crews.{IsDealt}
 use Rattle.crew.specs.Hands.{HandView}
 use Rattle.crew.proofs.Meeting.{first-has-none, is_dealt}
-use Rattle.crew.proofs.hiring.Crew.many.Goals as goal
+use Rattle.crew.proofs.hiring.Crew.many_keeping.Goals as goal
 
 pub take_on-requires-clause-overflow : goal.take_on-requires-clause-overflow
-take_on-requires-clause-overflow c = (first-has-none c.args.workers c.in_ok-hands.hands.items c.index_mut.result.now c.index_mut.result.now c.in_ok-hands.ensures.idle c.requires.workers.0 c.index_mut.ensures.value).0
+take_on-requires-clause-overflow g c = (first-has-none c.args.workers c.in_ok-hands.hands.items c.index_mut.result.now c.index_mut.result.now c.in_ok-hands.ensures.idle c.requires.workers.0 c.index_mut.ensures.value).0
 
 pub take_on-requires-clause-pushed : goal.take_on-requires-clause-pushed
-take_on-requires-clause-pushed c = (first-has-none c.args.workers c.in_ok-hands.hands.items c.index_mut.result.now c.index_mut.result.now c.in_ok-hands.ensures.idle c.requires.workers.0 c.index_mut.ensures.value).1
+take_on-requires-clause-pushed g c = (first-has-none c.args.workers c.in_ok-hands.hands.items c.index_mut.result.now c.index_mut.result.now c.in_ok-hands.ensures.idle c.requires.workers.0 c.index_mut.ensures.value).1
 
 pub returns-clause-hands : goal.returns-clause-hands
-returns-clause-hands c =
+returns-clause-hands g c =
     let idle = c.in_ok-hands.hands.items in
     let tasks = c.in_ok-roots.tasks.items in
     let few : 1 ≤ c.args.workers = c.requires.workers.0 in

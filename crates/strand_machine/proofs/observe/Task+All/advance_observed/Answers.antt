@@ -1,6 +1,6 @@
 use Rattle.strand_machine.proofs.NextStops.Advancing.{falls, is-task}
 use Rattle.strand_machine.proofs.NodesObserved.Observing.{observed-start, observed-on, observed-stop}
-use Rattle.strand_machine.proofs.task.Task.advance_observed.Goals as goal
+use Rattle.strand_machine.proofs.observe.Task+All.advance_observed.Goals as goal
 
 pub loop-observation-init : goal.loop-observation-init
 loop-observation-init c = observed-start c.args.self c.args.at.now c.args.eye c.new-observation.result c.requires.goes_on c.new-observation.ensures
