@@ -2,9 +2,13 @@
 use Rattle.std.specs.Prelude.{ℕ, Option, Some, None, List, ◌++◌, codes, decimal, length, map, min, take}
 use Rattle.script_excerpt.specs.Excerpts.{shown}
 
--- a word with its index, of which 72 bytes at most are shown
+-- what is shown of a word: 72 bytes at most
+abbrev pub shown_word : List ℕ → List ℕ
+shown_word word = map shown (take (min (length word) 72) word)
+
+-- a word with its index
 abbrev pub word_line : ℕ → List ℕ → List ℕ
-word_line at word = codes "word " ++ decimal at ++ codes " is " ++ map shown (take (min (length word) 72) word) ++ codes "\n"
+word_line at word = codes "word " ++ decimal at ++ codes " is " ++ shown_word word ++ codes "\n"
 
 -- how to ask for the help of a command, or of the program
 abbrev pub try_line : Option (List ℕ) → List ℕ

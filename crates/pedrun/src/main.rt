@@ -4,6 +4,7 @@
 mod edge;
 mod help;
 mod hints;
+mod notes;
 mod progress;
 mod recorded;
 mod terminal;

@@ -1,4 +1,4 @@
-// A source and a sink that keep what went through them.
+// A source and a sink that keep of what went through them what a person is told of.
 
 use crate::progress::Progress;
 use ped_io::{Failed, Sink, Source};
@@ -54,26 +54,65 @@ impl<'a, R: Eprint, S: Source> Source for RecordedSource<'a, R, S> {
     }
 }
 
-/// A sink on a terminal, which keeps the bytes that it took, up to where there was no memory for more. It removes the progress line first.
+/// How much of what a sink took is kept at most, in bytes: the one line of a call on the error output is shorter.
+const MOST_KEPT: usize = 1024;
+
+/// What is known of the bytes that a sink took.
+#[derive(Drop)]
+struct Taken {
+    first: Vec<u8>,
+    /// How many of the first ones are kept.
+    most: usize,
+    is_empty: bool,
+}
+
+impl Taken {
+    // Without memory for what is to be kept of these bytes, none of them is.
+    fn add(&mut self, bytes: &[u8]) {
+        self.is_empty = self.is_empty && bytes.is_empty();
+        let room = self.most.saturating_sub(self.first.len());
+        let _ = self
+            .first
+            .extend_from_slice(&bytes[..bytes.len().min(room)]);
+    }
+}
+
+/// A sink on a terminal, which keeps whether it took a byte, and the first bytes where it is to keep any. It removes the progress line
+/// first.
 #[derive(Drop)]
 pub struct RecordedSink<'a, R, K> {
     inner: K,
-    bytes: Vec<u8>,
+    taken: Taken,
     progress: &'a Progress<'a, R>,
 }
 
 impl<'a, R: Clock + Eprint, K: Sink> RecordedSink<'a, R, K> {
-    pub fn new(alloc: Global, inner: K, progress: &'a Progress<'a, R>) -> RecordedSink<'a, R, K> {
+    /// A sink that keeps the first 1024 bytes, or none.
+    pub fn new(
+        alloc: Global,
+        inner: K,
+        keeps: bool,
+        progress: &'a Progress<'a, R>,
+    ) -> RecordedSink<'a, R, K> {
         RecordedSink {
             inner,
-            bytes: Vec::new(alloc),
+            taken: Taken {
+                first: Vec::new(alloc),
+                most: if keeps { MOST_KEPT } else { 0 },
+                is_empty: true,
+            },
             progress,
         }
     }
 
-    /// The bytes that were taken.
+    /// The bytes that are kept.
     pub fn bytes(&self) -> &[u8] {
-        &self.bytes
+        &self.taken.first
+    }
+
+    /// Whether a byte was taken.
+    pub fn wrote(&self) -> bool {
+        !self.taken.is_empty
     }
 }
 
@@ -86,8 +125,7 @@ impl<'a, R: Clock + Eprint, K: Sink> Sink for RecordedSink<'a, R, K> {
         self.progress.clear();
         let taken = self.inner.write(bytes);
         if let Ok(count) = taken {
-            // Without memory for them, these bytes aren't kept.
-            let _ = self.bytes.extend_from_slice(&bytes[..count]);
+            self.taken.add(&bytes[..count]);
         }
         taken
     }

@@ -1,6 +1,7 @@
 // The call on a terminal. A person who sits at the error output gets more than a program does, which gets the line alone.
 
 use crate::hints::hints;
+use crate::notes::note;
 use crate::progress::Progress;
 use crate::recorded::{RecordedSink, RecordedSource};
 use crate::text;
@@ -40,7 +41,8 @@ fn place_lines(alloc: Global, line: &[u8], text: &[u8]) -> Option<Vec<u8>> {
 }
 
 /// Does what `engine::pedrun` does, and shows on `err` what helps a person: the progress of a long run, the place of a script's fault
-/// after its line, the word after a line on words with how to ask for help, and the help where no word was given.
+/// after its line, the word after a line on words with how to ask for help, what a strand that is replayed in silence may mean, and the help
+/// where no word was given.
 pub fn pedrun_on_terminal<
     R: Threads + Wait + Sync + Clock + Eprint,
     S: Source + Drop,
@@ -55,8 +57,8 @@ pub fn pedrun_on_terminal<
     err: E,
     progress: &Progress<R>,
 ) -> Status {
-    let mut out = RecordedSink::new(alloc, out, progress);
-    let mut err = RecordedSink::new(alloc, err, progress);
+    let mut out = RecordedSink::new(alloc, out, false, progress);
+    let mut err = RecordedSink::new(alloc, err, true, progress);
     let status = pedrun(rt, alloc, words, &mut script, &mut out, &mut err, progress);
     progress.clear();
     // What follows the call's own line is for a person: a failed write of it changes nothing.
@@ -69,6 +71,9 @@ pub fn pedrun_on_terminal<
         if let Ok(lines) = hints(alloc, words, word_in_line(err.bytes())) {
             let _ = write_all(&mut err, &lines);
         }
+    }
+    if let Ok(Some(lines)) = note(alloc, words, status, out.wrote()) {
+        let _ = write_all(&mut err, &lines);
     }
     if words.is_empty() {
         let _ = write_all(&mut err, text::PROGRAM.as_bytes());

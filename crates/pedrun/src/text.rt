@@ -1,7 +1,7 @@
 // The texts of the help.
 
 /// Name and version.
-pub const VERSION: &str = "pedrun 0.1.0\n";
+pub const VERSION: &str = "pedrun 1.0.0\n";
 
 /// `pedrun --help`.
 pub const PROGRAM: &str = "\

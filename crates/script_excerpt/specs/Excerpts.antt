@@ -1,5 +1,5 @@
 -- The lines that show a fault of a text.
-use Rattle.std.specs.Prelude.{◌≡◌, ◌+◌, ◌-◌, ◌<◌, ◌≤◌, ◌⊎◌, ◌++◌, ◌==◌, ◌&&◌, [], ℕ, List, Bool, bytes_eq, false, if◌then◌else◌, codes, decimal, drop, length, map, max, nat_eq, nat_le, not, take, true}
+use Rattle.std.specs.Prelude.{◌≡◌, ◌+◌, ◌-◌, ◌<◌, ◌≤◌, ◌⊎◌, ◌++◌, ◌==◌, ◌&&◌, ◌||◌, [], ℕ, List, Bool, bytes_eq, false, if◌then◌else◌, codes, decimal, drop, length, map, max, nat_eq, nat_le, not, take, true}
 use Rattle.std.specs.List.{AllWithin, HoldsAt, starts_with}
 use Rattle.script_excerpt.specs.Followers.{GoesOn}
 use Rattle.script_excerpt.specs.Places.{IsColumn, IsLineStart, is_feed, line_of}
@@ -31,11 +31,20 @@ is_misplaced_return text at word = bytes_eq word (codes "}") && starts_with nat_
 abbrev pub is_misplaced_version : List ℕ → ℕ → List ℕ → Bool
 is_misplaced_version text at word = bytes_eq word (codes "fn") && starts_with nat_eq (drop at text) (codes "version ") && not (starts_with nat_eq (drop at text) (codes "version ("))
 
+-- what stands at `at` begins as the word does
+abbrev pub is_begun : List ℕ → ℕ → List ℕ → Bool
+is_begun text at word = starts_with nat_eq (drop at text) (take 1 word)
+
+-- a word that is more than a mark: another script would be meant
+abbrev pub is_unfit : List ℕ → ℕ → List ℕ → Bool
+is_unfit text at word = (bytes_eq word (codes "sync") || bytes_eq word (codes "fn")) && not (is_begun text at word)
+
 -- what is said of the word that would do
 abbrev pub word_advice : List ℕ → ℕ → List ℕ → List ℕ
 word_advice text at word =
     if is_misplaced_return text at word then codes ", return stands at the end of its function"
     else if is_misplaced_version text at word then codes ", a version's line is version 2 and begins the text"
+    else if is_unfit text at word then []
     else codes ", here a " ++ word ++ codes " would do"
 
 -- What is said beside the message: of the version's line, or else of a word that would do at `at`, or nothing.
@@ -55,13 +64,18 @@ text_lines text from at to = map shown (drop from (take to text)) ++ codes "\n" 
 abbrev pub caret_line : List ℕ → List ℕ → List ℕ
 caret_line message advice = codes "^ " ++ message ++ advice ++ codes "\n"
 
+-- The line of the caret with an advice, or without one and a line more, which says how it is written here.
+abbrev pub IsEnd : (text : List ℕ) (at : ℕ) (message end : List ℕ) → Type 0
+IsEnd text at message end = ((advice : List ℕ) × IsAdvice text at advice × (end ≡ caret_line message advice))
+    ⊎ ((reason : List ℕ) × (end ≡ caret_line message [] ++ reason ++ codes "\n"))
+
 -- The lines show the place of byte `at`, the part of its line, and a caret with the message.
 pub record IsExcerpt (text : List ℕ) (at : ℕ) (message lines : List ℕ) : Type 0 where
   pub column : ℕ
   pub from : ℕ
   pub to : ℕ
-  pub advice : List ℕ
+  pub end : List ℕ
   pub is_column : IsColumn text at column
   pub is_window : IsWindow text at from to
-  pub is_advice : IsAdvice text at advice
-  pub whole : lines ≡ place_line (line_of text at) column ++ text_lines text from at to ++ caret_line message advice
+  pub is_end : IsEnd text at message end
+  pub whole : lines ≡ place_line (line_of text at) column ++ text_lines text from at to ++ end

@@ -1,11 +1,12 @@
 // The lines that show a fault of a text.
 
 ghost use Rattle.std.specs.Prelude.{◌≡◌, ◌≤◌, ◌++◌, IfOk, OnOk, codes, length, map};
-ghost use Rattle.script_excerpt.specs.Excerpts.{IsAdvice, IsExcerpt, IsWindow, caret_line, is_at_version, is_misplaced_return, is_misplaced_version, place_line, blank_for, shown, text_lines, word_advice};
+ghost use Rattle.script_excerpt.specs.Excerpts.{IsAdvice, IsEnd, IsExcerpt, IsWindow, caret_line, is_unfit, is_at_version, is_misplaced_return, is_misplaced_version, place_line, blank_for, shown, text_lines, word_advice};
 
 use crate::advice::follower;
 use crate::bytes::extended;
 use crate::position::{Position, line_start, position_of};
+use crate::slips::reason;
 use std::alloc::{AllocError, Global};
 
 /// How many bytes of the line are shown before the caret at most, and from it on.
@@ -114,6 +115,15 @@ fn is_misplaced_version(text: &[u8], at: usize, word: &str) -> bool
     word == "fn" && text[at..].starts_with(b"version ") && !text[at..].starts_with(b"version (")
 }
 
+// Whether the word says more than a mark does, and isn't meant by what stands at `at`: with it the script would be another one.
+fn is_unfit(text: &[u8], at: usize, word: &str) -> bool
+    requires { at ≤ length text.now }
+    ensures { result ≡ is_unfit text.now at word.now }
+{
+    (word == "sync" && !text[at..].starts_with(b"s"))
+        || (word == "fn" && !text[at..].starts_with(b"f"))
+}
+
 // What is said of the word that would do.
 fn word_advice(alloc: Global, text: &[u8], at: usize, word: &str) -> Result<Vec<u8>, AllocError>
     requires { at ≤ length text.now }
@@ -124,6 +134,9 @@ fn word_advice(alloc: Global, text: &[u8], at: usize, word: &str) -> Result<Vec<
     }
     if is_misplaced_version(text, at, word) {
         return b", a version's line is version 2 and begins the text".to_vec(alloc);
+    }
+    if is_unfit(text, at, word) {
+        return Ok(Vec::new(alloc));
     }
     let advice = b", here a ".to_vec(alloc)?;
     let advice = extended(advice, word.as_bytes())?;
@@ -144,19 +157,47 @@ fn advice(alloc: Global, text: &[u8], at: usize) -> Result<Vec<u8>, AllocError>
     }
 }
 
-// Some lines, then the caret with a message and an advice.
-fn with_caret_line(lines: Vec<u8>, message: &str, advice: &[u8]) -> Result<Vec<u8>, AllocError>
-    ensures { IfOk result (λ longer. longer.items ≡ lines.items ++ caret_line message.now advice.now) }
+// The caret with a message and an advice.
+fn caret_line(alloc: Global, message: &str, advice: &[u8]) -> Result<Vec<u8>, AllocError>
+    ensures { IfOk result (λ line. line.items ≡ caret_line message.now advice.now) }
 {
-    let lines = extended(lines, b"^ ")?;
-    let lines = extended(lines, message.as_bytes())?;
-    let lines = extended(lines, advice)?;
+    let line = b"^ ".to_vec(alloc)?;
+    let line = extended(line, message.as_bytes())?;
+    let line = extended(line, advice)?;
+    extended(line, b"\n")
+}
+
+// Some lines, and one more.
+fn with_line(lines: Vec<u8>, line: &str) -> Result<Vec<u8>, AllocError>
+    ensures { IfOk result (λ longer. longer.items ≡ lines.items ++ line.now ++ codes "\n") }
+{
+    let lines = extended(lines, line.as_bytes())?;
     extended(lines, b"\n")
+}
+
+// The lines from the caret on: with what is said of a habit, or else of a word that would do.
+fn end_lines(alloc: Global, text: &[u8], at: usize, message: &str) -> Result<Vec<u8>, AllocError>
+    requires { at ≤ length text.now }
+    ensures { IfOk result (λ end. IsEnd text.now at message.now end.items) }
+{
+    match reason(text, at, message) {
+        Some(reason) => {
+            let line = caret_line(alloc, message, b"")?;
+            with_line(line, reason)
+        }
+        None => {
+            let advice = advice(alloc, text, at)?;
+            caret_line(alloc, message, &advice)
+        }
+    }
 }
 
 /// Three lines on a fault at byte `at` of a text: its line and column, that line, and a caret under the byte with the message and with the
 /// word that would do there, where one alone would (`follower`). Where that word would close the block of a `return`, or make a function of
 /// a version's line, it says in place of it where such a one stands, and at a line `version 2` that goes on after the 2 it says that alone.
+///
+/// Where what stands there is a habit of another language (`reason`), a fourth line says how it is written here, and nothing of a word. The
+/// words `sync` and `fn` are said only where what stands there begins as they do, since with them the script would be another one.
 ///
 /// Of a long line the 72 bytes before the byte are shown and 72 from it on. A byte that isn't printable is shown as `?`.
 pub fn excerpt(alloc: Global, text: &[u8], at: usize, message: &str) -> Result<Vec<u8>, AllocError>
@@ -167,6 +208,6 @@ pub fn excerpt(alloc: Global, text: &[u8], at: usize, message: &str) -> Result<V
     let (from, to) = window(text, at);
     let lines = place_line(alloc, place)?;
     let lines = with_text_lines(lines, text, from, at, to)?;
-    let advice = advice(alloc, text, at)?;
-    with_caret_line(lines, message, &advice)
+    let end = end_lines(alloc, text, at, message)?;
+    extended(lines, &end)
 }

@@ -2,6 +2,7 @@
 
 mod checks;
 mod excerpts;
+mod habits;
 mod places;
 mod prints;
 mod tokens;

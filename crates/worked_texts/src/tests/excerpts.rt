@@ -55,7 +55,7 @@ static EXCERPTS: [(&str, usize, &str); 15] = [
     (
         "version (n) { return n; } fn main() { return 0; }",
         0,
-        "line 1, column 1\nversion (n) { return n; } fn main() { return 0; }\n^ fault, here a fn would do\n",
+        "line 1, column 1\nversion (n) { return n; } fn main() { return 0; }\n^ fault\n",
     ),
     ("version 2\n", 0, "line 1, column 1\nversion 2\n^ fault\n"),
     (
@@ -63,11 +63,7 @@ static EXCERPTS: [(&str, usize, &str); 15] = [
         8,
         "line 1, column 9\nfn main(a) { return 0; }\n        ^ fault\n",
     ),
-    (
-        "versions",
-        0,
-        "line 1, column 1\nversions\n^ fault, here a fn would do\n",
-    ),
+    ("versions", 0, "line 1, column 1\nversions\n^ fault\n"),
     (
         "fn () { return 0; }",
         3,

@@ -1,0 +1,179 @@
+// Which habit of another language a fault of a text is.
+
+ghost use Rattle.std.specs.Prelude.{◌≡◌, ◌≤◌, IfSome, length};
+ghost use Rattle.script_excerpt.specs.Slips.{IsFront, IsNameStart, IsTrimmed, IsWithoutName, begins_by, begins_in_name, ends_by, ends_in_name, is_blank, is_split};
+ghost use Rattle.script_tokens.specs.Word.{is_name_byte as name_byte};
+
+use crate::reasons::{OTHERS, TOKENS, TOKENS_AFTER_NAMES};
+
+fn is_blank(byte: u8) -> bool
+    ensures { result ≡ is_blank byte }
+{
+    matches!(byte, b' ' | b'\t' | b'\r' | b'\n')
+}
+
+fn is_name_byte(byte: u8) -> bool
+    ensures { result ≡ name_byte byte }
+{
+    byte.is_ascii_alphabetic() || byte == b'_' || byte.is_ascii_digit()
+}
+
+fn begins_in_name(bytes: &[u8]) -> bool
+    ensures { result ≡ begins_in_name bytes.now }
+{
+    match bytes.first() {
+        Some(&byte) => is_name_byte(byte),
+        None => false,
+    }
+}
+
+fn ends_in_name(bytes: &[u8]) -> bool
+    ensures { result ≡ ends_in_name bytes.now }
+{
+    begins_in_name(&bytes[bytes.len().saturating_sub(1)..])
+}
+
+// Whether no name goes on from the first bytes into the others.
+fn is_split(front: &[u8], rest: &[u8]) -> bool
+    ensures { result ≡ is_split front.now rest.now }
+{
+    !(ends_in_name(front) && begins_in_name(rest))
+}
+
+// Whether the bytes end by this word.
+fn ends_by(front: &[u8], word: &[u8]) -> bool
+    ensures { result ≡ ends_by front.now word.now }
+{
+    front.ends_with(word) && is_split(&front[..front.len() - word.len()], word)
+}
+
+// Whether the bytes begin by this word.
+fn begins_by(rest: &[u8], word: &[u8]) -> bool
+    ensures { result ≡ begins_by rest.now word.now }
+{
+    rest.starts_with(word) && is_split(word, &rest[word.len()..])
+}
+
+// How many the bytes are without the blanks at their end.
+fn trimmed(bytes: &[u8]) -> usize
+    ensures { IsTrimmed bytes.now result }
+{
+    let mut end = bytes.len();
+    while 0 < end && is_blank(bytes[end - 1]) {
+        end -= 1;
+    }
+    end
+}
+
+// Where the name at the end of the bytes begins.
+fn name_start(bytes: &[u8]) -> usize
+    ensures { IsNameStart bytes.now result }
+{
+    let mut start = bytes.len();
+    while 0 < start && is_name_byte(bytes[start - 1]) {
+        start -= 1;
+    }
+    start
+}
+
+// What stands before a byte, without the blanks at its end.
+fn front(text: &[u8], at: usize) -> &[u8]
+    requires { at ≤ length text.now }
+    ensures { IsFront text.now at result.now }
+{
+    let before = &text[..at];
+    &before[..trimmed(before)]
+}
+
+// What stands before the name at the end of the bytes, if one stands there.
+fn without_name(bytes: &[u8]) -> Option<&[u8]>
+    ensures { IfSome result (λ rest. IsWithoutName bytes.now rest.now) }
+{
+    if !ends_in_name(bytes) {
+        return None;
+    }
+    let before = &bytes[..name_start(bytes)];
+    Some(&before[..trimmed(before)])
+}
+
+// What the first row says whose words stand before and after a place.
+fn said(
+    rows: &[(&'static str, &'static str, &'static str)],
+    front: &[u8],
+    rest: &[u8],
+) -> Option<&'static str> {
+    for &(before, word, reason) in rows {
+        if ends_by(front, before.as_bytes()) && begins_by(rest, word.as_bytes()) {
+            return Some(reason);
+        }
+    }
+    None
+}
+
+// The bytes from the first one on that is no blank.
+fn without_blanks(bytes: &[u8]) -> &[u8] {
+    let mut from = 0;
+    while from < bytes.len() && is_blank(bytes[from]) {
+        from += 1;
+    }
+    &bytes[from..]
+}
+
+// The statement that the bytes end by, which has no block.
+fn statement(front: &[u8]) -> Option<&[u8]> {
+    let (&last, before) = front.split_last()?;
+    if last != b';' {
+        return None;
+    }
+    let mut from = before.len();
+    while 0 < from && !matches!(before[from - 1], b';' | b'{' | b'}') {
+        from -= 1;
+    }
+    Some(without_blanks(&before[from..]))
+}
+
+// Whether a name goes on from a number.
+fn goes_on(text: &[u8], at: usize) -> bool
+    requires { at ≤ length text.now }
+{
+    match text[..at].last() {
+        Some(byte) => byte.is_ascii_digit() && begins_in_name(&text[at..]),
+        None => false,
+    }
+}
+
+// What is said at an unexpected token.
+fn token_reason(text: &[u8], at: usize) -> Option<&'static str>
+    requires { at ≤ length text.now }
+{
+    let (front, rest) = (front(text, at), &text[at..]);
+    if goes_on(text, at) {
+        return Some("a number is digits alone: 1000000, and no 1e6, 1_000_000 or 0xf4240");
+    }
+    let follows_return = statement(front).is_some_and(|it| begins_by(it, b"return"));
+    if follows_return && !begins_by(rest, b"}") && !begins_by(rest, b"fn") {
+        return Some(
+            "return stands once, at the end of its function: set a variable before it, by an if",
+        );
+    }
+    match said(&TOKENS, front, rest) {
+        Some(reason) => Some(reason),
+        None => said(&TOKENS_AFTER_NAMES, without_name(front)?, rest),
+    }
+}
+
+/// How what stands at byte `at` of a text is written here, where it is a habit of another language for which the text stops there with this
+/// message, and one of those that are known here.
+pub fn reason(text: &[u8], at: usize, message: &str) -> Option<&'static str>
+    requires { at ≤ length text.now }
+{
+    if message == "unexpected token" {
+        return token_reason(text, at);
+    }
+    for &(fault, word, reason) in &OTHERS {
+        if fault == message && begins_by(&text[at..], word.as_bytes()) {
+            return Some(reason);
+        }
+    }
+    None
+}
