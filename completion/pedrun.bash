@@ -1,3 +1,4 @@
+# shellcheck shell=bash
 # Completion of pedrun's words for bash. ./install puts it where bash-completion finds it; else: source completion/pedrun.bash
 
 # The options of a command.
