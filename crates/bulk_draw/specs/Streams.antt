@@ -10,18 +10,18 @@ path_of_pedigree j = take (length j - 1) j
 abbrev pub last_rank : List ℕ → ℕ
 last_rank j = slice_index j (length j - 1)
 
--- the pedigree that stands so many ranks later on the same path
+-- the pedigree `i` ranks later on the same path
 abbrev pub later : List ℕ → ℕ → List ℕ
 later j i = path_of_pedigree j ++ (last_rank j + i) ∷ []
 
--- the draws of so many consecutive ranks, from this pedigree's own on
+-- the draws of `n` consecutive ranks, from the pedigree's own on
 abbrev pub stream : List ℕ → List ℕ → ℕ → ℕ → List ℕ
 stream gamma j n rounds = map (λ i. dotmix gamma (later j i) rounds) (range_with_len 0 n)
 
--- so many dot products, from the first one on, of which each is the one before it and a step
+-- `n` dot products: the first, and then each a step more than the one before
 abbrev pub dots : ℕ → ℕ → ℕ → List ℕ
 dots first step n = map (λ i. (first + i * step) % modulus) (range_with_len 0 n)
 
--- the list with eight numbers in the place of those from this index on
+-- the list with the eight numbers from this index on replaced
 abbrev pub with_lanes : List ℕ → ℕ → List ℕ → List ℕ
 with_lanes xs at lanes = take at xs ++ (lanes ++ drop 8 (drop at xs))

@@ -2,10 +2,10 @@ ghost use Rattle.std.specs.Prelude.{◌≡◌, ◌+◌, ◌≤◌, length, map};
 ghost use Rattle.dotmix.specs.Draws.{mix, most_rounds, round};
 ghost use Rattle.bulk_draw.specs.Streams.{with_lanes};
 
-/// How many numbers are mixed side by side.
+// How many numbers are mixed at once.
 pub(crate) const LANES: usize = 8;
 
-/// One round: 2z² + z modulo 2^64, and then the two halves exchanged.
+// One round: 2z² + z modulo 2^64, and then the two halves swapped.
 fn mixed_once(z: u64) -> u64
     ensures { result ≡ round z }
 {
@@ -23,8 +23,8 @@ fn mix_once(z: &mut [u64])
     }
 }
 
-/// Mixes each number by so many rounds. All numbers take a round before any takes the next one, so that a processor works on
-/// several at once. The few of an array of fixed length stay in registers meanwhile.
+// Mixes each number by this many rounds. All numbers take one round before any takes the next, so that the processor overlaps them.
+// The few numbers of a fixed-size array stay in registers meanwhile.
 pub(crate) fn mix_each(z: &mut [u64], rounds: u32)
     ensures { z.new ≡ map (λ n. mix n rounds) z.old }
 {
@@ -33,7 +33,7 @@ pub(crate) fn mix_each(z: &mut [u64], rounds: u32)
     }
 }
 
-/// Writes eight numbers from this index on, one by one: copied as one piece they would go through memory.
+// Writes eight numbers from this index on, one by one: a block copy would go through memory.
 pub(crate) fn write_lanes(out: &mut [u64], start: usize, lanes: &[u64; LANES])
     requires { start + 8 ≤ length out.old }
     ensures { out.new ≡ with_lanes out.old start lanes.now }
@@ -43,8 +43,8 @@ pub(crate) fn write_lanes(out: &mut [u64], start: usize, lanes: &[u64; LANES])
     }
 }
 
-/// Mixes each number by so many rounds, at most `dotmix::MOST_ROUNDS`. It is for who has dot products from elsewhere: of 0, 1 and 11 four
-/// rounds make 0, 21 and 128271.
+/// Mixes each number by this many rounds, at most `dotmix::MOST_ROUNDS`, where the dot products come from elsewhere: four rounds
+/// make 0, 21 and 128271 of 0, 1 and 11.
 pub fn mix_lanes(z: &mut [u64], rounds: u32)
     requires { rounds ≤ most_rounds }
     ensures { z.new ≡ map (λ n. mix n rounds) z.old }

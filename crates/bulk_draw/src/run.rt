@@ -6,8 +6,7 @@ use crate::lanes::{LANES, mix_each, write_lanes};
 use dotmix::{Gamma, MODULUS, dot};
 use ped_path::Pedigree;
 
-/// The sum of two numbers below the modulus, modulo it. What is added back where the difference went below 0 is a number and no way
-/// to go on, so that no jump depends on it.
+// Branch-free modular addition of two numbers below the modulus.
 fn residue_sum(dot: u64, step: u64) -> u64
     requires dot { IsResidue dot }
     requires step { IsResidue step }
@@ -19,7 +18,7 @@ fn residue_sum(dot: u64, step: u64) -> u64
     dot.wrapping_sub(room).wrapping_add(back)
 }
 
-/// Writes this dot product and those after it, and gives the one that comes next.
+// Writes consecutive dot products, from `first` on, and returns the next one.
 fn write_dots(out: &mut [u64], first: u64, step: u64) -> u64
     requires dot { IsResidue first }
     requires step { IsResidue step }
@@ -35,15 +34,15 @@ fn write_dots(out: &mut [u64], first: u64, step: u64) -> u64
     dot
 }
 
-/// Writes what the strands of consecutive ranks draw, from the pedigree's own rank on, each in so many rounds, at most
-/// `dotmix::MOST_ROUNDS`. All these ranks are below 2^32.
+/// Writes the draws of consecutive ranks, from the pedigree's own on, each by this many rounds, at most `dotmix::MOST_ROUNDS`. All
+/// these ranks are below 2^32.
 pub fn draw_run(gamma: &Gamma, at: &Pedigree, rounds: u32, out: &mut [u64])
     requires within { length at.now ≤ length gamma.now }
     requires rounds { rounds ≤ most_rounds }
     requires ranks { last_rank at.now + length out.old ≤ 2 ^ 32 }
     ensures { out.new ≡ stream gamma.now at.now (length out.old) rounds }
 {
-    // So the place fits 32 bits.
+    // So the index of the coefficient fits 32 bits.
     let places = gamma.len();
     prove!(at.len() <= places as u64);
     let step = gamma.coeff(at.path.len() as u32 + 1);

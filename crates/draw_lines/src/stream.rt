@@ -6,7 +6,7 @@ use bulk_draw::{draw_run, reduce};
 use dotmix::Gamma;
 use ped_path::Pedigree;
 
-/// A stream of draws from its next number on.
+/// A stream of draws, from its next number on.
 #[derive(Drop)]
 pub struct Stream {
     /// At least as many coefficients as the pedigree has ranks.
@@ -15,12 +15,12 @@ pub struct Stream {
     pub at: Pedigree,
     /// How often a draw is mixed, from 0 to 8.
     pub rounds: u32,
-    /// What each number is reduced by, which isn't 0.
+    /// The modulus by which each number is reduced, not 0.
     pub below: Option<u64>,
 }
 
 impl Stream {
-    /// Draws as many numbers as there is room for.
+    // Fills `numbers` with draws.
     pub(crate) fn draw(&self, numbers: &mut [u64])
         requires { CanDraw self.now (length numbers.old) }
         ensures { numbers.new ≡ each_modulo self.now.below (stream self.now.gamma self.now.at (length numbers.old) self.now.rounds) }
@@ -31,7 +31,7 @@ impl Stream {
         }
     }
 
-    /// Goes on by so many numbers. There is one more.
+    // Skips this many numbers. At least one more must be left.
     pub(crate) fn skip(&mut self, count: u64)
         requires { last_rank self.old.at + count < 2 ^ 32 }
         ensures { self.new ≡ later_stream self.old count }

@@ -9,21 +9,21 @@ use ped_io::{Failed, Sink};
 use std::alloc::{AllocError, Global};
 use thiserror::Error;
 
-/// How many numbers are drawn and written at once.
+// How many numbers are drawn and written at once.
 const BLOCK_NUMBERS: usize = 4096;
 
-/// Why a stream isn't written whole.
+/// Why a stream wasn't written whole.
 #[derive(Clone, Copy, Debug, PartialEq, Eq, Error)]
 pub enum StreamError {
     /// A write failed, and the sink's count of faults rose.
     #[error("a write failed")]
     Fault,
-    /// Want of memory for a block. Nothing was written.
+    /// There was no memory for a block. Nothing was written.
     #[error("out of memory")]
     Memory,
 }
 
-/// Writes the lines of so many numbers, as many in a block as there is room for.
+// Writes the lines of `count` numbers, in blocks of the size of `numbers`.
 fn write_blocks<K: Sink>(
     stream: &mut Stream,
     count: u64,
@@ -48,10 +48,10 @@ fn write_blocks<K: Sink>(
     write_draws(stream, &mut numbers[..left as usize], text, out)
 }
 
-/// Writes the lines of so many numbers of a stream, block by block. The memory is taken before the first write.
+/// Writes the lines of `count` numbers of a stream, block by block. The memory is taken before the first write.
 ///
 /// # Errors
-/// `Fault` where a write failed: a front of the lines was written. `Memory` where there is none for a block: nothing was written.
+/// `Fault` where a write failed: a prefix of the lines was written. `Memory` where there is none for a block: nothing was written.
 pub fn write_stream<K: Sink>(
     alloc: Global,
     mut stream: Stream,

@@ -1,4 +1,4 @@
--- Ranges of a parallel loop's iterations. The definitions are this project's own.
+-- Ranges of a parallel loop's iterations.
 use Rattle.std.specs.Prelude.{◌≡◌, ℕ, ◌+◌, ◌-◌, ◌/◌, ◌≤◌, List, length}
 use Rattle.std.specs.List.{AllAdjacentBelow}
 
@@ -7,7 +7,7 @@ pub record Range : Type 0 where
   pub lo : ℕ
   pub hi : ℕ
 
--- The numbers of iterations are ranks, each below 2^32 - 1.
+-- Iterations are ranks, each below 2^32 - 1.
 pub record IsRange (lo hi : ℕ) : Type 0 where
   pub ordered : lo ≤ hi
   pub in_range : hi ≤ 4294967295

@@ -1,7 +1,7 @@
 //! The iterations of a parallel loop, and their paths.
 //!
-//! A loop's iterations are numbered from 0. A worker that runs a loop hands out the lower half of what is left and keeps the upper
-//! half, so that a loop of n iterations is shared out in about log n steps.
+//! A loop's iterations are numbered from 0. A worker that runs a loop splits off the lower half of what is left for others and
+//! keeps the upper half, so a loop of n iterations is shared out in about log n steps.
 #![tactic(auto)]
 
 mod memory;

@@ -6,7 +6,7 @@ use ped_path::Ped;
 use std::alloc::Global;
 use std::marker::Model;
 
-/// The iterations from `lo` on and below `hi`, with `lo` at most `hi` and `hi` at most 4294967295. It may be empty.
+/// The iterations from `lo` up to but not including `hi`, with `lo` at most `hi` and `hi` at most 4294967295. It may be empty.
 #[derive(Clone, Copy, Debug, PartialEq, Eq)]
 pub struct IterRange {
     pub lo: u64,
@@ -36,8 +36,7 @@ impl IterRange {
         self.hi - self.lo
     }
 
-    /// The two halves, the lower one first, where there are at least two iterations to share. Of an odd number the upper half
-    /// has one more.
+    /// The lower and the upper half, where there are at least two iterations. Of an odd number the upper half has one more.
     pub fn split(&self) -> Option<(IterRange, IterRange)>
         ensures too_few { IsNone result ↔ (self.now.hi - self.now.lo < 2) }
         ensures halves { IfSome result (λ parts. (parts.0 ≡ lower_half self.now) × (parts.1 ≡ upper_half self.now)) }
@@ -58,8 +57,8 @@ impl IterRange {
     }
 }
 
-/// Whether each part ends where the next one begins. So it is for no part and for one. It is for who cut a range into parts, as a test of
-/// that: of 0 to 5 the parts 0 to 2 and 2 to 5 cover, and 0 to 2 and 3 to 5 don't, which leave out iteration 2.
+/// Whether each part ends where the next one begins. True for zero or one part. For testing how a range was split: the parts 0 to 2
+/// and 2 to 5 are gapless, and 0 to 2 and 3 to 5 leave out iteration 2.
 pub fn cover(parts: &[IterRange]) -> bool
     ensures { IsTrue result ↔ IsGapless parts.now }
 {
@@ -73,7 +72,7 @@ pub fn cover(parts: &[IterRange]) -> bool
     true
 }
 
-/// The path of iteration `k` of the loop whose strand has this path: the loop's instance, the rank of the loop, and then `k`.
+/// The path of iteration `k` of the loop whose strand has this path: the loop's instance, the loop's rank, and then `k`.
 pub fn iteration_path(path: &Ped, alloc: Global, k: u64) -> Result<Ped, Memory>
     requires { k ≤ 4294967294 }
     ensures { IfOk result (λ child. child ≡ path.now ++ k ∷ []) }

@@ -3,7 +3,7 @@ use Rattle.std.specs.Prelude.{ℕ, List, [], ◌∷◌, ◌++◌, codes, decimal
 use Rattle.ped_gen.specs.declared.shape.Shape.{Shape}
 use Rattle.ped_gen.specs.declared.shape.Shape.TheVariants.{Fib, Tree, Loop}
 
--- the lines with a line feed after each
+-- each line followed by a line feed
 abbrev pub with_line_feeds : List (List ℕ) → List ℕ
 with_line_feeds lines = flat_map (λ line. line ++ codes "\n") lines
 

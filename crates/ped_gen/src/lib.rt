@@ -1,4 +1,4 @@
-//! Scripts that are made by a program: three shapes of parallel work, of any size that a test or a benchmark asks for.
+//! Generated scripts: three shapes of parallel work, of any size that a test or a benchmark needs.
 #![tactic(auto)]
 
 mod memory;

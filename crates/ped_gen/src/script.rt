@@ -7,9 +7,9 @@ use crate::shape::Shape;
 use itoa::Buffer;
 use std::alloc::Global;
 
-/// The script of this shape and size, in canonical text. What the scripts print was tried for some sizes and is in no clause: `Fib` the
-/// Fibonacci number of the size (0, 1, 1, 2, ..); where every draw is 0, `Tree` 2 to the power of the size, and `Loop` the sum of the squares
-/// of all numbers below it. `Err` is want of memory alone.
+/// The script of this shape and size, in canonical text. What it prints was tried for some sizes and is in no clause: for `Fib` the
+/// Fibonacci number of the size (0, 1, 1, 2, ..); where every draw is 0, for `Tree` 2 to the power of the size, and for `Loop` the
+/// sum of the squares of all numbers below it. Only running out of memory makes it `Err`.
 pub fn gen_script(alloc: Global, shape: Shape, n: u64) -> Result<Vec<u8>, Memory>
     requires { Fits shape n }
     ensures { IfOk result (λ text. text.items ≡ generated shape n) }

@@ -4,11 +4,11 @@ ghost use Rattle.ped_gen.specs.Shapes.{Fits};
 /// The kinds of generated scripts.
 #[derive(Clone, Copy, Debug, PartialEq, Eq)]
 pub enum Shape {
-    /// The Fibonacci number of the size, by a recursion that spawns one call of two.
+    /// The Fibonacci number of the size, by a recursion that spawns one of its two calls.
     Fib,
-    /// The sum of a draw at each leaf of a full binary tree of this height, and of 1 for each leaf. All calls but main's are spawned.
+    /// Adds up one draw and a 1 for each leaf of a full binary tree of this height. All calls but main's are spawned.
     Tree,
-    /// A parallel loop of so many iterations, and the sum of what they answer.
+    /// A parallel loop of this many iterations, and the sum of their values.
     Loop,
 }
 

@@ -5,11 +5,11 @@ use Rattle.ped_path.specs.Parsing.{IsRefused, RankDueAt}
 use Rattle.ped_path.specs.declared.parse.PedTextError.{PedTextError}
 use Rattle.ped_path.specs.declared.parse.PedTextError.TheVariants.{Empty, BadByte, Zeros, TooBig, TooLong, Memory}
 
--- a text has one refusal at most
+-- a text has at most one refusal
 abbrev pub RefusalsAreUnique : Type 0
 RefusalsAreUnique = (text : List ℕ) (e f : PedTextError) → e ≢ Memory → f ≢ Memory → IsRefused text e → IsRefused text f → e ≡ f
 
--- Digits stand first, and the number that they write is no rank, whether or not needless zeros stand among them.
+-- The text begins with digits whose number is too large for a rank, whether or not it has needless zeros.
 pub record WritesTooBig (rest : List ℕ) : Type 0 where
   pub digits : List ℕ
   pub after : List ℕ
@@ -17,7 +17,7 @@ pub record WritesTooBig (rest : List ℕ) : Type 0 where
   pub numeral : AllDigits 10 digits
   pub big : 2 ^ 32 ≤ digits_value 10 digits
 
--- the text breaks this rule, whatever other rule it breaks at that place
+-- the text breaks this rule, whatever other rule it breaks at the same offset
 abbrev pub Breaks : List ℕ → PedTextError → Type 0
 Breaks text (TooBig at) = RankDueAt text at WritesTooBig
 Breaks text e = IsRefused text e
@@ -36,7 +36,7 @@ place_of (Zeros at) = at
 place_of (TooBig at) = at
 place_of _ = 0
 
--- the rules that a text breaks are broken at one place, and the one of the least number is told
+-- all rules that a text breaks are broken at one offset, and the refusal names the one with the least number
 abbrev pub LeastRuleIsTold : Type 0
 LeastRuleIsTold =
     (text : List ℕ) (told broken : PedTextError) → told ≢ Memory → broken ≢ Memory → IsRefused text told → Breaks text broken →

@@ -1,4 +1,4 @@
--- What is wrong with a text that is no pedigree's, judged from left to right.
+-- What is wrong with a text that isn't a pedigree's, read from left to right.
 use Rattle.std.specs.Prelude.{◌≡◌, ◌≢◌, ℕ, ◌+◌, ◌<◌, ◌≤◌, ◌^◌, ◌⊎◌, Bool, true, false, ◌&&◌, ◌==◌, List, [], ◌∷◌, ◌++◌, length, All, decimal}
 use Rattle.std.specs.Char.{is_ascii_digit}
 use Rattle.std.specs.Str.Parse.{AllDigits, digits_value}
@@ -11,12 +11,12 @@ abbrev pub begins_with_digit : List ℕ → Bool
 begins_with_digit [] = false
 begins_with_digit (c ∷ cs) = is_ascii_digit c
 
--- a 0, and a digit after it
+-- a 0 with a digit after it
 abbrev pub has_needless_zero : List ℕ → Bool
 has_needless_zero [] = false
 has_needless_zero (c ∷ cs) = (c == 48) && begins_with_digit cs
 
--- Digits come first, without a needless zero, and the number that they write is no rank.
+-- The text begins with digits, without a needless zero, whose number is too large for a rank.
 pub record BeginsTooBig (rest : List ℕ) : Type 0 where
   pub digits : List ℕ
   pub after : List ℕ
@@ -25,13 +25,13 @@ pub record BeginsTooBig (rest : List ℕ) : Type 0 where
   pub needed : has_needless_zero rest ≡ false
   pub big : 2 ^ 32 ≤ digits_value 10 digits
 
--- A rank comes first, and what stands after it goes on with no digit.
+-- The text begins with this rank, and no further digit follows.
 pub record IsRankThen (rest : List ℕ) (rank : ℕ) (after : List ℕ) : Type 0 where
   pub bounded : IsRank rank
   pub split : rest ≡ decimal rank ++ after
   pub ended : begins_with_digit after ≡ false
 
--- Here a rank is needed, which begins at this offset, and this is wrong with it.
+-- A rank should begin here, at this offset, and this is wrong with it.
 abbrev pub IsRankFault : List ℕ → ℕ → PedTextError → Type 0
 IsRankFault rest start (BadByte at) = (at ≡ start) × (begins_with_digit rest ≡ false)
 IsRankFault rest start (Zeros at) = (at ≡ start) × (has_needless_zero rest ≡ true)
@@ -40,7 +40,7 @@ IsRankFault rest start Empty = ⊥
 IsRankFault rest start TooLong = ⊥
 IsRankFault rest start Memory = ⊥
 
--- The text begins with so many ranks, each with a full stop after it, and this rest stands at this offset.
+-- The text begins with `count` ranks, each followed by a full stop, and `rest` is what follows them, from the offset `at` on.
 pub record IsAfterRanks (text : List ℕ) (count at : ℕ) (rest : List ℕ) : Type 0 where
   pub ranks : List ℕ
   pub counted : length ranks ≡ count
@@ -48,7 +48,7 @@ pub record IsAfterRanks (text : List ℕ) (count at : ℕ) (rest : List ℕ) : T
   pub whole : text ≡ stopped ranks ++ rest
   pub offset : at ≡ length (stopped ranks)
 
--- One of the first 512 ranks should begin at this offset, and what stands from there on is so.
+-- One of the first 512 ranks should begin at the offset `start`, and P holds of the text from there on.
 pub record RankDueAt (text : List ℕ) (start : ℕ) (P : List ℕ → Type 0) : Type 0 where
   pub count : ℕ
   pub rest : List ℕ
@@ -56,7 +56,7 @@ pub record RankDueAt (text : List ℕ) (start : ℕ) (P : List ℕ → Type 0) :
   pub front : IsAfterRanks text count start rest
   pub here : P rest
 
--- A rank comes first, and after it at this offset a byte that is neither a digit nor a full stop.
+-- A rank comes first, and the byte after it, at the offset `at`, is neither a digit nor a full stop.
 pub record LacksStop (start at : ℕ) (rest : List ℕ) : Type 0 where
   pub rank : ℕ
   pub byte : ℕ
@@ -65,7 +65,7 @@ pub record LacksStop (start at : ℕ) (rest : List ℕ) : Type 0 where
   pub other : byte ≢ 46
   pub place : at ≡ start + length (decimal rank)
 
--- The text is no pedigree's, and this is the first thing that is wrong with it.
+-- The text isn't a pedigree's, and this is the first thing wrong with it.
 abbrev pub IsRefused : List ℕ → PedTextError → Type 0
 IsRefused text Empty = text ≡ []
 IsRefused text (BadByte at) = (text ≢ []) × (RankDueAt text at (λ rest. begins_with_digit rest ≡ false) ⊎ ((start : ℕ) × RankDueAt text start (LacksStop start at)))

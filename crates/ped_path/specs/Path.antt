@@ -7,6 +7,6 @@ use Rattle.std.specs.declared.cmp.Ordering.TheVariants.{Less}
 abbrev pub IsRank : ℕ → Type 0
 IsRank r = r < 2 ^ 32
 
--- The first ranks that differ decide. Where there are none, a proper prefix stands before the longer list.
+-- The lexicographic order: a proper prefix comes before the longer list.
 abbrev pub IsBefore : List ℕ → List ℕ → Type 0
 IsBefore p q = slice_cmp nat_cmp p q ≡ Less

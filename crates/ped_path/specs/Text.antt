@@ -10,6 +10,6 @@ ped_text ranks = join_by decimal (codes ".") ranks
 abbrev pub stopped : List ℕ → List ℕ
 stopped ranks = flat_map (λ r. decimal r ++ codes ".") ranks
 
--- The new bytes are the old ones and a front of the text.
+-- The new bytes are the old ones and a prefix of the text.
 abbrev pub AppendsFront : List ℕ → List ℕ → List ℕ → Type 0
 AppendsFront old new text = (k : ℕ) × (new ≡ old ++ take k text)

@@ -6,10 +6,10 @@ use std::alloc::Global;
 use std::marker::Model;
 use std::sync::Arc;
 
-/// How many ranks a block has.
+// How many ranks a block has.
 pub(crate) const BLOCK: usize = 16;
 
-/// A block of ranks, full and for good. It is seen as the list of its ranks.
+// A full block of ranks, which never changes. Contracts see the list of its ranks.
 #[derive(Drop)]
 pub(crate) struct RankBlock {
     ranks: Arc<[u32; BLOCK]>,
@@ -36,7 +36,7 @@ impl RankBlock {
         Ok(RankBlock { ranks })
     }
 
-    /// The same block, over the same memory.
+    // Shares the block's memory.
     pub(crate) fn share(&self) -> Result<RankBlock, Memory>
         ensures { IfOk result (λ block. block ≡ self.now) }
     {
@@ -51,17 +51,17 @@ impl RankBlock {
         self.ranks[place] as u64
     }
 
-    /// How many lists hold this block.
+    // How many lists hold this block.
     #[cfg(test)]
     pub(crate) fn owners(&self) -> usize {
         Arc::strong_count(&self.ranks)
     }
 }
 
-/// A list of blocks, over memory that all its owners share. It is seen as the list of them.
+// A list of blocks, in memory that all its owners share. Contracts see the list of the blocks.
 #[derive(Drop)]
 pub(crate) struct RankBlocks {
-    // None where there is no block, so that short paths have no count in common.
+    // None where there is no block, so that short paths share no reference count.
     list: Option<Arc<Vec<RankBlock>>>,
 }
 
@@ -90,7 +90,7 @@ impl RankBlocks {
         }
     }
 
-    /// The same list, over the same memory.
+    // Shares the list's memory.
     pub(crate) fn share(&self) -> Result<RankBlocks, Memory>
         ensures { IfOk result (λ list. list ≡ self.now) }
     {
@@ -102,7 +102,7 @@ impl RankBlocks {
         }
     }
 
-    /// A list of the same blocks and one more.
+    // A new list: these blocks and one more.
     pub(crate) fn with(&self, alloc: Global, block: RankBlock) -> Result<RankBlocks, Memory>
         requires { length self.now < 2 ^ 58 }
         ensures { IfOk result (λ list. list ≡ self.now ++ block ∷ []) }
@@ -113,7 +113,7 @@ impl RankBlocks {
         })
     }
 
-    /// Whether no other list has this memory. A list of no block has none.
+    // Whether no other list shares this memory. A list without blocks has none.
     #[cfg(test)]
     pub(crate) fn is_sole(&mut self) -> bool {
         match &mut self.list {
@@ -123,7 +123,7 @@ impl RankBlocks {
     }
 }
 
-// A list of the same blocks and one more.
+// A new list: these blocks and one more.
 fn with_block(
     alloc: Global,
     blocks: &[RankBlock],

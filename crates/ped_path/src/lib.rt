@@ -34,8 +34,7 @@ pub use text::write_pedigree;
 
 fn is_shared<T: Send + Sync>() {}
 
-/// Paths and pedigrees may be sent to other threads and read by several at once. The body asks for it, so that a field which
-/// forbids it fails the build.
+// Paths and pedigrees may be sent to other threads and read by several at once. A field that forbids it makes this fail to compile.
 fn all_are_shared() {
     is_shared::<Ped>();
     is_shared::<Pedigree>();

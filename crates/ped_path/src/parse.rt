@@ -11,20 +11,21 @@ use crate::ped::Ped;
 use crate::pedigree::Pedigree;
 use std::alloc::Global;
 
-/// How many ranks a text may have.
+// How many ranks a text may have.
 const MOST_RANKS: u32 = 512;
 
-/// The greatest rank.
+// The greatest rank.
 const MOST_RANK: u64 = 4_294_967_295;
 
-/// Why a text is no pedigree's. Texts are judged from left to right, and the offsets count bytes from 0.
+/// Why a text isn't a pedigree's. A text is read from left to right, and offsets count bytes from 0.
 #[derive(Clone, Copy, Debug, PartialEq, Eq)]
 pub enum PedTextError {
     /// The text is empty.
     Empty,
-    /// At this offset a digit is needed, and another byte or the end stands there; or after a rank neither a full stop nor the end.
+    /// At this offset a digit should stand, and there is another byte or the end; or a rank is followed by neither a full stop nor
+    /// the end.
     BadByte(u32),
-    /// The rank that begins at this offset is a 0 with a digit after it.
+    /// The rank that begins at this offset has a needless zero: a 0 with a digit after it.
     Zeros(u32),
     /// The rank that begins at this offset is above 4294967295.
     TooBig(u32),
@@ -44,7 +45,7 @@ impl From<Memory> for PedTextError {
     }
 }
 
-/// Reads the text of a pedigree: from 1 to 512 ranks in decimal without needless zeros, joined by full stops.
+/// Parses a pedigree: 1 to 512 ranks in decimal without needless zeros, joined by full stops.
 pub fn parse_pedigree(alloc: Global, text: &str) -> Result<Pedigree, PedTextError>
     ensures ok { IfOk result (λ j. (text.now ≡ ped_text j) × (length j ≤ 512)) }
     ensures err { IfErr result (λ e. IsRefused text.now e) }
@@ -71,7 +72,7 @@ pub fn parse_pedigree(alloc: Global, text: &str) -> Result<Pedigree, PedTextErro
     Err(PedTextError::TooLong)
 }
 
-/// Reads the rank at the front of this rest of a text, which begins at this offset, and gives what stands after it.
+// Reads the rank at the start of `rest`, which begins at the offset `at`, and returns what follows it.
 fn read_rank(rest: &[u8], at: u32) -> Result<(u64, &[u8]), PedTextError>
     ensures ok { IfOk result (λ r. IsRankThen rest.now r.0 r.1.now) }
     ensures err { IfErr result (λ e. IsRankFault rest.now at e) }
@@ -89,7 +90,7 @@ fn read_rank(rest: &[u8], at: u32) -> Result<(u64, &[u8]), PedTextError>
     }
 }
 
-/// How many digits stand at the front.
+// How many digits the text begins with.
 fn digits_len(text: &[u8]) -> usize
     ensures value { result ≡ prefix_len is_ascii_digit text.now }
     ensures within { result ≤ length text.now }
@@ -97,7 +98,7 @@ fn digits_len(text: &[u8]) -> usize
     text.iter().take_while(|byte| byte.is_ascii_digit()).count()
 }
 
-/// The number that these digits write, where it is a rank.
+// The number that these digits write, if it is a rank.
 fn rank_of(digits: &[u8]) -> Option<u64>
     requires { AllDigits 10 digits.now }
     ensures { SomeIff result (digits_value 10 digits.now < 2 ^ 32) (digits_value 10 digits.now) }

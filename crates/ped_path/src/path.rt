@@ -6,11 +6,11 @@ use crate::memory::Memory;
 use std::alloc::Global;
 use std::marker::Model;
 
-/// How many blocks a path has at most, so that its length fits. No machine has memory for as many.
+// The most blocks of a path, so that its length fits. No machine has memory for as many.
 const MOST_BLOCKS: usize = 1 << 58;
 
-/// What the copies of a path have in common: its full blocks, which the paths of the children share, and the ranks after them. It is
-/// seen as the list of its ranks.
+// What the copies of a path share: its full blocks, which its children's paths share too, and the ranks after them. Contracts see
+// the list of its ranks.
 #[derive(Drop)]
 pub(crate) struct Path {
     blocks: RankBlocks,
@@ -92,7 +92,7 @@ mod tests {
     use super::*;
     use std::test::Fail;
 
-    // A path of so many ranks: 0, 1, 2 and so on.
+    // A path of `len` ranks: 0, 1, 2 and so on.
     fn counted(alloc: Global, len: u32) -> Result<Path, Memory> {
         let mut path = Path::root();
         for rank in 0..len {
@@ -112,7 +112,7 @@ mod tests {
         Ok(())
     }
 
-    // The path of 32 ranks has a list of its own, in which the first block is its parent's.
+    // The path of 32 ranks has its own list, whose first block is its parent's.
     #[test]
     fn a_new_list_has_the_same_blocks(rt: HostRuntime) -> Result<(), Fail> {
         let alloc = rt.alloc();

@@ -9,9 +9,9 @@ use std::alloc::Global;
 use std::marker::Model;
 use std::sync::Arc;
 
-/// A path: the ranks of the spawns that lead to a function's instance, from the program's start. It is seen as the list of these
-/// ranks, each below 2^32. A path never changes, so all its copies are one place in memory, and the paths of an instance's children
-/// share all its full blocks of 16 ranks.
+/// A path: the ranks of the spawns that lead from the program's start to a function's instance. Contracts see the list of these
+/// ranks, each below 2^32. A path never changes, so all its copies share one place in memory, and the paths of an instance's
+/// children share all its full blocks of 16 ranks.
 #[derive(Drop)]
 pub struct Ped {
     path: Arc<Path>,
@@ -27,7 +27,7 @@ impl Model for Ped {
 }
 
 impl Ped {
-    /// The path of the program's start: no rank.
+    /// The path of the program's start, which has no ranks.
     pub fn root(alloc: Global) -> Result<Ped, Memory>
         ensures { IfOk result (λ p. p ≡ []) }
     {
@@ -36,8 +36,8 @@ impl Ped {
         })
     }
 
-    /// The path of a child that is spawned at this rank. It copies the ranks after the last full block, and no block. Where they
-    /// make a full block, it makes that one and a list that has it after the blocks of this path.
+    /// The path of a child that is spawned at this rank. It copies at most the 15 ranks after the last full block. Where the new
+    /// rank fills a block, it allocates that block and a list of all blocks.
     #[inline(always)]
     pub fn child(&self, alloc: Global, rank: u64) -> Result<Ped, Memory>
         requires { IsRank rank }
@@ -49,7 +49,7 @@ impl Ped {
         })
     }
 
-    /// The same path, over the same memory.
+    /// Shares the path's memory.
     pub fn share(&self) -> Result<Ped, Memory>
         ensures { IfOk result (λ p. p ≡ self.now) }
     {
@@ -68,7 +68,7 @@ impl Ped {
         self.path.len()
     }
 
-    /// The rank at this index, from 0 at the program's start. There is none exactly where the index is not below the length.
+    /// The rank at this index, counted from the program's start. None exactly where the index isn't below the length.
     pub fn rank_at(&self, i: u64) -> Option<u64>
         ensures value { result ≡ slice_get self.now i }
         ensures rank { IfSome result IsRank }
@@ -87,14 +87,14 @@ impl Ped {
         compare(self, other).is_eq()
     }
 
-    /// Whether this path stands strictly before the other one, in the order in which the strands run where nothing is stolen.
+    /// Whether this path precedes the other one in the order in which a serial run visits them.
     pub fn before(&self, other: &Ped) -> bool
         ensures { IsTrue result ↔ IsBefore self.now other.now }
     {
         compare(self, other).is_lt()
     }
 
-    /// Whether this path begins with all ranks of the other one.
+    /// Whether the other path is a prefix of this one.
     pub fn begins_with(&self, front: &Ped) -> bool
         ensures { result ≡ bytes_eq (take (length front.now) self.now) front.now }
     {

@@ -7,7 +7,7 @@ use crate::ped::Ped;
 use crate::ranks::{Ranks, begins, compare};
 use std::marker::Model;
 
-/// The pedigree of a strand: the path of its function's instance, and its rank there. It is seen as the list of the path's ranks
+/// The pedigree of a strand: the path of its function's instance, and its rank there. Contracts see the list of the path's ranks
 /// and this one, each below 2^32.
 #[derive(Drop)]
 pub struct Pedigree {
@@ -27,7 +27,7 @@ impl Model for Pedigree {
 }
 
 impl Pedigree {
-    /// The same pedigree, over the same memory.
+    /// Shares the pedigree's memory.
     pub fn share(&self) -> Result<Pedigree, Memory>
         ensures { IfOk result (λ j. j ≡ self.now) }
     {
@@ -37,7 +37,7 @@ impl Pedigree {
         })
     }
 
-    /// How many ranks there are, at least one.
+    /// The number of ranks, at least one.
     pub fn len(&self) -> u64
         ensures length { result ≡ length self.now }
 
@@ -48,7 +48,7 @@ impl Pedigree {
         self.path.len() + 1
     }
 
-    /// The rank at this index, from 0 at the program's start. There is none exactly where the index is not below the length.
+    /// The rank at this index, counted from the program's start. None exactly where the index isn't below the length.
     pub fn rank_at(&self, i: u64) -> Option<u64>
         ensures value { result ≡ slice_get self.now i }
         ensures rank { IfSome result IsRank }
@@ -67,30 +67,30 @@ impl Pedigree {
         compare(self, other).is_eq()
     }
 
-    /// Whether this pedigree stands strictly before the other one, in the order in which the strands run where nothing is stolen.
+    /// Whether this pedigree precedes the other one in the order of a serial run.
     pub fn before(&self, other: &Pedigree) -> bool
         ensures { IsTrue result ↔ IsBefore self.now other.now }
     {
         compare(self, other).is_lt()
     }
 
-    /// Whether this pedigree's list stands strictly before the path's list, in the same order. A pedigree that begins with the
-    /// whole path doesn't. It is for who asks of an instance whether a strand comes before all of it: the strand `3.0` comes before the
-    /// instance at `4`, and the strand `4.0`, its first, doesn't.
+    /// Whether this pedigree precedes the path, compared as lists in the same order. A pedigree that the path is a prefix of
+    /// doesn't. So it tells whether a strand comes before a whole instance: the strand `3.0` comes before the instance at `4`, and
+    /// the strand `4.0`, that instance's first, doesn't.
     pub fn before_path(&self, path: &Ped) -> bool
         ensures { IsTrue result ↔ IsBefore self.now path.now }
     {
         compare(self, path).is_lt()
     }
 
-    /// Whether this pedigree begins with all ranks of the path.
+    /// Whether the path is a prefix of this pedigree.
     pub fn begins_with(&self, path: &Ped) -> bool
         ensures { result ≡ bytes_eq (take (length path.now) self.now) path.now }
     {
         begins(self, path)
     }
 
-    /// Whether this pedigree begins with all ranks of the other one: it is the same, or goes on from it.
+    /// Whether the other pedigree is a prefix of this one, or the same.
     pub fn goes_on_from(&self, front: &Pedigree) -> bool
         ensures { result ≡ bytes_eq (take (length front.now) self.now) front.now }
     {

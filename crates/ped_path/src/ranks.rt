@@ -5,7 +5,7 @@ ghost use Rattle.std.specs.Str.{bytes_eq};
 
 use std::cmp::Ordering;
 
-/// A list of ranks that is read by index.
+// A list of ranks that is read by index.
 pub(crate) trait Ranks {
     ghost ranks: { Self → List ℕ };
 
@@ -17,7 +17,7 @@ pub(crate) trait Ranks {
         ensures { result ≡ slice_index (ranks self.now) i };
 }
 
-/// The lexicographic order, in which a proper prefix stands first.
+// The lexicographic order, in which a proper prefix comes first.
 pub(crate) fn compare<A: Ranks, B: Ranks>(left: &A, right: &B) -> Ordering
     ensures { result ≡ slice_cmp nat_cmp (A.ranks left.now) (B.ranks right.now) }
 {
@@ -30,7 +30,7 @@ pub(crate) fn compare<A: Ranks, B: Ranks>(left: &A, right: &B) -> Ordering
     left.count().cmp(&right.count())
 }
 
-/// Whether a list begins with all ranks of another.
+// Whether `front` is a prefix of the list.
 pub(crate) fn begins<A: Ranks, B: Ranks>(list: &A, front: &B) -> bool
     ensures { result ≡ bytes_eq (take (length (B.ranks front.now)) (A.ranks list.now)) (B.ranks front.now) }
 {

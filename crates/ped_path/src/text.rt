@@ -14,8 +14,8 @@ fn write_rank(rank: u64, out: &mut Vec<u8>) -> Result<(), Memory>
     Ok(())
 }
 
-/// Appends the text of a pedigree: its ranks in decimal, joined by full stops. On `Memory` a front of the text may stand after the
-/// old bytes.
+/// Appends the text of a pedigree: its ranks in decimal, joined by full stops. On `Memory` a prefix of the text may have been
+/// appended.
 pub fn write_pedigree(j: &Pedigree, out: &mut Vec<u8>) -> Result<(), Memory>
     ensures ok { OnOk result (out.new.items ≡ out.old.items ++ ped_text j.now) }
     ensures front { AppendsFront out.old.items out.new.items (ped_text j.now) }

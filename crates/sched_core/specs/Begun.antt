@@ -9,7 +9,7 @@ use Rattle.sched_core.specs.Nodes.{new_node}
 use Rattle.sched_core.specs.Workers.{WorkerView, worker_with}
 use Rattle.sched_core.specs.declared.state.CoreState.{CoreState}
 
--- so many workers, of which the first has this task
+-- this many workers, of which the first has this task
 abbrev pub hired : TaskView → ℕ → List WorkerView
 hired main workers = worker_with (Some (job main 0)) ∷ replicate (workers - 1) (worker_with None)
 

@@ -25,7 +25,7 @@ steals_by c thief = going c (map (λ victim. Steal thief victim) (numbers c))
 abbrev pub steals : Core → List ℕ → List CoreEvent
 steals c thieves = flat_map (steals_by c) thieves
 
--- those of one worker at these places, and of all of these workers
+-- those of one worker at these indices, and of all of these workers
 abbrev pub looks_at : Core → ℕ → List ℕ → List CoreEvent
 looks_at c w places = going c (map (λ place. Look w place) places)
 

@@ -1,4 +1,4 @@
--- What holds of a core at all times, and what its steps make of it.
+-- The invariant of a core, and how its steps change it.
 use Rattle.std.specs.Prelude.{◌≡◌, ℕ, Bool, true, false, List, [], ◌∷◌, Option, Some, None, IfSome, Contains, slice_get}
 use Rattle.script_check.specs.Valid.{IsValid}
 use Rattle.serial_meaning.specs.Answer.{AnswerView}
@@ -31,7 +31,7 @@ Awaits begun [] (o ∷ os) = ⊥
 Awaits begun (c ∷ cs) [] = ⊥
 Awaits begun (c ∷ cs) (o ∷ os) = (slice_get begun c.number ≡ Some o) × Awaits begun cs os
 
--- The number of a job is that of its task's origin, and the task awaits the children of that number.
+-- A job has the number of its task's origin, and the task awaits the children of that node.
 pub record IsJob (nodes : List SpawnNode) (j : Job) : Type 0 where
   pub node : SpawnNode
   pub there : slice_get nodes j.number ≡ Some node
@@ -46,26 +46,26 @@ pub record AreJobs (nodes : List SpawnNode) (w : WorkerView) : Type 0 where
 
 -- Nodes
 
--- an answer of this origin, which was given, and if it is a fault then one of the plan's
+-- an answer of this origin, which was given, and whose fault, if any, is the plan's
 pub record IsGiven (plan : PlanView) (given : List Origin) (o : Origin) (a : AnswerView) : Type 0 where
   pub plan_is : a.plan ≡ plan
   pub origin : a.origin ≡ o
   pub known : IsFaultOf plan a.outcome
   pub there : Contains given o
 
--- an answer of this origin is kept exactly where it was given
+-- an answer of this origin is kept exactly if it was given
 abbrev pub IsAnsweredBy : PlanView → List Origin → Origin → Option AnswerView → Type 0
 IsAnsweredBy plan given o None = Contains given o → ⊥
 IsAnsweredBy plan given o (Some a) = IsGiven plan given o a
 
--- a child knows its place
+-- a child knows its index at its parent
 pub record IsChild (plan : PlanView) (given : List Origin) (nodes : List SpawnNode) (n place : ℕ) (child : NodeChild) : Type 0 where
   pub node : SpawnNode
   pub there : slice_get nodes child.number ≡ Some node
   pub link : node.link ≡ Some (record { parent = n; place = place })
   pub heard : IsAnsweredBy plan given node.origin child.answer
 
--- at the place that it knows it is awaited
+-- at that index it is awaited
 pub record IsAwaited (nodes : List SpawnNode) (n : ℕ) (l : Link) : Type 0 where
   pub parent : SpawnNode
   pub child : NodeChild
@@ -73,7 +73,7 @@ pub record IsAwaited (nodes : List SpawnNode) (n : ℕ) (l : Link) : Type 0 wher
   pub at : slice_get parent.children l.place ≡ Some child
   pub number : child.number ≡ n
 
--- what an origin that isn't answered knows of its parent
+-- what an unanswered origin knows of its parent
 abbrev pub IsLinked : List SpawnNode → ℕ → Option Link → Type 0
 IsLinked nodes n None = n ≡ 0
 IsLinked nodes n (Some l) = IsAwaited nodes n l
@@ -110,7 +110,7 @@ pub record StepsTo (e : CoreEvent) (s next : CoreState) : Type 0 where
   pub step : Step e (core_of false s) (core_of false next)
   pub consistent : IsConsistent next
 
--- What holds of a core as long as no step wanted memory.
+-- The invariant of a core, unless a step ran out of memory.
 abbrev pub HoldsOfCore : Bool → CoreState → Type 0
 HoldsOfCore false s = IsConsistent s
 HoldsOfCore true s = Unit {0}

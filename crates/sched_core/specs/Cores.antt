@@ -1,4 +1,4 @@
--- A core by its fields, in the words of the scheduling machine.
+-- A core by its fields, in the terms of the scheduling machine.
 use Rattle.std.specs.Prelude.{Bool, List, Option, Some, None, map}
 use Rattle.std.specs.Arc.{arc_value}
 use Rattle.serial_meaning.specs.Answer.{AnswerView, outcome_of}
@@ -25,7 +25,7 @@ worker_of w = record { current = current_in w.current; deque = map task_in w.deq
 abbrev pub origins_of : List SpawnNode → List Origin
 origins_of nodes = map (λ n. n.origin) nodes
 
--- what an origin answers: its evaluation
+-- an origin's answer: its evaluation
 abbrev pub answer_of : PlanView → Origin → AnswerView
 answer_of plan o = record { plan = plan; origin = o; out = (eval plan o).items; outcome = outcome_of o (eval plan o).ending }
 

@@ -5,17 +5,17 @@ use Rattle.sched_meaning.specs.Simulation.{has_task, is_free, may_give, may_run}
 use Rattle.sched_meaning.specs.declared.event.CoreEvent.{CoreEvent}
 use Rattle.sched_meaning.specs.declared.event.CoreEvent.TheVariants.{Run, Pop, Steal, Look, Idle}
 
--- whether a task is stalled at this place
+-- whether a task is stalled at this index
 abbrev pub has_stalled : ℕ → Option Worker → Bool
 has_stalled place None = false
 has_stalled place (Some w) = nat_lt place (length w.stalled)
 
--- whether there is such a worker, without tasks
+-- whether this worker exists and has no task
 abbrev pub may_idle : Option Worker → Bool
 may_idle None = false
 may_idle (Some w) = not (is_some w.current) && (not (has_task w.deque) && not (has_task w.stalled))
 
--- whether an event may happen, where the root isn't answered
+-- whether an event may happen, while the root isn't answered
 abbrev pub may_happen : Core → CoreEvent → Bool
 may_happen c (Run w) = may_run (slice_get c.workers w)
 may_happen c (Pop w) = is_free (slice_get c.workers w) && may_give (slice_get c.workers w)

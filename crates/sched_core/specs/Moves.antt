@@ -1,4 +1,4 @@
--- What an event does with the fields of a core.
+-- How an event changes the fields of a core.
 use Rattle.std.specs.Prelude.{◌≡◌, ◌<◌, ◌≤◌, ℕ, true, List, [], ◌∷◌, ◌++◌, Option, Some, None, length, slice_get, slice_set, remove}
 use Rattle.serial_meaning.specs.Answer.{AnswerView}
 use Rattle.serial_meaning.specs.declared.keep.All.{All}
@@ -26,7 +26,7 @@ HandsOutJob child rest w next = next ≡ record w { current = Some child; deque 
 abbrev pub Stalls : Job → WorkerView → WorkerView → Type 0
 Stalls rest w next = next ≡ record w { stalled = w.stalled ++ rest ∷ [] }
 
--- the current task leaves
+-- the current task is taken out
 abbrev pub Lets : Job → WorkerView → WorkerView → Type 0
 Lets j w next = (w.current ≡ Some j) × (next ≡ record w { current = None })
 
@@ -39,11 +39,11 @@ GivesJob j w next = (w.deque ≡ j ∷ next.deque) × (next ≡ record w { deque
 abbrev pub TakesJob : Job → WorkerView → WorkerView → Type 0
 TakesJob j w next = next ≡ record w { current = Some j }
 
--- the task at this place is stalled no more
+-- the task at this index is stalled no more
 abbrev pub Leaves : ℕ → Job → WorkerView → WorkerView → Type 0
 Leaves place j w next = (slice_get w.stalled place ≡ Some j) × (next ≡ record w { stalled = remove w.stalled place })
 
--- The worker of this number changes so, and no other.
+-- The worker with this number changes like this, and no other does.
 pub record WorkerChanges (n : ℕ) (R : WorkerView → WorkerView → Type 0) (ws next : List WorkerView) : Type 0 where
   pub worker : WorkerView
   pub after : WorkerView
@@ -57,7 +57,7 @@ abbrev pub AnswerGoes : Option Link → AnswerView → CoreState → CoreState �
 AnswerGoes None answer s next = (next.root ≡ Some answer) × (next.nodes.items ≡ s.nodes.items)
 AnswerGoes (Some l) answer s next = (next.root ≡ s.root) × NodeChanges l.parent (Hears l.place answer) s.nodes.items next.nodes.items
 
--- An answer goes to the node that this link names, or is main's.
+-- An answer goes to the node of this link, or is main's.
 pub record DeliversAnswer (link : Option Link) (answer : AnswerView) (s next : CoreState) : Type 0 where
   pub goes : AnswerGoes link answer s next
   pub given : next.given ≡ s.given
@@ -65,7 +65,7 @@ pub record DeliversAnswer (link : Option Link) (answer : AnswerView) (s next : C
   pub workers : next.workers.items ≡ s.workers.items
   pub runs : next.runs ≡ s.runs
 
--- The answer of the origin of this number goes where it belongs.
+-- The answer of the origin with this number goes to its parent, or is main's.
 pub record PutsAnswer (number : ℕ) (answer : AnswerView) (s next : CoreState) : Type 0 where
   pub node : SpawnNode
   pub there : slice_get s.nodes.items number ≡ Some node
@@ -75,7 +75,7 @@ pub record PutsAnswer (number : ℕ) (answer : AnswerView) (s next : CoreState) 
   pub workers : next.workers.items ≡ s.workers.items
   pub runs : next.runs ≡ s.runs
 
--- The child of the task of this number is begun, and becomes current.
+-- A child of the task with this number is begun, and becomes current.
 pub record BeginsTask (w number : ℕ) (child rest : TaskView) (s next : CoreState) : Type 0 where
   pub begun : ℕ
   pub nodes : BeginsChild number child.task.origin s.nodes.items next.nodes.items
@@ -94,7 +94,7 @@ pub record StallsTask (w : ℕ) (rest : Job) (s next : CoreState) : Type 0 where
   pub root : next.root ≡ s.root
   pub runs : next.runs ≡ s.runs
 
--- What a stop of a task that left its worker does.
+-- What the stop of a task does that was taken from its worker.
 abbrev pub StopsAt : ℕ → ℕ → Stop All → CoreState → CoreState → Type 0
 StopsAt w number (stop.Spawn child rest) s next = BeginsTask w number child rest s next
 StopsAt w number (stop.Wait rest) s next = StallsTask w (job rest number) s next
@@ -107,7 +107,7 @@ pub record Settles (j : Job) (answers : List AnswerView) (next : Job) : Type 0 w
 
 -- What a stop of a task of this number needs
 
--- a node that hears of a child at this place
+-- a node that can be told of the child at this index
 pub record CanAnswerAt (nodes : List SpawnNode) (l : Link) : Type 0 where
   pub parent : SpawnNode
   pub there : slice_get nodes l.parent ≡ Some parent
@@ -125,7 +125,7 @@ pub record CanStop (w number : ℕ) (s : CoreState) : Type 0 where
   pub within : node.unanswered ≤ length node.children
   pub hears : CanAnswer s.nodes.items node.link
 
--- What a task needs to go on
+-- What a task needs to continue
 
 pub record CanResume (nodes : List SpawnNode) (j : Job) : Type 0 where
   pub node : SpawnNode
@@ -134,7 +134,7 @@ pub record CanResume (nodes : List SpawnNode) (j : Job) : Type 0 where
   pub waits : j.task.task.waiting ≡ true
   pub tags : answer_tags (answers_in node.children) ≡ tags j.task.task.plan (awaited j.task.task.trace.handed)
 
--- A task went on with the answers of its children, which its node gave away.
+-- A task continued with the answers of its children, which its node gave up.
 pub record Resumes (j next : Job) (nodes after : List SpawnNode) : Type 0 where
   pub node : SpawnNode
   pub there : slice_get nodes j.number ≡ Some node

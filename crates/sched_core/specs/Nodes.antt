@@ -1,4 +1,4 @@
--- What an event does with the origins that were begun.
+-- How an event changes the origins that were begun.
 use Rattle.std.specs.Prelude.{◌≡◌, ℕ, ◌+◌, ◌-◌, List, [], ◌∷◌, ◌++◌, Option, Some, None, length, slice_get, slice_set}
 use Rattle.serial_meaning.specs.Answer.{AnswerView}
 use Rattle.serial_meaning.specs.declared.origin.Origin.{Origin}
@@ -10,7 +10,7 @@ use Rattle.sched_core.specs.declared.node.SpawnNode.{SpawnNode}
 abbrev pub new_node : Origin → Option Link → SpawnNode
 new_node o link = record { origin = o; link = link; children = []; unanswered = 0 }
 
--- the node once it awaits one child more
+-- the node with one more child to await
 abbrev pub awaiting : ℕ → SpawnNode → SpawnNode
 awaiting number n = record n { children = n.children ++ record { number = number; answer = None } ∷ []; unanswered = n.unanswered + 1 }
 
@@ -40,7 +40,7 @@ abbrev pub answers_in : List NodeChild → List AnswerView
 answers_in [] = []
 answers_in (c ∷ cs) = and_answer c.answer (answers_in cs)
 
--- The node of this number changes so, and no other.
+-- The node with this number changes like this, and no other does.
 pub record NodeChanges (n : ℕ) (R : SpawnNode → SpawnNode → Type 0) (nodes next : List SpawnNode) : Type 0 where
   pub node : SpawnNode
   pub after : SpawnNode
@@ -54,7 +54,7 @@ pub record BeginsChild (parent : ℕ) (o : Origin) (nodes next : List SpawnNode)
   pub there : slice_get nodes parent ≡ Some node
   pub next_is : next ≡ slice_set nodes parent (awaiting (length nodes) node) ++ new_node o (Some (record { parent = parent; place = length node.children })) ∷ []
 
--- The child at this place has answered.
+-- The child at this index has answered.
 pub record Hears (place : ℕ) (answer : AnswerView) (n next : SpawnNode) : Type 0 where
   pub child : NodeChild
   pub there : slice_get n.children place ≡ Some child

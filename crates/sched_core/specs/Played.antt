@@ -28,7 +28,7 @@ pub record IsMains (plan : PlanView) (a : AnswerView) : Type 0 where
   pub origin : a.origin ≡ main_origin plan
   pub fault : IsFaultOf plan a.outcome
 
--- The word picks a run of this worker, by which main is answered.
+-- The word picks a run of this worker, which answers main.
 pub record AnswersMain (word : ℕ) (s : CoreState) (simulated : Simulated) : Type 0 where
   pub next : machine.Core
   pub picks : picked (core_of false s) word ≡ Some (Run simulated.worker)

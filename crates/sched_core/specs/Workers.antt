@@ -1,4 +1,4 @@
--- What contracts see of a worker.
+-- How contracts see a worker.
 use Rattle.std.specs.Prelude.{List, [], Option}
 use Rattle.sched_core.specs.declared.job.Job.{Job}
 
@@ -7,6 +7,6 @@ pub record WorkerView : Type 0 where
   pub deque : List Job
   pub stalled : List Job
 
--- a worker with no other task than this
+-- a worker whose only task is this one
 abbrev pub worker_with : Option Job → WorkerView
 worker_with current = record { current = current; deque = []; stalled = [] }

@@ -1,4 +1,4 @@
-// The choices of a simulation: the events that may happen and go on with the work.
+// The choices of a simulation: the events that may happen and make progress.
 ghost use Rattle.std.specs.Prelude.{◌≡◌, ◌≤◌, [], ◌∷◌, ◌++◌, cond, false, None, IfOk, OnOk, length, map, slice_get};
 ghost use Rattle.sched_meaning.specs.Simulation.{choices, is_progress, may_resume, picked, stalled_places};
 ghost use Rattle.sched_meaning.specs.declared.event.CoreEvent.TheVariants as event;
@@ -11,7 +11,7 @@ use sched_meaning::CoreEvent;
 use std::alloc::Global;
 use strand_machine::Memory;
 
-/// The event stands after these, where it goes on with the work.
+// Adds the event, if it makes progress.
 fn add_choice_if(events: &mut Vec<CoreEvent>, goes_on: bool, event: CoreEvent) -> Result<(), Memory>
     ensures { OnOk result (events.new.items ≡ events.old.items ++ cond goes_on (event ∷ []) []) }
 {
@@ -22,7 +22,7 @@ fn add_choice_if(events: &mut Vec<CoreEvent>, goes_on: bool, event: CoreEvent) -
 }
 
 impl CoreState {
-    /// How many workers there are.
+    // How many workers there are.
     fn count(&self) -> u32
         requires { length self.now.workers.items ≤ 64 }
         ensures { result ≡ length self.now.workers.items }
@@ -30,7 +30,7 @@ impl CoreState {
         self.workers.len() as u32
     }
 
-    /// The runs that may happen stand after these events.
+    // Adds the runs that may happen.
     fn add_runs(&self, events: &mut Vec<CoreEvent>) -> Result<(), Memory>
         requires { length self.now.workers.items ≤ 64 }
         ensures { let c = core_of false self.now in OnOk result (events.new.items ≡ events.old.items ++ chosen.runs c (chosen.numbers c)) }
@@ -41,7 +41,7 @@ impl CoreState {
         Ok(())
     }
 
-    /// The pops that may happen stand after these events.
+    // Adds the pops that may happen.
     fn add_pops(&self, events: &mut Vec<CoreEvent>) -> Result<(), Memory>
         requires { length self.now.workers.items ≤ 64 }
         ensures { let c = core_of false self.now in OnOk result (events.new.items ≡ events.old.items ++ chosen.pops c (chosen.numbers c)) }
@@ -52,7 +52,7 @@ impl CoreState {
         Ok(())
     }
 
-    /// The steals of one thief that may happen stand after these events.
+    // Adds the steals of one thief that may happen.
     fn add_steals_of(&self, events: &mut Vec<CoreEvent>, thief: u32) -> Result<(), Memory>
         requires { length self.now.workers.items ≤ 64 }
         ensures { OnOk result (events.new.items ≡ events.old.items ++ chosen.steals_by (core_of false self.now) thief) }
@@ -67,7 +67,7 @@ impl CoreState {
         Ok(())
     }
 
-    /// The steals that may happen stand after these events.
+    // Adds the steals that may happen.
     fn add_steals(&self, events: &mut Vec<CoreEvent>) -> Result<(), Memory>
         requires { length self.now.workers.items ≤ 64 }
         ensures { let c = core_of false self.now in OnOk result (events.new.items ≡ events.old.items ++ chosen.steals c (chosen.numbers c)) }
@@ -78,7 +78,7 @@ impl CoreState {
         Ok(())
     }
 
-    /// Whether all children of the task have answered that is stalled at this place of a worker.
+    // Whether all children of the worker's stalled task with this index have answered.
     fn is_ready(&self, w: u32, place: u32) -> bool
         requires consistent { IsConsistent self.now }
         ensures { result ≡ may_resume (core_of false self.now) place (slice_get (map worker_of self.now.workers.items) w) }
@@ -92,7 +92,7 @@ impl CoreState {
         }
     }
 
-    /// Whether a look of this worker at this place goes on with the work.
+    // Whether this look makes progress.
     fn may_resume(&self, w: u32, place: u32) -> bool
         requires consistent { IsConsistent self.now }
         ensures { result ≡ is_progress (core_of false self.now) (event.Look w place) }
@@ -100,7 +100,7 @@ impl CoreState {
         self.is_free(w) && self.is_ready(w, place)
     }
 
-    /// How many tasks of the worker wait.
+    // How many tasks of the worker are stalled.
     fn stalled_count(&self, w: u32) -> u32
         ensures { result ≡ length (stalled_places (slice_get (map worker_of self.now.workers.items) w)) }
     {
@@ -110,7 +110,7 @@ impl CoreState {
         }
     }
 
-    /// The looks of one worker that go on with the work stand after these events.
+    // Adds the looks of one worker that make progress.
     fn add_looks_of(&self, events: &mut Vec<CoreEvent>, worker: u32) -> Result<(), Memory>
         requires consistent { IsConsistent self.now }
         ensures { OnOk result (events.new.items ≡ events.old.items ++ chosen.looks_by (core_of false self.now) worker) }
@@ -125,7 +125,7 @@ impl CoreState {
         Ok(())
     }
 
-    /// The looks that go on with the work stand after these events.
+    // Adds the looks that make progress.
     fn add_looks(&self, events: &mut Vec<CoreEvent>) -> Result<(), Memory>
         requires consistent { IsConsistent self.now }
         requires few { length self.now.workers.items ≤ 64 }
@@ -137,7 +137,7 @@ impl CoreState {
         Ok(())
     }
 
-    /// All choices: runs, pops, steals by thief and then by victim, and looks by worker and then by place.
+    // All choices: runs, pops, steals by thief and then by victim, and looks by worker and then by index.
     fn choices(&self, alloc: Global) -> Result<Vec<CoreEvent>, Memory>
         requires consistent { IsConsistent self.now }
         requires few { length self.now.workers.items ≤ 64 }
@@ -153,7 +153,7 @@ impl CoreState {
     }
 }
 
-/// The choice that a word names.
+// The choice that a word picks.
 pub(crate) fn pick(state: &CoreState, alloc: Global, word: u64) -> Result<Option<CoreEvent>, Memory>
     requires consistent { IsConsistent state.now }
     requires few { length state.now.workers.items ≤ 64 }

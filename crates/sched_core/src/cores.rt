@@ -9,11 +9,11 @@ use std::marker::Model;
 use std::sync::Arc;
 use strand_machine::Memory;
 
-/// Workers with their tasks, the origins that were begun and the answers that were given. Contracts see it as the scheduling machine's
+/// Workers with their tasks, the origins that were begun and the answers that were given. Contracts see the scheduling machine's
 /// core.
 ///
-/// It is for who makes a schedule by hand: where main's first stop is a spawn, worker 1 can steal nothing at first (`NotLawful`), and main's
-/// rest after `Run(0)`. `stolen_rest_answers` in the tests of `worked_schedules` goes on so up to main's answer.
+/// For stepping a schedule by hand: where main's first stop is a spawn, worker 1 can steal nothing at first (`NotLawful`), and
+/// main's rest after `Run(0)`. `stolen_rest_answers` in the tests of `worked_schedules` goes on so up to main's answer.
 #[derive(Drop)]
 pub struct Core {
     pub(crate) state: CoreState,
@@ -47,7 +47,7 @@ impl Core {
     ghost use Rattle.sched_meaning.specs.Steps.{Step};
     ghost use Rattle.sched_core.specs.Sound.{IsSound};
 
-    /// So many workers, of which worker 0 has main's task as its current one.
+    /// This many workers, of which worker 0 has main's task as its current one.
     pub fn new(alloc: Global, plan: &Arc<Plan>, workers: u32) -> Result<Core, Memory>
         requires { (1 ≤ workers) × (workers ≤ 64) }
         ensures { IfOk result (λ core. core ≡ new_core (arc_value plan.now) workers) }
@@ -59,7 +59,7 @@ impl Core {
         })
     }
 
-    /// One step. Where an earlier one wanted memory the core is spent, and makes no more.
+    /// One step. If an earlier one ran out of memory the core is spent, and takes no more.
     pub fn step(&mut self, alloc: Global, event: CoreEvent) -> Result<(), CoreError>
         ensures ok { OnOk result (Step event self.old self.new) }
         ensures not_lawful { result ≡ Err CoreError.NotLawful → (self.new ≡ self.old) × ((next : CoreView) → Step event self.old next → ⊥) }
@@ -81,10 +81,10 @@ impl Core {
 
     /// Main's answer, once it is there.
     ///
-    /// Its clause `sound` says what holds of every core, whatever events led to it: no origin was begun twice, one that was begun and isn't
-    /// answered is that of one task in one place, answers are evaluations, there are no more runs than segments, and until the root is
-    /// answered some event goes on with the work. So who steps a core by `while core.answer().is_none() { core.step(next)?; }` knows each
-    /// of these of the core after every step, such as that steps can't run out before main's answer is there.
+    /// Its clause `sound` says what holds of every core, whatever events led to it: no origin was begun twice, one that was begun
+    /// and isn't answered has one task in one place, answers are evaluations, there are no more runs than segments, and until the
+    /// root is answered some event makes progress. So a loop `while core.answer().is_none() { core.step(next)?; }` knows all this
+    /// after every step, for instance that there always is a next step before main's answer.
     pub fn answer(&self) -> Option<&Answer>
         ensures none { self.now.spent ≡ false → (IsNone result ↔ (IsRootAnswered self.now → ⊥)) }
         ensures root { self.now.spent ≡ false → IfSome (option_copied result) (λ a. (a.plan ≡ self.now.plan) × (a.origin ≡ main_origin self.now.plan)) }

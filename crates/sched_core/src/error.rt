@@ -1,11 +1,11 @@
 use strand_machine::Memory;
 
-/// Why a core made no step.
+/// Why a core took no step.
 #[derive(Clone, Copy, Debug, PartialEq, Eq)]
 pub enum CoreError {
     /// The event can't happen now. The core is unchanged.
     NotLawful,
-    /// An earlier step wanted memory. The core makes no more steps.
+    /// An earlier step ran out of memory. The core takes no more steps.
     Spent,
     /// There was no memory for the step.
     Memory,

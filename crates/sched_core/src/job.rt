@@ -1,6 +1,6 @@
 use strand_machine::Task;
 
-/// A task, and the number of its origin among those that were begun.
+// A task, and its origin's number among those that were begun.
 #[derive(Drop)]
 pub(crate) struct Job {
     pub task: Task,

@@ -19,7 +19,7 @@ impl CoreState {
         }
     }
 
-    /// Whether there is this worker and it has no current task.
+    /// Whether this worker exists and has no current task.
     pub fn is_free(&self, w: u32) -> bool
         ensures { result ≡ is_free (slice_get (map worker_of self.now.workers.items) w) }
     {
@@ -53,7 +53,7 @@ impl CoreState {
         thief != victim && self.is_free(thief) && self.may_give(victim)
     }
 
-    /// Whether a task of the worker is stalled at this place.
+    // Whether the worker has a stalled task with this index.
     fn has_stalled(&self, w: u32, place: u32) -> bool
         ensures { result ≡ has_stalled place (slice_get (map worker_of self.now.workers.items) w) }
     {
@@ -63,7 +63,7 @@ impl CoreState {
         }
     }
 
-    /// Whether the worker has no task at all.
+    // Whether the worker has no task at all.
     fn may_idle(&self, w: u32) -> bool
         ensures { result ≡ may_idle (slice_get (map worker_of self.now.workers.items) w) }
     {

@@ -1,7 +1,7 @@
-//! A core of scheduling events over running tasks: workers that a program steps by hand, event by event, or that the words of a seed
+//! A core of scheduling events on running tasks: workers that a program steps by hand, event by event, or that the words of a seed
 //! drive to main's answer.
 //!
-//! What a step is, is defined in `sched_meaning`; the contracts here are its words.
+//! `sched_meaning` defines what a step is.
 #![tactic(auto)]
 
 mod choose;

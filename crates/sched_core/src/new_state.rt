@@ -16,7 +16,7 @@ use std::alloc::Global;
 use std::sync::Arc;
 use strand_machine::{Memory, Task};
 
-/// Main's task. Nobody looks for what it gives, nor for what the tasks below it give: the core keeps their answers.
+// Main's task. Nobody waits for its value or for those of the tasks below it: the core keeps their answers.
 #[tactic(auto, using(crate::proofs::KnownOfNodes::Mains::main_known))]
 fn main_task(alloc: Global, plan: &Arc<Plan>) -> Result<Task, Memory>
     ensures { IfOk result (λ task. task ≡ fresh (arc_value plan.now) (main_origin (arc_value plan.now))) }
@@ -24,7 +24,7 @@ fn main_task(alloc: Global, plan: &Arc<Plan>) -> Result<Task, Memory>
     Ok(Task::alone(alloc, plan, plan.main_origin(alloc)?)?)
 }
 
-/// So many workers, of which the first has this task.
+// This many workers, of which the first has this task.
 fn hire(alloc: Global, main: Task, workers: u32) -> Result<Vec<Worker>, Memory>
     requires { 1 ≤ workers }
     ensures { IfOk result (λ all. all.items ≡ hired main workers) }
@@ -41,7 +41,7 @@ fn hire(alloc: Global, main: Task, workers: u32) -> Result<Vec<Worker>, Memory>
     Ok(all)
 }
 
-/// The core before its first step, by its fields.
+// The core before its first step, by its fields.
 fn first_state(alloc: Global, plan: &Arc<Plan>, workers: u32) -> Result<CoreState, Memory>
     requires { 1 ≤ workers }
     ensures { IfOk result (IsBegun (arc_value plan.now) workers) }
@@ -60,7 +60,7 @@ fn first_state(alloc: Global, plan: &Arc<Plan>, workers: u32) -> Result<CoreStat
     })
 }
 
-/// The core before its first step.
+// The core before its first step.
 pub(crate) fn new_state(alloc: Global, plan: &Arc<Plan>, workers: u32) -> Result<CoreState, Memory>
     requires { 1 ≤ workers }
     ensures begun { IfOk result (IsBegun (arc_value plan.now) workers) }

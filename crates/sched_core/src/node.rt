@@ -8,33 +8,33 @@ use std::alloc::Global;
 use std::mem;
 use strand_machine::{Memory, Task};
 
-/// Whose child an origin is: the parent's number, and its place among the children whose answers the parent awaits.
+// An origin's parent: its number, and the child's index among those that it awaits.
 #[derive(Clone, Copy, Debug, PartialEq, Eq)]
 pub(crate) struct Link {
     pub parent: usize,
     pub place: usize,
 }
 
-/// A child that is awaited, by its number, and its answer once it is there.
+// A child that is awaited, by its number, and its answer once it is there.
 #[derive(Drop)]
 pub(crate) struct NodeChild {
     pub number: usize,
     pub answer: Option<Answer>,
 }
 
-/// An origin that was begun.
+// An origin that was begun.
 #[derive(Drop)]
 pub(crate) struct SpawnNode {
     pub origin: Origin,
-    /// None of main.
+    // None for main.
     pub link: Option<Link>,
-    /// The children whose answers its task hasn't taken, in order.
+    // The children whose answers its task hasn't taken, in order.
     pub children: Items<NodeChild>,
-    /// How many of them haven't answered.
+    // How many of them haven't answered.
     pub unanswered: usize,
 }
 
-/// The answers of children that have answered.
+// The answers of children that have all answered.
 fn answers_of(children: Items<NodeChild>, alloc: Global) -> Result<Items<Answer>, Memory>
     requires { missing children ≡ 0 }
     ensures { IfOk result (λ answers. answers ≡ answers_in children) }
@@ -62,14 +62,14 @@ impl SpawnNode {
         }
     }
 
-    /// How many children are awaited.
+    // How many children are awaited.
     fn count(&self) -> usize
         ensures { result ≡ length self.now.children }
     {
         self.children.as_slice().len()
     }
 
-    /// One more child is awaited.
+    // Awaits one more child.
     fn await_child(&mut self, number: usize) -> Result<(), Memory>
         requires { self.old.unanswered ≤ length self.old.children }
         ensures { OnOk result (self.new ≡ awaiting number self.old) }
@@ -82,7 +82,7 @@ impl SpawnNode {
         Ok(())
     }
 
-    /// The child at this place has answered.
+    /// Stores the answer of the child with this index.
     pub fn put_child_answer(&mut self, place: usize, answer: Answer)
         requires place { place < length self.old.children }
         requires unanswered { 0 < self.old.unanswered }
@@ -110,7 +110,7 @@ impl SpawnNode {
     }
 }
 
-/// Begins a child of the origin of this number, and gives the child's number.
+// Begins a child of the origin with this number, and returns the child's number.
 pub(crate) fn begin_child(
     nodes: &mut Vec<SpawnNode>,
     alloc: Global,

@@ -20,21 +20,21 @@ use std::alloc::Global;
 use std::sync::Arc;
 use strand_machine::Memory;
 
-/// What a simulation came to: main's answer, and the worker whose run gave it.
+/// The result of a simulation: main's answer, and the worker whose run gave it.
 #[derive(Drop)]
 pub struct Simulated {
     pub answer: Answer,
     pub worker: u32,
 }
 
-/// What a step of a simulation came to.
+// The result of one step of a simulation.
 #[derive(Drop)]
 enum Played {
     On(CoreState),
     Finished(Simulated),
 }
 
-/// The step that a word picks.
+// The step that a word picks.
 fn play_step(state: CoreState, alloc: Global, word: u64) -> Result<Played, Memory>
     requires consistent { IsConsistent state }
     requires few { length state.workers.items ≤ 64 }
@@ -55,9 +55,9 @@ fn play_step(state: CoreState, alloc: Global, word: u64) -> Result<Played, Memor
     Ok(Played::Finished(Simulated { answer, worker }))
 }
 
-/// Runs main on so many workers, whose events the words of the number's SplitMix64 pick. At each step it is the event at the word modulo
-/// their number among those that may happen and go on with the work: runs, pops, steals and looks, in this order, and of one kind by
-/// worker, steals by thief and then by victim, looks by worker and then by place.
+/// Runs main on this many workers, whose events are picked by the words of the number's SplitMix64. Each step takes the event at
+/// the word modulo their number among those that may happen and make progress: runs, pops, steals and looks, in this order, and
+/// within a kind by worker, steals by thief and then by victim, looks by worker and then by index.
 pub fn simulate(
     alloc: Global,
     plan: &Arc<Plan>,

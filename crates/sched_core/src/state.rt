@@ -4,16 +4,16 @@ use script_grammar::Items;
 use serial_meaning::{Answer, Origin, Plan};
 use std::sync::Arc;
 
-/// What stands in a core. Each origin that was begun has a number, its place among `nodes`; main's is 0.
+// The fields of a core. Each origin that was begun has a number, its index in `nodes`; main's is 0.
 #[derive(Drop)]
 pub(crate) struct CoreState {
     pub plan: Arc<Plan>,
     pub workers: Vec<Worker>,
     pub nodes: Vec<SpawnNode>,
-    /// The origins that were answered, in order.
+    // The origins that were answered, in order.
     pub given: Items<Origin>,
-    /// Main's answer.
+    // Main's answer.
     pub root: Option<Answer>,
-    /// How many run events there were.
+    // How many run events there were.
     pub runs: u64,
 }

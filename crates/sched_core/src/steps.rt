@@ -14,7 +14,7 @@ use sched_meaning::CoreEvent;
 use std::alloc::Global;
 use strand_machine::Memory;
 
-/// The worker's current task comes to its next stop.
+// The worker's current task comes to its next stop.
 fn run(state: &mut CoreState, alloc: Global, w: u32) -> Result<(), Memory>
     requires consistent { IsConsistent state.old }
     requires root { state.old.root ≡ None }
@@ -32,7 +32,7 @@ fn run(state: &mut CoreState, alloc: Global, w: u32) -> Result<(), Memory>
     Ok(())
 }
 
-/// The task at the back of the worker's deque becomes its current one.
+// The task at the back of the worker's deque becomes its current one.
 fn pop(state: &mut CoreState, w: u32)
     requires consistent { IsConsistent state.old }
     requires root { state.old.root ≡ None }
@@ -43,7 +43,7 @@ fn pop(state: &mut CoreState, w: u32)
     state.workers[w as usize].set_current(job);
 }
 
-/// The task at the front of the victim's deque becomes the thief's current one.
+// The task at the front of the victim's deque becomes the thief's current one.
 fn steal(state: &mut CoreState, thief: u32, victim: u32)
     requires consistent { IsConsistent state.old }
     requires root { state.old.root ≡ None }
@@ -54,7 +54,7 @@ fn steal(state: &mut CoreState, thief: u32, victim: u32)
     state.workers[thief as usize].set_current(job);
 }
 
-/// The task with the answers of its children, all of which have answered.
+// The task, once it has taken the answers of its children, which have all answered.
 fn resume(nodes: &mut Vec<SpawnNode>, alloc: Global, job: Job) -> Result<Job, Memory>
     requires { CanResume nodes.old.items job }
     ensures { IfOk result (λ next. Resumes job next nodes.old.items nodes.new.items) }
@@ -65,7 +65,8 @@ fn resume(nodes: &mut Vec<SpawnNode>, alloc: Global, job: Job) -> Result<Job, Me
     Ok(Job { task, number })
 }
 
-/// The worker's stalled task at this place goes on, where all of its children have answered. Else it goes to the end of the stalled tasks.
+// The worker's stalled task with this index continues if all its children have answered. Else it goes to the end of the stalled
+// tasks.
 fn look(state: &mut CoreState, alloc: Global, w: u32, place: u32) -> Result<(), Memory>
     requires consistent { IsConsistent state.old }
     requires root { state.old.root ≡ None }
@@ -81,7 +82,7 @@ fn look(state: &mut CoreState, alloc: Global, w: u32, place: u32) -> Result<(), 
     state.workers[w as usize].stall(job)
 }
 
-/// The step of an event that may happen.
+// The step of an event that may happen.
 pub(crate) fn take_event(
     state: &mut CoreState,
     alloc: Global,

@@ -10,7 +10,7 @@ use serial_meaning::Answer;
 use std::alloc::Global;
 use strand_machine::{Memory, Stop, Task, share_origin};
 
-/// The answer goes to the node that the link names, or is main's.
+// The answer goes to the node of the link, or is main's.
 fn deliver_answer(state: &mut CoreState, link: Option<Link>, answer: Answer)
     requires { CanAnswer state.old.nodes.items link }
     ensures { DeliversAnswer link answer state.old state.new }
@@ -21,7 +21,7 @@ fn deliver_answer(state: &mut CoreState, link: Option<Link>, answer: Answer)
     }
 }
 
-/// The answer of the origin of this number goes to its parent, or is the root's.
+// The answer of the origin with this number goes to its parent, or is main's.
 fn put_answer(
     state: &mut CoreState,
     alloc: Global,
@@ -39,7 +39,7 @@ fn put_answer(
     Ok(())
 }
 
-/// The child of the task of this number is begun, and becomes current.
+// The child of the task with this number is begun, and becomes current.
 fn begin_task(
     state: &mut CoreState,
     alloc: Global,
@@ -60,7 +60,7 @@ fn begin_task(
     state.workers[w].hand_out(child, rest)
 }
 
-/// The task of this number, which left its worker, comes to this stop.
+// The task with this number, which was taken from its worker, comes to this stop.
 pub(crate) fn stop(
     state: &mut CoreState,
     alloc: Global,

@@ -4,10 +4,10 @@ use std::collections::VecDeque;
 use std::marker::Model;
 use strand_machine::Memory;
 
-/// How many tasks of a worker wait at most, so that each place among them is a `u32`.
+// The most stalled tasks of a worker, so that each index among them is a `u32`.
 const MOST_WAITING: usize = u32::MAX as usize;
 
-/// A worker: the task that it runs, its deque, whose front stands first, and the tasks that wait for their children.
+// A worker: its current task, its deque, the front first, and its tasks that wait for their children.
 #[derive(Drop)]
 pub(crate) struct Worker {
     current: Option<Job>,
@@ -36,7 +36,7 @@ impl Worker {
     ghost use Rattle.sched_core.specs.Moves.{HandsOutJob, Stalls, Lets, BacksJob, GivesJob, TakesJob, Leaves};
     ghost use Rattle.sched_core.specs.Workers.{worker_with};
 
-    /// A worker with no other task than this.
+    /// A worker whose only task is this one.
     pub fn new(alloc: Global, current: Option<Job>) -> Worker
         ensures { result ≡ worker_with current }
     {
@@ -61,14 +61,14 @@ impl Worker {
         !self.deque.is_empty()
     }
 
-    /// How many of its tasks wait.
+    /// How many of its tasks are stalled.
     pub fn stalled_count(&self) -> u32
         ensures { result ≡ length self.now.stalled }
     {
         self.stalled.len() as u32
     }
 
-    /// The number of the task that waits at this place.
+    /// The number of the stalled task with this index.
     pub fn waits_at(&self, place: u32) -> Option<usize>
         ensures some { (j : _) → slice_get self.now.stalled place ≡ Some j → result ≡ Some j.number }
         ensures none { slice_get self.now.stalled place ≡ None → result ≡ None }
@@ -79,7 +79,7 @@ impl Worker {
         }
     }
 
-    /// The child becomes the current task, and the rest of its parent goes to the deque's back.
+    /// The child becomes the current task, and its parent's rest goes to the back of the deque.
     pub fn hand_out(&mut self, child: Job, rest: Job) -> Result<(), Memory>
         ensures { OnOk result (HandsOutJob child rest self.old self.new) }
     {
@@ -88,7 +88,7 @@ impl Worker {
         Ok(())
     }
 
-    /// The task goes to the end of the stalled tasks. There is no memory for it where as many are stalled as may be.
+    /// The task goes to the end of the stalled tasks. It is `Memory` also where there are as many as may be.
     pub fn stall(&mut self, rest: Job) -> Result<(), Memory>
         ensures { OnOk result (Stalls rest self.old self.new) }
     {
@@ -99,7 +99,7 @@ impl Worker {
         Ok(())
     }
 
-    /// The current task leaves.
+    /// Takes out the current task.
     pub fn take_current(&mut self) -> Job
         requires { self.old.current ≢ None }
         ensures { Lets result self.old self.new }
@@ -110,7 +110,7 @@ impl Worker {
         job
     }
 
-    /// The task at the deque's back leaves.
+    /// Takes out the task at the back of the deque.
     pub fn pop_back(&mut self) -> Job
         requires { self.old.deque ≢ [] }
         ensures { BacksJob result self.old self.new }
@@ -121,7 +121,7 @@ impl Worker {
         job
     }
 
-    /// The task at the deque's front leaves.
+    /// Takes out the task at the front of the deque.
     pub fn pop_front(&mut self) -> Job
         requires { self.old.deque ≢ [] }
         ensures { GivesJob result self.old self.new }
@@ -132,14 +132,14 @@ impl Worker {
         job
     }
 
-    /// The task becomes the current one.
+    /// Makes the task the current one.
     pub fn set_current(&mut self, job: Job)
         ensures { TakesJob job self.old self.new }
     {
         self.current = Some(job);
     }
 
-    /// The task at this place is stalled no more.
+    /// Takes out the stalled task with this index.
     pub fn leave(&mut self, place: u32) -> Job
         requires { place < length self.old.stalled }
         ensures { Leaves place result self.old self.new }

@@ -7,14 +7,14 @@ use Rattle.serial_meaning.specs.declared.origin.Origin.{Origin}
 use Rattle.strand_meaning.specs.Task.{Task, start, on}
 use Rattle.strand_meaning.specs.Rest.{evaluations}
 
--- A worker: the task that it runs, its deque, whose front stands first, and the tasks that wait for their children.
+-- A worker: its current task, its deque, the front first, and its tasks that wait for their children.
 pub record Worker : Type 0 where
   pub current : Option Task
   pub deque : List Task
   pub stalled : List Task
 
--- The origins that were begun and the answers that were given, both in order; how many run events there were; and whether a step
--- wanted memory.
+-- The origins that were begun and the answers that were given, both in order; the number of run events; and whether a step ran out
+-- of memory.
 pub record Core : Type 0 where
   pub plan : PlanView
   pub workers : List Worker
@@ -30,7 +30,7 @@ free_worker = record { current = None; deque = []; stalled = [] }
 abbrev pub first_worker : PlanView → Worker
 first_worker plan = record { current = Some (start plan (main_origin plan)); deque = []; stalled = [] }
 
--- so many workers, of which the first has main's task
+-- this many workers, of which the first has main's task
 abbrev pub new_core : PlanView → ℕ → Core
 new_core plan n = record {
   plan = plan;
@@ -58,7 +58,7 @@ current_tasks (Some t) = t ∷ []
 abbrev pub tasks_of : Worker → List Task
 tasks_of w = current_tasks w.current ++ w.deque ++ w.stalled
 
--- the tasks of all workers: one for each current task, and for each place in a deque or among the stalled tasks
+-- the tasks of all workers: each current task, and those in the deques and among the stalled ones
 abbrev pub all_tasks : Core → List Task
 all_tasks c = flat_map tasks_of c.workers
 

@@ -12,7 +12,7 @@ use Rattle.sched_meaning.specs.Steps.{Step, Leads}
 use Rattle.sched_meaning.specs.declared.event.CoreEvent.{CoreEvent}
 use Rattle.sched_meaning.specs.declared.event.CoreEvent.TheVariants.{Run, Pop, Steal, Look}
 
--- main hands out one child, waits for it, and ends; and the child ends
+-- main begins one child, waits for it, and ends; and the child ends
 pub record OneChild (plan : PlanView) : Type 0 where
   pub child : Origin
   pub rest : Task
@@ -45,7 +45,7 @@ NoLookWhereNoneIsStalled = (plan : PlanView) (next : Core) → Step (Look 0 0) (
 abbrev pub OneChoiceAtFirst : Type 0
 OneChoiceAtFirst = (plan : PlanView) → choices (new_core plan 2) ≡ Run 0 ∷ []
 
--- worker 0 runs, worker 1 has nothing, and worker 2 has a task in its deque alone
+-- worker 0 runs, worker 1 has nothing, and worker 2 has only a task in its deque
 abbrev pub three_workers : PlanView → Task → Task → Task → Core
 three_workers plan t u v = record {
   plan = plan;

@@ -10,11 +10,11 @@ use Rattle.sched_meaning.specs.Sound.{AreEvaluations, IsFruitful, IsLively, Stan
 use Rattle.sched_meaning.specs.Steps.{Step, Leads}
 use Rattle.sched_meaning.specs.declared.event.CoreEvent.{CoreEvent}
 
--- An event leads to one core at most.
+-- An event leads to at most one core.
 abbrev pub StepsAreOne : Type 0
 StepsAreOne = (e : CoreEvent) (c next other : Core) → Step e c next → Step e c other → next ≡ other
 
--- There is a number of segments for a valid script, and one only.
+-- A valid script has a number of segments, and only one.
 abbrev pub SegmentsCome : Type 0
 SegmentsCome = (plan : PlanView) → IsValid plan.script → (n : ℕ) × IsSegments plan n
 
@@ -32,32 +32,32 @@ abbrev pub CoresRunWithinSegments : Type 0
 CoresRunWithinSegments =
     (plan : PlanView) (workers : ℕ) (events : List CoreEvent) (c : Core) → IsValid plan.script → Leads plan workers events c → (n : ℕ) → IsSegments plan n → c.runs ≤ n
 
--- While the root isn't answered some event goes on with the work.
+-- Until the root is answered some event makes progress.
 abbrev pub CoresAreLively : Type 0
 CoresAreLively =
     (plan : PlanView) (workers : ℕ) (events : List CoreEvent) (c : Core) → IsValid plan.script → Leads plan workers events c → (IsRootAnswered c → ⊥) → IsLively c
 
--- No origin stands twice among those that were begun.
+-- No origin is begun twice.
 abbrev pub CoresBeginOnce : Type 0
 CoresBeginOnce =
     (plan : PlanView) (workers : ℕ) (events : List CoreEvent) (c : Core) → IsValid plan.script → Leads plan workers events c → (o : Origin) (j k : ℕ) →
     slice_get c.begun j ≡ Some o → slice_get c.begun k ≡ Some o → j ≡ k
 
--- An origin that was begun and isn't answered is that of one task, in one place.
+-- An origin that was begun and isn't answered has exactly one task, in one place.
 abbrev pub CoresKeepTasksOnce : Type 0
 CoresKeepTasksOnce =
     (plan : PlanView) (workers : ℕ) (events : List CoreEvent) (c : Core) → IsValid plan.script → Leads plan workers events c → (o : Origin) → Contains c.begun o →
     (IsAnswered c o → ⊥) → StandsOnce o (origins_of (all_tasks c))
 
--- The choices of a core are the events that may happen and go on with the work.
+-- The choices of a core are the events that may happen and make progress.
 abbrev pub ChoicesGoOn : Type 0
 ChoicesGoOn = (c : Core) (e : CoreEvent) → Contains (choices c) e ↔ ((next : Core) × Step e c next × IsFruitful e c)
 
--- None stands twice among them.
+-- No choice is listed twice.
 abbrev pub ChoicesStandOnce : Type 0
 ChoicesStandOnce = (c : Core) (e : CoreEvent) (j k : ℕ) → slice_get (choices c) j ≡ Some e → slice_get (choices c) k ≡ Some e → j ≡ k
 
--- In a simulation one worker at most answers the root.
+-- In a simulation at most one worker answers the root.
 abbrev pub SimWorkersAreOne : Type 0
 SimWorkersAreOne =
     (plan : PlanView) (workers number v w : ℕ) → IsSimWorker plan workers number v → IsSimWorker plan workers number w → v ≡ w

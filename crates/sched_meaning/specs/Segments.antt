@@ -1,4 +1,4 @@
--- Segments: what a task does between two stops. They are counted by the stops, over all tasks below.
+-- Segments: what a task does between two stops. They are counted by the stops, of all tasks of a run.
 use Rattle.std.specs.Prelude.{◌≡◌, ℕ, ◌+◌, List}
 use Rattle.serial_meaning.specs.Plan.{PlanView}
 use Rattle.serial_meaning.specs.Eval.{main_origin}
@@ -8,14 +8,14 @@ use Rattle.serial_meaning.specs.declared.answer.Outcome.{Outcome}
 use Rattle.strand_meaning.specs.Task.{Task, start, Spawn, Wait, End, IsNext}
 use Rattle.sched_meaning.specs.Core.{gone_on}
 
--- A task, with the tasks of its children, all the way down, comes to so many stops, where each wait is over with the evaluations of
--- the children.
+-- A task and, all the way down, those of its children come to this many stops, where each wait ends with the evaluations of the
+-- children.
 pub data ComesToStops : Task → ℕ → Type 0 where
   Ends : {t : Task} {n : ℕ} (out : List Event) (ended : Outcome) → IsNext t (End out ended) → n ≡ 1 → ComesToStops t n
   Waits : {t : Task} {n : ℕ} (rest : Task) (later : ℕ) → IsNext t (Wait rest) → ComesToStops (gone_on rest) later → n ≡ 1 + later → ComesToStops t n
   Spawns : {t : Task} {n : ℕ} (child : Origin) (rest : Task) (below later : ℕ) → IsNext t (Spawn child rest) → ComesToStops (start rest.plan child) below →
       ComesToStops rest later → n ≡ 1 + (below + later) → ComesToStops t n
 
--- main's task comes to so many
+-- main's task comes to this many
 abbrev pub IsSegments : PlanView → ℕ → Type 0
 IsSegments plan n = ComesToStops (start plan (main_origin plan)) n

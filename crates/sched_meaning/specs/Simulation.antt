@@ -1,4 +1,4 @@
--- The simulation: the words of a seed pick among the events that go on with the work.
+-- The simulation: the words of a seed pick among the events that make progress.
 use Rattle.std.specs.Prelude.{◌≡◌, ℕ, zero, suc, ◌+◌, ◌%◌, Bool, true, false, ◌&&◌, not, nat_eq, List, [], ◌∷◌, ◌++◌, Option, Some, None, MatchOption, length, map, filter, flat_map, is_some, slice_get}
 use Rattle.std.specs.List.{list_any, list_all, range_with_len}
 use Rattle.dotmix.specs.Words.{seed_word}
@@ -21,7 +21,7 @@ abbrev pub is_ready : Core → Option Task → Bool
 is_ready c None = false
 is_ready c (Some t) = list_all (is_answered c) (awaited t)
 
--- whether a worker has a current task; whether there is one that has none; whether its deque has a task
+-- whether a worker has a current task; whether it exists and has none; whether its deque has a task
 abbrev pub may_run : Option Worker → Bool
 may_run None = false
 may_run (Some w) = is_some w.current
@@ -42,7 +42,7 @@ abbrev pub may_resume : Core → ℕ → Option Worker → Bool
 may_resume c place None = false
 may_resume c place (Some w) = is_ready c (slice_get w.stalled place)
 
--- whether an event may happen now and goes on with the work
+-- whether an event may happen now and makes progress
 abbrev pub is_progress : Core → CoreEvent → Bool
 is_progress c (Run w) = may_run (slice_get c.workers w)
 is_progress c (Pop w) = is_free (slice_get c.workers w) && may_give (slice_get c.workers w)
@@ -59,7 +59,7 @@ abbrev pub stalled_places : Option Worker → List ℕ
 stalled_places None = []
 stalled_places (Some w) = range_with_len 0 (length w.stalled)
 
--- by kind, and of one kind by worker: steals by thief and then by victim, looks by worker and then by place
+-- by kind, and within a kind by worker: steals by thief and then by victim, looks by worker and then by index
 abbrev pub all_events : Core → List CoreEvent
 all_events c =
     let workers = range_with_len 0 (length c.workers) in
@@ -69,7 +69,7 @@ all_events c =
 abbrev pub choices : Core → List CoreEvent
 choices c = filter (is_choice c) (all_events c)
 
--- the choice at the index that a word names, among so many
+-- the choice whose index is the word modulo their number
 abbrev pub picked_of : List CoreEvent → ℕ → Option CoreEvent
 picked_of [] word = None
 picked_of (e ∷ es) word = slice_get (e ∷ es) (word % suc (length es))
@@ -83,7 +83,7 @@ picked c word = picked_of (choices c) word
 abbrev pub PlaysWord : ℕ → ℕ → Core → Core → Type 0
 PlaysWord number i c next = MatchOption (picked c (seed_word number i)) (next ≡ c) (λ e. Step e c next)
 
--- so many steps lead from a new core to this one
+-- this many steps lead from a new core to this one
 abbrev pub Simulates : PlanView → ℕ → ℕ → ℕ → Core → Type 0
 Simulates plan workers number zero c = c ≡ new_core plan workers
 Simulates plan workers number (suc n) c = (before : Core) × Simulates plan workers number n before × PlaysWord number (n + 1) before c

@@ -20,14 +20,14 @@ IsFruitful (Steal thief victim) c = Unit {0}
 IsFruitful (Look w place) c = (next : Core) × Resumes w place c next
 IsFruitful (Idle w) c = ⊥
 
--- Some event goes on with the work.
+-- Some event makes progress.
 pub record IsLively (c : Core) : Type 0 where
   pub event : CoreEvent
   pub next : Core
   pub step : Step event c next
   pub fruitful : IsFruitful event c
 
--- An origin stands at one place of these and no other.
+-- An origin is exactly once among these.
 pub record StandsOnce (o : Origin) (os : List Origin) : Type 0 where
   pub place : ℕ
   pub there : slice_get os place ≡ Some o

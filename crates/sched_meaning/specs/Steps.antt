@@ -8,7 +8,8 @@ use Rattle.sched_meaning.specs.declared.event.CoreEvent.TheVariants.{Run, Pop, S
 
 -- A worker's part of a step
 
--- a worker whose current task came to this stop: after a spawn the rest goes to the deque's back, and the child is current
+-- a worker whose current task came to this stop: after a spawn the rest goes to the back of the deque, and the child becomes
+-- current
 abbrev pub after_stop : Stop → Worker → Worker
 after_stop (Spawn child rest) w = record w { current = Some (start rest.plan child); deque = w.deque ++ rest ∷ [] }
 after_stop (Wait rest) w = record w { current = None; stalled = w.stalled ++ rest ∷ [] }
@@ -20,31 +21,31 @@ pub record WorkerRuns (t : Task) (stop : Stop) (w next : Worker) : Type 0 where
   pub comes : IsNext t stop
   pub after : next ≡ after_stop stop w
 
--- The task at the deque's back becomes the current one.
+-- The task at the back of the deque becomes the current one.
 pub record WorkerPops (t : Task) (w next : Worker) : Type 0 where
   pub free : w.current ≡ None
   pub back : w.deque ≡ next.deque ++ t ∷ []
   pub current : next.current ≡ Some t
   pub stalled : next.stalled ≡ w.stalled
 
--- The task at the deque's front is given away.
+-- The task at the front of the deque is stolen.
 pub record WorkerGives (t : Task) (w next : Worker) : Type 0 where
   pub front : w.deque ≡ t ∷ next.deque
   pub current : next.current ≡ w.current
   pub stalled : next.stalled ≡ w.stalled
 
--- A task that was given becomes the current one.
+-- A stolen task becomes the current one.
 pub record WorkerTakes (t : Task) (w next : Worker) : Type 0 where
   pub free : w.current ≡ None
   pub after : next ≡ record w { current = Some t }
 
--- The stalled task at this place goes on, with the answers of its children.
+-- The stalled task with this index continues, with its children's answers.
 pub record WorkerResumes (place : ℕ) (t : Task) (w next : Worker) : Type 0 where
   pub free : w.current ≡ None
   pub there : slice_get w.stalled place ≡ Some t
   pub after : next ≡ record w { current = Some (gone_on t); stalled = remove w.stalled place }
 
--- The stalled task at this place can't go on, and goes to the end of the stalled tasks.
+-- The stalled task with this index can't continue, and goes to the end of the stalled tasks.
 pub record WorkerPasses (place : ℕ) (t : Task) (w next : Worker) : Type 0 where
   pub free : w.current ≡ None
   pub there : slice_get w.stalled place ≡ Some t
@@ -52,7 +53,7 @@ pub record WorkerPasses (place : ℕ) (t : Task) (w next : Worker) : Type 0 wher
 
 -- The core's part
 
--- The worker of this number changes so, and no other.
+-- The worker with this number changes like this, and no other does.
 pub record Changes (n : ℕ) (R : Worker → Worker → Type 0) (c next : Core) : Type 0 where
   pub worker : Worker
   pub after : Worker
@@ -67,7 +68,7 @@ recorded t (Wait rest) c = record c { runs = c.runs + 1 }
 recorded t (End out ended) c =
     record c { answers = c.answers ++ record { plan = t.plan; origin = t.origin; out = out; outcome = ended } ∷ []; runs = c.runs + 1 }
 
--- A worker runs its task to the next stop. The core is `moved` before the stop is on record.
+-- A worker runs its task to the next stop. The core is `moved` before the stop is recorded.
 pub record ReachesStop (w : ℕ) (c next : Core) : Type 0 where
   pub task : Task
   pub stop : Stop

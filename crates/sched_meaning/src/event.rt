@@ -1,4 +1,4 @@
-/// What happens in one step. Workers and places go by number, from 0.
+/// What happens in one step. Workers are numbered from 0, and so are the stalled tasks of each.
 #[derive(Clone, Copy, Debug, PartialEq, Eq)]
 pub enum CoreEvent {
     /// The worker's current task comes to its next stop.
@@ -7,7 +7,7 @@ pub enum CoreEvent {
     Pop(u32),
     /// The task at the front of the victim's deque becomes the thief's current task.
     Steal { thief: u32, victim: u32 },
-    /// The worker looks whether the stalled task at this place may go on.
+    /// The worker checks whether the stalled task with this index can continue.
     Look { worker: u32, place: u32 },
     /// The worker has nothing to do.
     Idle(u32),

@@ -1,8 +1,8 @@
-//! Laws of the machine, each the contract of a function that does nothing. A proof that wants a law calls it.
+//! Laws of the machine, each the contract of a function that does nothing. A proof that needs a law calls it.
 
 ghost use Rattle.sched_meaning.specs.Laws.{ChoicesGoOn, ChoicesStandOnce, CoresAnswerByEvaluations, CoresAreLively, CoresBeginOnce, CoresKeepTasksOnce, CoresRunWithinSegments, SegmentsAreOne, SegmentsCome, SimWorkersAreOne, SimWorkersCome, StepsAreOne};
 
-/// An event leads to one core at most.
+/// An event leads to at most one core.
 pub fn steps_are_one()
     ensures { StepsAreOne }
 {}
@@ -12,7 +12,7 @@ pub fn segments_come()
     ensures { SegmentsCome }
 {}
 
-/// They are one number.
+/// There is only one such number.
 pub fn segments_are_one()
     ensures { SegmentsAreOne }
 {}
@@ -27,7 +27,7 @@ pub fn cores_run_within_segments()
     ensures { CoresRunWithinSegments }
 {}
 
-/// While the root isn't answered, some event that may happen is neither idle nor a fruitless look.
+/// Until the root is answered, some event that may happen is neither idle nor a fruitless look.
 pub fn cores_are_lively()
     ensures { CoresAreLively }
 {}
@@ -37,23 +37,23 @@ pub fn cores_begin_once()
     ensures { CoresBeginOnce }
 {}
 
-/// An origin that was begun and isn't answered is that of exactly one task, which is current or stands at one place of a deque or
-/// among the stalled tasks.
+/// An origin that was begun and isn't answered has exactly one task, which is current or at one place in a deque or among the
+/// stalled tasks.
 pub fn cores_keep_tasks_once()
     ensures { CoresKeepTasksOnce }
 {}
 
-/// The choices of a simulation are just the events that may happen and are neither idle nor fruitless looks.
+/// The choices of a simulation are exactly the events that may happen and are neither idle nor fruitless looks.
 pub fn choices_go_on()
     ensures { ChoicesGoOn }
 {}
 
-/// None of them stands twice in the list of choices.
+/// No choice is listed twice.
 pub fn choices_stand_once()
     ensures { ChoicesStandOnce }
 {}
 
-/// One worker at most answers the root in a simulation.
+/// At most one worker answers the root in a simulation.
 pub fn sim_workers_are_one()
     ensures { SimWorkersAreOne }
 {}

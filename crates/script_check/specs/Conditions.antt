@@ -1,4 +1,4 @@
--- The numbers of the conditions of a valid script, and what they are called.
+-- The numbers of the conditions of a valid script, and their names.
 use Rattle.std.specs.Prelude.{ℕ, nat_eq, List, [], ◌∷◌, if◌then◌else◌, codes}
 use Rattle.script_check.specs.declared.condition.Condition.{Condition}
 use Rattle.script_check.specs.declared.condition.Condition.TheVariants.{NoMain, MainHasParameters, FunctionTwice, VariableTwice, UnknownFunction, UnknownVariable, WrongNumberOfArguments, WrongKind, PendingVariable, LetInABlock, TooManyVariables, ArrayLength}
@@ -17,7 +17,7 @@ number_of LetInABlock = 10
 number_of TooManyVariables = 11
 number_of ArrayLength = 12
 
--- the condition among these that has this number, and the last one where none has
+-- the condition with this number among these, or the last one
 abbrev pub condition_among : List Condition → ℕ → Condition
 condition_among [] number = ArrayLength
 condition_among (condition ∷ conditions) number =
@@ -29,7 +29,7 @@ condition_of =
     (NoMain ∷ MainHasParameters ∷ FunctionTwice ∷ VariableTwice ∷ UnknownFunction ∷ UnknownVariable ∷ WrongNumberOfArguments
     ∷ WrongKind ∷ PendingVariable ∷ LetInABlock ∷ TooManyVariables ∷ [])
 
--- what it is called
+-- its name
 abbrev pub condition_name : Condition → List ℕ
 condition_name NoMain = codes "no main"
 condition_name MainHasParameters = codes "main has parameters"

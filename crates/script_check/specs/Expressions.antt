@@ -12,11 +12,11 @@ use Rattle.script_check.specs.declared.findings.Violation.{Violation}
 use Rattle.script_check.specs.Names.{NameSet}
 use Rattle.script_check.specs.Rules.{Declared, wrong_kind, scalar_use, array_use, kind_of_variable}
 
--- the violations of a part of a script where these variables are known and those names are pending
+-- the violations of a part of a script, where these variables are declared and those names are pending
 abbrev pub Violations : Type 0
 Violations = Declared → NameSet → List Violation
 
--- what is read of an expression or a right side: its place, its kind, and the violations in it
+-- an expression or a right side: its offset, its kind, and the violations in it
 pub record Reading : Type 0 where
   pub at : ℕ
   pub kind : Declared → Option Kind
@@ -25,7 +25,7 @@ pub record Reading : Type 0 where
 abbrev pub int_at : ℕ → Violations → Reading
 int_at at violations = record { at = at; kind = λ known. Some Int; violations = violations }
 
--- it has to have this kind
+-- it must have this kind
 unfoldable pub wanted : Kind → Reading → Violations
 wanted kind r known p = r.violations known p ++ wrong_kind kind (r.kind known) r.at
 
@@ -36,7 +36,7 @@ abbrev pub all_wanted : Kind → List Reading → Violations
 all_wanted kind [] known p = []
 all_wanted kind (r ∷ rs) known p = wanted kind r known p ++ all_wanted kind rs known p
 
--- one node, with what is read of its parts in their places
+-- one node, of the readings of its parts
 abbrev pub read_at : Expr-F Reading Reading Reading → Reading
 read_at (node.Number n) = int_at n.at (λ known p. [])
 read_at (node.Var x) = record { at = x.at; kind = λ known. kind_of_variable (known.what x.bytes); violations = λ known p. scalar_use (known.what x.bytes) p x }

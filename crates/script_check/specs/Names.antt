@@ -1,4 +1,4 @@
--- Sets of names, and the names that are pending after statements.
+-- Sets of names, and which names are pending after statements.
 use Rattle.std.specs.Prelude.{◌≡◌, ℕ, Bool, true, false, ◌||◌, ◌&&◌, List, [], ◌∷◌}
 use Rattle.std.specs.Str.{bytes_eq}
 use Rattle.script_grammar.specs.declared.tree.Name.{Name}
@@ -7,7 +7,7 @@ use Rattle.script_grammar.specs.declared.tree.Right.TheVariants as right
 use Rattle.script_grammar.specs.declared.tree.Act.TheOpen as act
 use Rattle.script_grammar.specs.declared.tree.Act.TheOpen.{Act-F}
 
--- a set of names is its test
+-- a set of names, as the test for its members
 abbrev pub NameSet : Type 0
 NameSet = List ℕ → Bool
 
@@ -20,11 +20,11 @@ with_name x p y = bytes_eq x y || p y
 abbrev pub union : NameSet → NameSet → NameSet
 union p q x = p x || q x
 
--- the set where it is kept
+-- the set, or the empty one
 abbrev pub names_if : Bool → NameSet → NameSet
 names_if kept p x = kept && p x
 
--- each name of p is one of q
+-- each name of p is in q
 abbrev pub IsWithin : NameSet → NameSet → Type 0
 IsWithin p q = (x : List ℕ) → p x ≡ true → q x ≡ true
 
@@ -41,8 +41,8 @@ module _ {J : Type 0} (after_one : J → NameSet → NameSet) where
   after_each [] p = p
   after_each (j ∷ js) p = after_each js (after_one j p)
 
-  -- A sync and the end of a `scope` empty the set, an `if` ends with the union of its ends, a `while` with its own set and its body's; the
-  -- other statements keep it.
+  -- A sync and the end of a `scope` empty the set. An `if` ends with the union of both ends, a `while` with its own set and its
+  -- body's. Other statements keep the set.
   abbrev pub after_act : {A : Type 0} → Act-F A J → NameSet → NameSet
   after_act (act.Let x r) p = after_right x r p
   after_act (act.Array x n) p = p

@@ -1,4 +1,4 @@
--- Where the variables of a function are found: each has a place, its place among those that the function makes.
+-- The slots of a function's variables: a variable's slot is its index among the function's names.
 use Rattle.std.specs.Prelude.{ℕ, suc, ◌-◌, Bool, true, false, ◌&&◌, nat_eq, List, [], ◌∷◌, ◌++◌, length, replicate, Option, Some, None, is_some, unwrap_or, map, position, slice_get, if◌then◌else◌}
 use Rattle.std.specs.Str.{bytes_eq}
 use Rattle.script_grammar.specs.declared.tree.Name.{Name}
@@ -17,7 +17,8 @@ use Rattle.script_grammar.specs.declared.tree.Act.TheOpen as act
 use Rattle.script_grammar.specs.declared.tree.Act.TheOpen.{Act-F}
 use Rattle.script_grammar.specs.declared.tree.Act.TheFolds.{fold-Stmt}
 
--- The variables that a script names, in the order of the text. What is called is none, nor is a parallel loop's number.
+-- The variables that a script names, in the order of the text. The name of a called function is none, nor is a parallel loop's
+-- variable.
 
 abbrev pub joined : List (List Name) → List Name
 joined [] = []
@@ -57,7 +58,7 @@ abbrev pub named_in_target : Option Name → List Name
 named_in_target None = []
 named_in_target (Some x) = x ∷ []
 
--- one statement, with what those inside it name in their places
+-- one statement, of the names in those inside it
 abbrev pub named_in_act : Act-F (List Name) (List Name) → List Name
 named_in_act (act.Let x r) = x ∷ named_in_right r
 named_in_act (act.Array x n) = x ∷ []
@@ -81,7 +82,7 @@ named_in_block sts = joined (map named_in_statement sts)
 abbrev pub named_in_function : Function → List Name
 named_in_function f = named_in_block f.body ++ named_in f.result
 
--- The functions that a script calls, by the names that it calls them by, in the order of the text.
+-- The names by which a script calls functions, in the order of the text.
 
 abbrev pub called_in_right : Right → List Name
 called_in_right (right.Value e) = []
@@ -90,7 +91,7 @@ called_in_right (right.New at) = []
 called_in_right (right.Call at c) = c.name ∷ []
 called_in_right (right.Spawn at c) = c.name ∷ []
 
--- one statement, with what those inside it call in their places
+-- one statement, of the names in those inside it
 abbrev pub called_in_act : Act-F (List Name) (List Name) → List Name
 called_in_act (act.Let x r) = called_in_right r
 called_in_act (act.Array x n) = []
@@ -116,11 +117,11 @@ called_in functions = joined (map (λ f. called_in_block f.body) functions)
 
 -- The variables of a function
 
--- a variable's place
+-- a variable's slot
 abbrev pub place_in : List (List ℕ) → List ℕ → Option ℕ
 place_in names name = position (λ other. bytes_eq other name) names
 
--- one name more, where it is new
+-- the names with one more, where it is new
 abbrev pub with_new_name : List (List ℕ) → List ℕ → List (List ℕ)
 with_new_name names name = if is_some (place_in names name) then names else names ++ name ∷ []
 
@@ -128,20 +129,20 @@ abbrev pub with_new_names : List (List ℕ) → List Name → List (List ℕ)
 with_new_names names [] = names
 with_new_names names (x ∷ xs) = with_new_names (with_new_name names x.bytes) xs
 
--- The names of a function's variables: its parameters, and then all others that its text has, in the order of their first places there. In a
--- valid script these are those of its `let` statements.
+-- The names of a function's variables: its parameters, and then all others in its text, by their first offsets. In a valid script
+-- these are those of its `let` statements.
 abbrev pub variable_names : Function → List (List ℕ)
 variable_names f = with_new_names (map (λ q. q.name.bytes) f.params) (named_in_function f)
 
 -- The table of places
 
--- both are there, and are one number
+-- both exist and are equal
 abbrev pub agree : Option ℕ → Option ℕ → Bool
 agree None j = false
 agree (Some i) None = false
 agree (Some i) (Some j) = nat_eq i j
 
--- a table has, at the offset of a name, its place among these names
+-- the table has a name's slot at its offset
 abbrev pub has_place : List ℕ → List (List ℕ) → Name → Bool
 has_place table names x = agree (slice_get table x.at) (place_in names x.bytes)
 
@@ -149,7 +150,7 @@ abbrev pub all_true : List Bool → Bool
 all_true [] = true
 all_true (b ∷ bs) = b && all_true bs
 
--- whether each name of a variable in a part of a script is such a name
+-- whether each name of a variable in a part of a script passes this test
 module _ (is : Name → Bool) where
   abbrev pub every_at : Expr-F Bool Bool Bool → Bool
   every_at (node.Number n) = true
@@ -178,7 +179,7 @@ module _ (is : Name → Bool) where
   every_in_target None = true
   every_in_target (Some x) = is x
 
-  -- and each name of a function that is called there is such a one
+  -- and each name of a called function that one
   module _ (calls : Name → Bool) where
     abbrev pub every_in_right : Right → Bool
     every_in_right (right.Value e) = every_in e
@@ -187,7 +188,7 @@ module _ (is : Name → Bool) where
     every_in_right (right.Call at c) = calls c.name && every_in_all c.args
     every_in_right (right.Spawn at c) = calls c.name && every_in_all c.args
 
-    -- one statement, with what is told of those inside it in their places
+    -- one statement, of the results for those inside it
     abbrev pub every_in_act : Act-F Bool Bool → Bool
     every_in_act (act.Let x r) = is x && every_in_right r
     every_in_act (act.Array x n) = is x
@@ -208,14 +209,14 @@ module _ (is : Name → Bool) where
     abbrev pub every_in_block : List Stmt → Bool
     every_in_block sts = all_true (map every_in_statement sts)
 
--- each parameter's place is its place: no two have one name
+-- each parameter's slot is its own index: no two have the same name
 abbrev pub stand_from : ℕ → List (List ℕ) → List Param → Bool
 stand_from i names [] = true
 stand_from i names (q ∷ params) = agree (Some i) (place_in names q.name.bytes) && stand_from (suc i) names params
 
 -- A table that is made, one name after another
 
--- a place at an offset after the table's end
+-- a slot at an offset behind the table's end
 abbrev pub with_place : List ℕ → ℕ → ℕ → List ℕ
 with_place table at place = (table ++ replicate (at - length table) 0) ++ place ∷ []
 
@@ -234,7 +235,8 @@ table_of_callees functions = with_places (function_names functions) [] (called_i
 abbrev pub finds_callee : List Function → Name → Bool
 finds_callee functions = has_place (table_of_callees functions) (function_names functions)
 
--- A function's text is found: the table has the place of each variable that it names, and that of callees the number of each function that it calls.
+-- The tables are complete for a function: they have the slot of each variable that it names, and the index of each function that it
+-- calls.
 abbrev pub finds_in : List ℕ → List Function → Function → Bool
 finds_in table functions f =
     let names = variable_names f in
@@ -247,7 +249,7 @@ finds_all table functions = all_true (map (finds_in table functions) functions)
 abbrev pub each_names : List Function → List (List (List ℕ))
 each_names = map variable_names
 
--- The table of places: one function after another
+-- The table of slots, function by function
 
 abbrev pub with_functions : List ℕ → List Function → List ℕ
 with_functions table [] = table

@@ -14,11 +14,11 @@ use Rattle.script_check.specs.Violations.{violation_if}
 use Rattle.script_check.specs.Tables.{Table}
 use Rattle.script_check.specs.Names.{NameSet}
 
--- the variables that are known at a place: what the first of each name is
+-- the variables that are declared so far, each name by its first declaration
 abbrev pub Declared : Type 0
 Declared = Table Variable
 
--- the place has another kind than the one that is wanted; what has no kind has a violation of its own
+-- the kind differs from the wanted one; what has no kind has a violation of its own
 abbrev pub is_other_kind : Kind → Option Kind → Bool
 is_other_kind Int (Some Int) = false
 is_other_kind Int (Some Id) = true
@@ -35,7 +35,7 @@ unknown_function f = violation_if true (number_of UnknownFunction) f.at
 abbrev pub unknown_variable : Name → List Violation
 unknown_variable x = violation_if true (number_of UnknownVariable) x.at
 
--- where the call hasn't as many arguments as parameters
+-- where the number of arguments isn't that of the parameters
 abbrev pub wrong_number_of_arguments : Bool → Name → List Violation
 wrong_number_of_arguments has_as_many f = violation_if (not has_as_many) (number_of WrongNumberOfArguments) f.at
 
@@ -51,18 +51,18 @@ pending_variable p x = violation_if (p x.bytes) (number_of PendingVariable) x.at
 abbrev pub let_in_a_block : Bool → ℕ → List Violation
 let_in_a_block in_block at = violation_if in_block (number_of LetInABlock) at
 
--- a function has at most so many variables at a place
+-- the most variables of a function
 abbrev pub most_variables : ℕ
 most_variables = 256
 
--- the name is new where as many are known
+-- the name is new, and the most are declared already
 abbrev pub too_many_variables : Declared → Name → List Violation
 too_many_variables known x = violation_if (is_none (known.what x.bytes) && nat_eq known.count most_variables) (number_of TooManyVariables) x.at
 
 abbrev pub array_length : Number → List Violation
 array_length n = violation_if (int_lt n.value (pos 1) || int_lt (pos 4096) n.value) (number_of ArrayLength) n.at
 
--- what a known scalar holds
+-- the kind of a declared scalar
 abbrev pub kind_of_variable : Option Variable → Option Kind
 kind_of_variable (Some (Scalar kind)) = Some kind
 kind_of_variable (Some Array) = None

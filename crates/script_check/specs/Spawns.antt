@@ -1,4 +1,4 @@
--- Whether a function's text holds a spawn, so that its return waits (docs/LANGUAGE.md, "Steps").
+-- Whether a function's text contains a spawn, so that its return waits (docs/LANGUAGE.md, "Steps").
 use Rattle.std.specs.Prelude.{Bool, true, false, ◌||◌, List, [], ◌∷◌, Option, Some, None, map}
 use Rattle.script_grammar.specs.declared.tree.Function.{Function}
 use Rattle.script_grammar.specs.declared.tree.Right.{Right}
@@ -33,14 +33,14 @@ act_spawns (act.While e a) = any_true a
 act_spawns (act.Pfor x lo hi target c) = false
 act_spawns (act.Scope a) = any_true a
 
--- whether the word `spawn` stands in a statement, in blocks inside it too
+-- whether the word `spawn` is in a statement, also in its blocks
 abbrev pub spawns : Stmt → Bool
 spawns = fold-Stmt Bool Bool act_spawns (λ s. s.act)
 
 abbrev pub any_spawns : List Stmt → Bool
 any_spawns sts = any_true (map spawns sts)
 
--- whether it stands in a function, if there is one
+-- whether it is in a function, if there is one
 abbrev pub spawns_in : Option Function → Bool
 spawns_in (Some f) = any_spawns f.body
 spawns_in None = false

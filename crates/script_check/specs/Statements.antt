@@ -38,14 +38,14 @@ abbrev pub answer_kind_of : Option Function → Option Kind
 answer_kind_of None = None
 answer_kind_of (Some f) = Some f.answer
 
--- The call of a parallel loop: the loop's number is the first argument, and a target takes the values.
+-- The call of a parallel loop: the loop variable is the first argument, and a target receives the values.
 abbrev pub loop_arguments : List Param → CallText → Violations
 loop_arguments [] c known p = wrong_number_of_arguments false c.name ++ arguments [] c.args known p
 loop_arguments (q ∷ params) c known p =
     wrong_number_of_arguments (nat_eq (length params) (length c.args)) c.name
     ++ wrong_kind Int (Some q.kind) c.name.at ++ arguments params c.args known p
 
--- the kind of the values that a loop's target receives, and none where it has no target
+-- the kind of the values that a loop's target receives, none without a target
 abbrev pub received_kind : Bool → Kind → Option Kind
 received_kind true kind = Some kind
 received_kind false kind = None
@@ -72,17 +72,17 @@ module _ (functions : List Function) where
   read_right (right.Call at c) = record { at = at; kind = λ known. answer_kind_of (function_named functions c.name.bytes); violations = call c }
   read_right (right.Spawn at c) = record { at = at; kind = λ known. answer_kind_of (function_named functions c.name.bytes); violations = call c }
 
--- a right side that is set: where the variable has a kind, that kind
+-- a right side that is assigned to a variable: it must have the variable's kind, if that has one
 abbrev pub wanted_as : Option Kind → Reading → Violations
 wanted_as None r = r.violations
 wanted_as (Some kind) r = wanted kind r
 
--- the kind of a variable that a right side declares: Int where it has no kind, since it calls no function that there is
+-- the kind of a variable that a right side declares: Int where it has none, since it calls an unknown function
 abbrev pub declared_kind : Option Kind → Kind
 declared_kind None = Int
 declared_kind (Some kind) = kind
 
--- where statements stand
+-- the context of statements
 pub record Context : Type 0 where
   pub functions : List Function
   pub in_block : Bool
@@ -90,7 +90,7 @@ pub record Context : Type 0 where
 abbrev pub context : List Function → Bool → Context
 context functions in_block = record { functions = functions; in_block = in_block }
 
--- what a statement is to those after it, and its violations
+-- a statement's effect on those after it, and its violations
 pub record Judged : Type 0 where
   pub after : NameSet → NameSet
   pub known : List Function → Declared → Declared
@@ -104,7 +104,7 @@ abbrev pub violations_each : List Judged → Context → Violations
 violations_each [] context known p = []
 violations_each (j ∷ js) context known p = j.violations context known p ++ violations_each js context (j.known context.functions known) (j.after p)
 
--- what a statement makes known; the first of a name stays
+-- what a statement declares; a name keeps its first declaration
 abbrev pub known_act : {A : Type 0} → Act-F A Judged → List Function → Declared → Declared
 known_act (act.Let x r) functions known = with_first known x.bytes (Scalar (declared_kind ((read_right functions r).kind known)))
 known_act (act.Array x n) functions known = with_first known x.bytes Array
@@ -123,7 +123,7 @@ known_act (act.Scope a) functions known = known_each a functions known
 abbrev pub block_violations : List Judged → Context → Violations
 block_violations js context = violations_each js (record context { in_block = true })
 
--- the violations of a statement at an offset
+-- the violations of a statement with this offset
 abbrev pub violations_act : {A : Type 0} → Act-F A Judged → ℕ → Context → Violations
 violations_act (act.Let x r) at context known p =
     let_in_a_block context.in_block at ++ (read_right context.functions r).violations known p ++ declaration known x
@@ -145,7 +145,7 @@ violations_act (act.Pfor x lo hi target c) at context known p =
     ++ loop_call_of (function_named context.functions c.name.bytes) (is_some target) c known p
 violations_act (act.Scope a) at context known p = block_violations a context known p
 
--- one statement, with what is told of those inside it in their places
+-- one statement, of the judgements on those inside it
 abbrev pub judge_act : Act-F (ℕ → Judged) Judged → ℕ → Judged
 judge_act d at = record { after = after_act (λ (j : Judged). j.after) d; known = known_act d; violations = violations_act d at }
 
@@ -158,6 +158,6 @@ judge_what = fold-Act (ℕ → Judged) Judged judge_act (λ s. s.act s.at)
 abbrev pub judge_all : List Stmt → List Judged
 judge_all = map judge
 
--- the names that are pending after statements
+-- the names that are pending after these statements
 abbrev pub after : List Stmt → NameSet → NameSet
 after ss = after_each (λ (j : Judged). j.after) (judge_all ss)

@@ -23,7 +23,7 @@ abbrev pub param_violations : List Param → Declared → List Violation
 param_violations [] known = []
 param_violations (q ∷ params) known = declaration known q.name ++ param_violations params (with_first known q.name.bytes (Scalar q.kind))
 
--- The violations in a function: of its parameters, its body, and the result, which is read after a sync of all that was spawned.
+-- The violations in a function: in its parameters, its body, and its result, which is read after a sync.
 abbrev pub function_violations : List Function → Function → List Violation
 function_violations functions f =
     let known = known_params f.params no_entries in
@@ -35,7 +35,7 @@ abbrev pub all_function_violations : List Function → List Function → List Vi
 all_function_violations functions [] = []
 all_function_violations functions (f ∷ fs) = function_violations functions f ++ all_function_violations functions fs
 
--- the functions whose name one before them has
+-- the functions that have the name of an earlier one
 abbrev pub functions_twice : List Function → List Function → List Violation
 functions_twice before [] = []
 functions_twice before (f ∷ fs) =
@@ -58,7 +58,7 @@ violations script =
 abbrev pub IsValid : Script → Type 0
 IsValid script = violations script ≡ []
 
--- a condition that the script violates, and no other one stands before it
+-- a condition that the script violates, with none before it
 pub record CheckFault (script : Script) (number at : ℕ) : Type 0 where
   pub violated : Contains (violations script) (violation number at)
   pub least : All (λ v. is_before v (violation number at) ≡ false) (violations script)

@@ -1,4 +1,4 @@
--- Words of the code's own clauses.
+-- Definitions for the contracts of private functions.
 use Rattle.std.specs.Prelude.{◌≡◌, ℕ, Bool, true, false, ◌||◌, ◌&&◌, not, List, [], ◌∷◌, map, is_some}
 use Rattle.std.specs.Str.{bytes_eq}
 use Rattle.script_grammar.specs.declared.tree.Function.{Function}
@@ -26,11 +26,11 @@ use Rattle.script_grammar.specs.declared.tree.Name.{Name}
 abbrev pub IsIndex : List Function → Table ℕ → Type 0
 IsIndex functions table = (name : List ℕ) → table.what name ≡ first_named functions name
 
--- the table has the first place of each of these names
+-- the table has the first index of each of these names
 abbrev pub IsPlaceIndex : List (List ℕ) → Table ℕ → Type 0
 IsPlaceIndex names table = (name : List ℕ) → table.what name ≡ place_in names name
 
--- a table of places by offset, and the names of a function's variables
+-- a table of slots by offset, and the names of a function's variables
 pub record FindingView : Type 0 where
   pub table : List ℕ
   pub names : List (List ℕ)
@@ -46,18 +46,18 @@ names_of table name = is_some (table.what name)
 abbrev pub without_name : List ℕ → NameSet → NameSet
 without_name x p y = not (bytes_eq x y) && p y
 
--- the pending set before a change, of the one after it
+-- the pending set before a change
 abbrev pub undo : Change → NameSet → NameSet
 undo (Added name) p = without_name name.items p
 undo (Cleared old) p = names_of (table_of old.map)
 
--- the same before several changes, which are undone from the last to the first
+-- the same before several changes, undone from the last to the first
 abbrev pub undone : List Change → NameSet → NameSet
 undone [] p = p
 undone (c ∷ cs) p = undo c (undone cs p)
 
--- What the walk knows before a statement: the variables, the pending set, whether what was pending where the innermost block
--- began may still be so, and the set that was pending there.
+-- The state of the walk before a statement: the declared variables, the pending set, whether what was pending at the start of the
+-- innermost block may still be, and the set that was pending there.
 pub record WalkState : Type 0 where
   pub known : Declared
   pub names : NameSet
@@ -93,7 +93,7 @@ keeps_act (act.While e a) = true
 keeps_act (act.Pfor x lo hi target c) = true
 keeps_act (act.Scope a) = false
 
--- It has blocks.
+-- It contains blocks.
 abbrev pub HasBlocks : {S : Type 0} → Act-F Act S → Type 0
 HasBlocks (act.If e a b) = Unit {0}
 HasBlocks (act.While e a) = Unit {0}
@@ -128,7 +128,7 @@ state_after_all functions ss state =
       before = state.before;
     }
 
--- what a checked script keeps
+-- what a checked script holds
 pub record IsChecked (script : Script) (first : Table ℕ) (spawns : List Bool) (names : List (List (List ℕ))) (places callees : List ℕ) : Type 0 where
   pub valid : IsValid script
   pub text : IsOfText script

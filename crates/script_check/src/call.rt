@@ -14,7 +14,7 @@ use crate::functions::Functions;
 use crate::symbols::SymbolTable;
 use script_grammar::{CallText, Expr, Function, Kind, Name, Param};
 
-/// Arguments, each of its parameter's kind.
+// Arguments, each of its parameter's kind.
 pub(crate) fn judge_arguments(
     symbols: &SymbolTable,
     found: &mut Findings,
@@ -35,7 +35,7 @@ pub(crate) fn judge_arguments(
     }
 }
 
-/// A call or spawn. The answer is the function's kind, where there is the function.
+// A call or spawn. Returns the function's kind, if the function exists.
 pub(crate) fn judge_call(
     functions: &Functions,
     symbols: &SymbolTable,
@@ -66,7 +66,7 @@ pub(crate) fn judge_call(
     }
 }
 
-/// The target of a parallel loop.
+// The target of a parallel loop.
 pub(crate) fn judge_target(symbols: &SymbolTable, found: &mut Findings, target: &Option<Name>)
     ensures { found.new ≡ earliest found.old (target_use target.now (known_in symbols.now) (pending_in symbols.now)) }
 {
@@ -75,7 +75,7 @@ pub(crate) fn judge_target(symbols: &SymbolTable, found: &mut Findings, target: 
     }
 }
 
-/// The call of a parallel loop, whose first argument is the number of the iteration.
+// The call of a parallel loop, whose first argument is the loop variable.
 pub(crate) fn judge_loop_call(
     functions: &Functions,
     symbols: &SymbolTable,
@@ -95,7 +95,7 @@ pub(crate) fn judge_loop_call(
     }
 }
 
-/// The same, where this is the function.
+// The same, for an existing function.
 fn judge_iterations(
     symbols: &SymbolTable,
     found: &mut Findings,

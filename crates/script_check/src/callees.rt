@@ -1,4 +1,4 @@
-// Which function each call of a script means, by the offset of the name.
+// Which function each call of a script means, by the name's offset.
 
 ghost use Rattle.std.specs.Prelude.{◌≡◌, ◌≤◌, ◌++◌, ◌∷◌, [], IfOk, OnOk, length};
 ghost use Rattle.script_check.specs.Places.{called_in, called_in_block, called_in_right, called_in_statement, function_names, table_of_callees, with_places};
@@ -12,7 +12,7 @@ use crate::places::set_place;
 use script_grammar::{Act, Function, Items, Name, Right, Stmt};
 use std::alloc::Global;
 
-/// The table of callees: it has, at the offset of each name by which a function is called, the index of the first function of that name.
+// Maps the offset of each called name to the index of the first function with that name.
 pub(crate) fn callees(
     alloc: Global,
     first: &NameTable<u32>,
@@ -28,7 +28,7 @@ pub(crate) fn callees(
     Ok(Items(table))
 }
 
-/// The index of the function of each of these names.
+// The index of the function of each of these names.
 fn put_each(
     table: &mut Vec<u16>,
     first: &NameTable<u32>,
@@ -46,7 +46,7 @@ fn put_each(
     Ok(())
 }
 
-/// The names by which a script calls functions, in the order of the text.
+// The names by which a script calls functions, in the order of the text.
 fn called_in(alloc: Global, functions: &[Function]) -> Result<Items<Name>, Memory>
     ensures { IfOk result (λ called. called ≡ called_in functions.now) }
 {

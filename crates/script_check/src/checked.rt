@@ -25,24 +25,24 @@ use std::alloc::Global;
 use std::marker::Model;
 use std::sync::Arc;
 
-/// A valid script, one that a text is of. It is seen as the script. It never changes, so all its copies are one place in memory.
+/// A valid script, one that a text is of. Contracts see the script. It never changes, so all its copies share one place in memory.
 #[derive(Drop)]
 pub struct Checked {
     kept: Arc<CheckedScript>,
 }
 
-/// A script with what a check found out of it.
+// A script with what its check found out.
 #[derive(Drop)]
 struct CheckedScript {
     script: Script,
     first: NameTable<u32>,
-    /// Whether the word `spawn` stands in the text of each function.
+    // Of each function, whether the word `spawn` is in its text.
     spawns: Items<bool>,
-    /// For each place of the text where a function is called its index.
+    // Maps the offset of a called name to the function's index.
     callees: Items<u16>,
-    /// The names of the variables of each function.
+    // The names of the variables of each function.
     names: Items<Items<NameText>>,
-    /// For each place of the text where a variable is named its place, which is its place among the names.
+    // Maps a name's byte offset to its variable's slot.
     places: Items<u16>,
 }
 
@@ -64,8 +64,8 @@ impl Model for Checked {
     ghost invariant = { λ c. let k = arc_value c.kept in IsChecked k.script (table_of k.first.map) k.spawns k.names k.places k.callees };
 }
 
-/// Checks a script that a text is of. `Ok` comes exactly for valid scripts, apart from want of memory; else the error tells the
-/// first violated condition: of those at the least offset the one of least number. The script is dropped on `Err`.
+/// Checks a script that a text is of. It is `Ok` exactly for valid scripts, unless memory runs out; else the error has the first
+/// violated condition: of those at the least offset the one with the least number. On `Err` the script is dropped.
 pub fn check(alloc: Global, script: Script) -> Result<Checked, CheckError>
     requires { IsOfText script }
     ensures ok { IfOk result (λ checked. checked ≡ script) }
@@ -81,7 +81,7 @@ pub fn check(alloc: Global, script: Script) -> Result<Checked, CheckError>
     }
 }
 
-/// What is kept of a valid script.
+// A valid script with its tables.
 fn keep_valid(alloc: Global, script: Script, first: NameTable<u32>) -> Result<Checked, Memory>
     requires valid { IsValid script }
     requires text { IsOfText script }
@@ -106,7 +106,7 @@ fn keep_valid(alloc: Global, script: Script, first: NameTable<u32>) -> Result<Ch
     )
 }
 
-/// The checked script of what a check found out.
+// Shares what a check found out.
 fn checked_of(alloc: Global, kept: CheckedScript) -> Result<Checked, Memory>
     requires { IsChecked kept.script (table_of kept.first.map) kept.spawns kept.names kept.places kept.callees }
     ensures { IfOk result (λ checked. checked ≡ kept.script) }
@@ -116,7 +116,7 @@ fn checked_of(alloc: Global, kept: CheckedScript) -> Result<Checked, Memory>
     })
 }
 
-/// All conditions of a script but that no function's name is doubled.
+// All conditions of a script but that no function is declared twice.
 fn judge_script(
     alloc: Global,
     found: &mut Findings,
@@ -137,7 +137,7 @@ fn judge_script(
 }
 
 impl Checked {
-    /// The script, which is valid and one that a text is of.
+    /// The script, which is valid and which some text is of.
     pub fn script(&self) -> &Script
         ensures script { result.now ≡ self.now }
         ensures valid { IsValid self.now }
@@ -146,7 +146,7 @@ impl Checked {
         &self.kept.script
     }
 
-    /// The same script, over the same memory.
+    /// Shares the script's memory.
     pub fn share(&self) -> Result<Checked, Memory>
         ensures { IfOk result (λ checked. checked ≡ self.now) }
     {
@@ -155,8 +155,7 @@ impl Checked {
         })
     }
 
-    /// The index of the first function named `main`. It is for who shows where a run begins: in `fn f() { return 0; } fn main() { return 0; }`
-    /// it is 1.
+    /// The index of the first function named `main`, where a run begins: 1 in `fn f() { return 0; } fn main() { return 0; }`.
     pub fn main(&self) -> u32
         ensures main { Some result ≡ first_named self.now.functions main_name }
         ensures within { result < length self.now.functions }
@@ -164,8 +163,8 @@ impl Checked {
         self.kept.first.get(b"main").unwrap_or(0)
     }
 
-    /// The index of the first function of this name. There is none exactly where no function has it. It is for who asks for a function by a name
-    /// that doesn't stand in the script: in `fn f() { return 0; } fn main() { return 0; }` that of `f` is 0, and `g` has none.
+    /// The index of the first function with this name, which needn't be one of the script's text. None exactly where no function
+    /// has it. In `fn f() { return 0; } fn main() { return 0; }` that of `f` is 0, and `g` has none.
     pub fn function_of(&self, name: &Name) -> Option<u32>
         ensures function { result ≡ first_named self.now.functions name.now.bytes }
         ensures within { IfSome result (λ i. i < length self.now.functions) }
@@ -173,7 +172,7 @@ impl Checked {
         self.kept.first.get(name.bytes.as_slice())
     }
 
-    /// The index of the function that is called by this name of the text. No name is compared: it stands in a table, by the name's offset.
+    /// The index of the function that this name of the text calls. A table has it by the name's offset, so no name is compared.
     #[inline(always)]
     pub fn callee(&self, name: &Name) -> u32
         requires { finds_callee self.now.functions name.now ≡ true }
@@ -182,7 +181,7 @@ impl Checked {
         u32::from(self.kept.callees.as_slice()[name.at as usize])
     }
 
-    /// Whether the word `spawn` stands in the text of the function at this place, if there is one.
+    /// Whether the word `spawn` is in the text of the function with this index, if there is one.
     pub fn spawns(&self, function: u32) -> bool
         ensures { result ≡ spawns_in (slice_get self.now.functions function) }
     {
@@ -192,14 +191,14 @@ impl Checked {
         }
     }
 
-    /// The names of the variables of the function at this place: of its parameters, and then of its `let` statements.
+    /// The names of the variables of the function with this index: of its parameters, and then of its `let` statements.
     pub fn names(&self, function: u32) -> Option<&Items<NameText>>
         ensures { option_copied result ≡ option_map variable_names (slice_get self.now.functions function) }
     {
         self.kept.names.as_slice().get(function as usize)
     }
 
-    /// For each place of the text where a variable is named its place, which is its place among the names of its function's variables.
+    /// Maps a name's byte offset to its variable's slot, its index among the names of its function's variables.
     #[inline(always)]
     pub fn places(&self) -> &[u16]
         ensures table { result.now ≡ table_of_places self.now.functions }

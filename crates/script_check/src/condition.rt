@@ -1,9 +1,9 @@
-// The conditions of a valid script, their numbers, and what they are called.
+// The conditions of a valid script, their numbers, and their names.
 
 ghost use Rattle.std.specs.Prelude.{◌≡◌};
 ghost use Rattle.script_check.specs.Conditions.{condition_of, condition_text, number_of, condition_name};
 
-/// The conditions of a valid script, by what violates them. `CheckError` says where each stands.
+// The conditions of a valid script, by what violates them. `CheckError` also has the offset.
 #[derive(Clone, Copy)]
 pub(crate) enum Condition {
     NoMain,
@@ -21,7 +21,7 @@ pub(crate) enum Condition {
 }
 
 impl Condition {
-    /// The number by which it is told.
+    // The number by which it is reported.
     pub(crate) fn number(self) -> u8
         ensures { result ≡ number_of self }
     {
@@ -41,7 +41,7 @@ impl Condition {
         }
     }
 
-    /// The condition of this number. Of a number that none has it is the last.
+    // The condition of this number, or the last one where none has it.
     fn of_number(number: u8) -> Condition
         ensures { result ≡ condition_of number }
     {
@@ -81,7 +81,7 @@ impl Condition {
     }
 }
 
-/// What a number of `CheckError::Bad` says, in words: that of `no main` is 1. A number that no condition has is taken for 12.
+/// The name of the condition with this number of `CheckError::Bad`: `no main` is 1. A number that no condition has counts as 12.
 pub fn condition_text(number: u8) -> &'static str
     ensures { result.now ≡ condition_text number }
 {

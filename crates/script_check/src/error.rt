@@ -1,4 +1,4 @@
-// Why a script is not valid.
+// Why a script isn't valid.
 
 ghost use Rattle.std.specs.Prelude.{◌≡◌};
 ghost use Rattle.script_check.specs.declared.error.CheckError.TheVariants as E;
@@ -26,7 +26,7 @@ pub enum CheckError {
     /// - 11 too many variables: the 257th variable's name
     /// - 12 array length: the number
     Bad { number: u8, at: u32 },
-    /// Want of memory.
+    /// There was no memory for the call.
     Memory,
 }
 

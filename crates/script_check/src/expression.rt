@@ -13,7 +13,7 @@ use crate::symbols::SymbolTable;
 use crate::variable::Variable;
 use script_grammar::{Expr, Kind, Name, ProductPart, SumPart};
 
-/// An expression's place, and its kind if it has one.
+// An expression's offset, and its kind if it has one.
 #[derive(Clone, Copy)]
 pub(crate) struct Seen {
     pub at: u32,
@@ -21,7 +21,7 @@ pub(crate) struct Seen {
 }
 
 impl Seen {
-    /// A number at this place.
+    // A number at this offset.
     fn int(at: u32) -> Seen
         ensures at { result.at ≡ at }
         ensures kind { result.kind ≡ Some kind.Int }
@@ -32,7 +32,7 @@ impl Seen {
         }
     }
 
-    /// Adds a finding where this has another kind than the one that is wanted.
+    // Adds a violation where the kind isn't the wanted one.
     pub(crate) fn want(self, found: &mut Findings, kind: Kind)
         ensures { found.new ≡ earliest found.old (wrong_kind kind self.kind self.at) }
     {
@@ -44,7 +44,7 @@ impl Seen {
     }
 }
 
-/// Whether there is another kind than the one that is wanted.
+// Whether the kind isn't the wanted one.
 fn is_other_kind(wanted: Kind, kind: Option<Kind>) -> bool
     ensures { result ≡ is_other_kind wanted kind }
 {
@@ -54,7 +54,7 @@ fn is_other_kind(wanted: Kind, kind: Option<Kind>) -> bool
     }
 }
 
-/// A name that is read or written as a scalar, and its kind.
+// A name that is read or written as a scalar, and its kind.
 pub(crate) fn use_scalar(symbols: &SymbolTable, found: &mut Findings, x: &Name) -> Option<Kind>
     ensures kind { result ≡ kind_of_variable ((known_in symbols.now).what x.now.bytes) }
     ensures found { found.new ≡ earliest found.old (scalar_use ((known_in symbols.now).what x.now.bytes) (pending_in symbols.now) x.now) }
@@ -76,7 +76,7 @@ pub(crate) fn use_scalar(symbols: &SymbolTable, found: &mut Findings, x: &Name) 
     }
 }
 
-/// A name that is read or written as an array.
+// A name that is read or written as an array.
 pub(crate) fn use_array(symbols: &SymbolTable, found: &mut Findings, x: &Name)
     ensures { found.new ≡ earliest found.old (array_use ((known_in symbols.now).what x.now.bytes) (pending_in symbols.now) x.now) }
 {
@@ -94,7 +94,7 @@ pub(crate) fn use_array(symbols: &SymbolTable, found: &mut Findings, x: &Name)
     }
 }
 
-/// An expression of any kind.
+// An expression of any kind.
 #[cycle(expressions)]
 #[tactic(auto, using(crate::proofs::LeastViolation::Earliest::earliest_append))]
 pub(crate) fn see(symbols: &SymbolTable, found: &mut Findings, e: &Expr) -> Seen
@@ -136,7 +136,7 @@ pub(crate) fn see(symbols: &SymbolTable, found: &mut Findings, e: &Expr) -> Seen
     }
 }
 
-/// An item of an array.
+// An item of an array.
 #[cycle(expressions)]
 #[tactic(auto, using(crate::proofs::LeastViolation::Earliest::earliest_append))]
 fn see_item(symbols: &SymbolTable, found: &mut Findings, x: &Name, i: &Expr) -> Seen
@@ -150,7 +150,7 @@ fn see_item(symbols: &SymbolTable, found: &mut Findings, x: &Name, i: &Expr) -> 
     Seen::int(x.at)
 }
 
-/// An expression that has to be of this kind. The answer is its place.
+// An expression that must be of this kind. Returns its offset.
 #[cycle(expressions)]
 #[tactic(auto, using(crate::proofs::LeastViolation::Earliest::earliest_append), unfolding(crate::specs::Expressions::wanted))]
 pub(crate) fn want(symbols: &SymbolTable, found: &mut Findings, kind: Kind, e: &Expr) -> u32
@@ -162,7 +162,7 @@ pub(crate) fn want(symbols: &SymbolTable, found: &mut Findings, kind: Kind, e: &
     seen.at
 }
 
-/// The operands of a sum after the first.
+// The operands of a sum after the first.
 #[cycle(expressions)]
 #[tactic(auto, using(crate::proofs::LeastViolation::Earliest::earliest_append))]
 fn want_summands(symbols: &SymbolTable, found: &mut Findings, parts: &[SumPart])
@@ -173,7 +173,7 @@ fn want_summands(symbols: &SymbolTable, found: &mut Findings, parts: &[SumPart])
     }
 }
 
-/// The operands of a product after the first.
+// The operands of a product after the first.
 #[cycle(expressions)]
 #[tactic(auto, using(crate::proofs::LeastViolation::Earliest::earliest_append))]
 fn want_factors(symbols: &SymbolTable, found: &mut Findings, parts: &[ProductPart])

@@ -1,4 +1,4 @@
-// Whether a table has the place of each variable that an expression names.
+// Whether a table has the slot of each variable that an expression names.
 
 ghost use Rattle.std.specs.Prelude.{◌≡◌, IfOk, map};
 ghost use Rattle.script_check.specs.Walk.{finds};
@@ -11,7 +11,7 @@ use script_grammar::{Expr, Items, Name, NameText, ProductPart, SumPart};
 use std::alloc::Global;
 use std::marker::Model;
 
-/// A table of places by offset, and variables with their places. It is seen as the table and the names.
+// A table of slots by offset, and variables with their slots. Contracts see the table and the names.
 #[derive(Drop)]
 struct Finding<'t> {
     table: &'t [u16],
@@ -26,9 +26,9 @@ impl<'t> Model for Finding<'t> {
     ghost view = { λ f. record { table = f.table.now; names = f.variables.now } };
 }
 
-/// Whether a table has the place of each variable that an expression names. It is for who has a table and no script, as tests do: of the
-/// names `x` and `y` a table of 0 and 1 has those of `x` at 0 and of `y` at 1, and not the other way round. The answer is `Memory` also where
-/// there are more names than a function has variables.
+/// Whether a table has the slot of each variable that an expression names. For testing tables without a script: of the names `x`
+/// and `y` a table of 0 and 1 has those of `x` at 0 and of `y` at 1, and not the other way round. More names than a function may
+/// have variables also give `Memory`.
 pub fn finds(
     alloc: Global,
     table: &[u16],
@@ -52,7 +52,7 @@ pub fn finds(
     Ok(in_expr(&finding, e))
 }
 
-/// Whether the table has the place of this name at its offset.
+// Whether the table has this name's slot at its offset.
 fn has_place(f: &Finding, x: &Name) -> bool
     ensures { result ≡ finds f.now x.now }
 {

@@ -1,4 +1,4 @@
-// The violated conditions that a walk meets, of which the least is kept.
+// The violated conditions that a walk meets, of which the first is kept.
 
 ghost use Rattle.std.specs.Prelude.{◌≡◌};
 ghost use Rattle.script_check.specs.Conditions.{number_of};
@@ -7,14 +7,14 @@ ghost use Rattle.script_check.specs.Violations.{violation_if, earliest};
 use crate::condition::Condition;
 use std::marker::Model;
 
-/// A violated condition: its number among the conditions, and the offset of its place.
+// A violated condition: its number, and an offset.
 #[derive(Clone, Copy)]
 pub(crate) struct Violation {
     pub at: u32,
     pub number: u8,
 }
 
-/// The least violation so far, by offset and then by number.
+// The first violation so far, by offset and then by number.
 #[derive(Drop)]
 pub(crate) struct Findings {
     least: Option<Violation>,
@@ -32,14 +32,14 @@ impl Model for Findings {
 impl Findings {
     ghost use Rattle.std.specs.Prelude.{None};
 
-    /// Nothing found.
+    // No violation.
     pub(crate) fn new() -> Findings
         ensures { result ≡ None }
     {
         Findings { least: None }
     }
 
-    /// Adds a condition's violation at this place, if it is broken there.
+    // Adds a violation at this offset, if the condition is broken there.
     pub(crate) fn add_violation_if(&mut self, is_broken: bool, condition: Condition, at: u32)
         ensures { self.new ≡ earliest self.old (violation_if is_broken (number_of condition) at) }
     {
@@ -55,7 +55,7 @@ impl Findings {
         }
     }
 
-    /// The least violation added.
+    // The first violation of those added.
     pub(crate) fn least(&self) -> Option<Violation>
         ensures { result ≡ self.now }
     {

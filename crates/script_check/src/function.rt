@@ -17,7 +17,7 @@ use crate::variable::Variable;
 use script_grammar::{Function, Param};
 use std::alloc::Global;
 
-/// The function named `main`: that there is one, and that it has no parameters.
+// That there is a function named `main`, and that it has no parameters.
 pub(crate) fn judge_main(functions: &Functions, found: &mut Findings)
     ensures { found.new ≡ earliest found.old (main_violations (function_named functions.now main_name)) }
 {
@@ -31,7 +31,7 @@ pub(crate) fn judge_main(functions: &Functions, found: &mut Findings)
     }
 }
 
-/// The parameters, which are known from then on.
+// Declares the parameters.
 fn declare_params(
     alloc: Global,
     symbols: &mut SymbolTable,
@@ -47,7 +47,7 @@ fn declare_params(
     Ok(())
 }
 
-/// A function. Its result is read after a sync of all that it spawned.
+// A function. Its result is read after a sync.
 pub(crate) fn judge_function(
     alloc: Global,
     functions: &Functions,

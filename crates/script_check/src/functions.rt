@@ -15,7 +15,7 @@ use script_grammar::Function;
 use std::alloc::Global;
 use std::marker::Model;
 
-/// The functions of a script with the index of the first of each name. They are seen as the list of the functions.
+// The functions of a script, with the index of the first of each name. Contracts see the list of the functions.
 #[derive(Drop)]
 pub(crate) struct Functions<'s> {
     list: &'s [Function],
@@ -40,7 +40,7 @@ impl<'s> Model for Functions<'s> {
 }
 
 impl<'s> Functions<'s> {
-    /// The functions of a script with their index.
+    // The functions of a script with their index.
     pub(crate) fn new(list: &'s [Function], first: &'s NameTable<u32>) -> Functions<'s>
         requires { IsIndex list.now (table_of first.now.map) }
         ensures { result ≡ list.now }
@@ -48,7 +48,7 @@ impl<'s> Functions<'s> {
         Functions { list, first }
     }
 
-    /// The first function of this name.
+    // The first function with this name.
     pub(crate) fn function_named(&self, name: &[u8]) -> Option<&Function>
         ensures { option_copied result ≡ function_named self.now name.now }
     {
@@ -59,8 +59,8 @@ impl<'s> Functions<'s> {
     }
 }
 
-/// The index of the first function of each name. A function whose name stands before is a finding. The answer is `Memory` also where
-/// there are more than 2^32 functions, which no text has.
+// The index of the first function of each name. A function whose name an earlier one has is a violation. More than 2^32 functions,
+// which no text has, also give `Memory`.
 pub(crate) fn index_functions(
     alloc: Global,
     found: &mut Findings,

@@ -31,8 +31,7 @@ pub use memory::Memory;
 
 fn is_shared<T: Send + Sync>() {}
 
-/// Checked scripts may be sent to other threads and read by several at once. The body asks for it, so that a field which forbids it
-/// fails the build.
+// Checked scripts may be sent to other threads and read by several at once. A field that forbids it makes this fail to compile.
 fn all_are_shared() {
     is_shared::<Checked>();
 }

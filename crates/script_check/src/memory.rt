@@ -1,10 +1,10 @@
-// Want of memory.
+// Out of memory.
 
 ghost use Rattle.std.specs.Prelude.{◌≡◌};
 
 use std::alloc::{AllocError, AllocFailed};
 
-/// Want of memory.
+/// There was no memory for the call.
 #[derive(Clone, Copy, Debug, PartialEq, Eq)]
 pub struct Memory;
 

@@ -9,7 +9,7 @@ use script_grammar::{
 };
 use std::alloc::Global;
 
-/// All of a function, but for its parameters.
+// Those of a whole function, but for its parameters.
 pub(crate) fn named_in(alloc: Global, f: &Function) -> Result<Items<Name>, Memory>
     ensures { IfOk result (λ named. named ≡ named_in_function f.now) }
 {
@@ -173,7 +173,7 @@ fn in_factors(named: &mut Vec<Name>, parts: &[ProductPart]) -> Result<(), Memory
     Ok(())
 }
 
-/// One name more.
+// Adds a name.
 pub(crate) fn add_name(named: &mut Vec<Name>, x: &Name) -> Result<(), Memory>
     ensures { OnOk result (named.new.items ≡ named.old.items ++ x.now ∷ []) }
 {

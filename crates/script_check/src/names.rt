@@ -1,4 +1,4 @@
-// What names stand for, and sets of names.
+// Tables by name, and sets of names.
 
 ghost use Rattle.std.specs.Prelude.{◌≡◌, ◌+◌, None, OnOk, is_some, if◌then◌else◌};
 ghost use Rattle.std.specs.Map.{update};
@@ -9,14 +9,14 @@ use crate::memory::Memory;
 use std::alloc::Global;
 use std::collections::BTreeMap;
 
-/// A table from names to what they stand for. The first entry of a name stays.
+// A table by name. A name keeps its first entry.
 #[derive(Drop)]
 pub(crate) struct NameTable<T: Copy> {
     map: BTreeMap<Vec<u8>, T>,
 }
 
 impl<T: Copy> NameTable<T> {
-    /// No entries.
+    // No entries.
     pub(crate) fn new(alloc: Global) -> NameTable<T>
         ensures { table_of result.map ≡ no_entries }
     {
@@ -25,21 +25,21 @@ impl<T: Copy> NameTable<T> {
         }
     }
 
-    /// What a name stands for.
+    // A name's entry.
     pub(crate) fn get(&self, name: &[u8]) -> Option<T>
         ensures { result ≡ (table_of self.now.map).what name.now }
     {
         self.map.get(name).copied()
     }
 
-    /// How many names there are.
+    // How many names there are.
     pub(crate) fn len(&self) -> usize
         ensures { result ≡ (table_of self.now.map).count }
     {
         self.map.len()
     }
 
-    /// Lets a name stand for this, unless it stands for something.
+    // Adds a name's entry, unless it has one.
     pub(crate) fn insert(&mut self, alloc: Global, name: &[u8], value: T) -> Result<(), Memory>
         ensures { OnOk result (table_of self.new.map ≡ with_first (table_of self.old.map) name.now value) }
     {
@@ -50,7 +50,7 @@ impl<T: Copy> NameTable<T> {
         Ok(())
     }
 
-    /// Takes out what a name stands for.
+    // Removes a name's entry.
     pub(crate) fn remove(&mut self, name: &[u8])
         ensures what { (table_of self.new.map).what ≡ update bytes_eq (table_of self.old.map).what name.now None }
         ensures count { (table_of self.new.map).count + (if is_some ((table_of self.old.map).what name.now) then 1 else 0) ≡ (table_of self.old.map).count }

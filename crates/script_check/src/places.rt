@@ -1,4 +1,4 @@
-// Where each name of a script finds its variable, by the offset of the name.
+// The slot of the variable that each name of a script means, by the name's offset.
 
 ghost use Rattle.std.specs.Prelude.{◌≡◌, ◌≤◌, All, IfOk, OnOk, length};
 ghost use Rattle.script_check.specs.Places.{each_names, named_in_function, table_of_places, variable_names, with_place, with_places};
@@ -10,7 +10,7 @@ use crate::variables::Variables;
 use script_grammar::{Function, Items, Name, NameText};
 use std::alloc::Global;
 
-/// The names of the variables of each function, and the table of places. Each offset of a variable's name has the variable's place there.
+// The names of the variables of each function, and the table of slots by the names' offsets.
 pub(crate) fn places(
     alloc: Global,
     functions: &[Function],
@@ -30,7 +30,7 @@ pub(crate) fn places(
     Ok((Items(each), Items(table)))
 }
 
-/// The variables of a function that names these after its parameters.
+// The variables of a function that names these besides its parameters.
 fn variables_of(alloc: Global, f: &Function, named: &[Name]) -> Result<Variables, Memory>
     requires named { named.now ≡ named_in_function f.now }
     requires few { length (variable_names f.now) ≤ most_variables }
@@ -46,7 +46,7 @@ fn variables_of(alloc: Global, f: &Function, named: &[Name]) -> Result<Variables
     Ok(variables)
 }
 
-/// The places of these names.
+// The slots of these names.
 fn put_each(table: &mut Vec<u16>, variables: &Variables, named: &[Name]) -> Result<(), Memory>
     ensures { OnOk result (table.new.items ≡ with_places variables.now table.old.items named.now) }
 {
@@ -57,7 +57,7 @@ fn put_each(table: &mut Vec<u16>, variables: &Variables, named: &[Name]) -> Resu
     Ok(())
 }
 
-/// A place after the table's end, with zeros before it up to there.
+// Adds a slot behind the table's end, with zeros up to it.
 pub(crate) fn set_place(table: &mut Vec<u16>, at: usize, place: u16) -> Result<(), Memory>
     ensures { OnOk result (table.new.items ≡ with_place table.old.items at place) }
 {

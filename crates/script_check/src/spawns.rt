@@ -1,4 +1,4 @@
-// What statements leave pending.
+// Which names statements leave pending.
 
 ghost use Rattle.std.specs.Prelude.{◌≡◌, IfOk, OnOk};
 ghost use Rattle.script_check.specs.Names.{no_names, union};
@@ -10,9 +10,9 @@ use crate::symbols::SymbolTable;
 use script_grammar::{Act, Right, Stmt};
 use std::alloc::Global;
 
-/// Adds the names that these statements leave pending where nothing was before. The answer tells whether what was pending before
-/// may still be so after them. The statements are taken from the last to the first, so that a sync, or a
-/// scope, at whose end a sync stands, is met before what it ends.
+// Adds the names that these statements leave pending where nothing was before. Returns whether what was pending before may still be
+// so after them. It goes from the last statement to the first, so that it meets a sync, also that at the end of a scope, before the
+// spawns that the sync ends.
 #[cycle(spawns)]
 pub(crate) fn collect(
     alloc: Global,
@@ -32,7 +32,7 @@ pub(crate) fn collect(
     Ok(true)
 }
 
-/// The same for one statement.
+// The same for one statement.
 #[cycle(spawns)]
 fn collect_one(alloc: Global, symbols: &mut SymbolTable, statement: &Stmt) -> Result<bool, Memory>
     ensures keeps { IfOk result (λ b. b ≡ keeps statement.now) }

@@ -26,7 +26,7 @@ use crate::variable::Variable;
 use script_grammar::{Act, CallText, Expr, Kind, Name, Number, Right, Stmt};
 use std::alloc::Global;
 
-/// A right side, before it is set.
+// A right side, before it is assigned.
 fn see_right(
     functions: &Functions,
     symbols: &SymbolTable,
@@ -54,7 +54,7 @@ fn see_right(
     }
 }
 
-/// `let x = R`.
+// `let x = R`.
 #[tactic(auto, using(crate::proofs::LeastViolation::Earliest::earliest_append))]
 fn judge_let(
     alloc: Global,
@@ -75,14 +75,14 @@ fn judge_let(
     spawn_into(alloc, symbols, x, right)
 }
 
-/// The kind of a variable that a right side of this kind declares. One of no kind calls no function that there is.
+// The kind of a variable that a right side of this kind declares. One without a kind calls an unknown function.
 fn declared_kind(kind: Option<Kind>) -> Kind
     ensures { result ≡ declared_kind kind }
 {
     kind.unwrap_or(Kind::Int)
 }
 
-/// `let a[n]`.
+// `let a[n]`.
 #[tactic(auto, using(crate::proofs::LeastViolation::Earliest::earliest_append))]
 fn judge_array(
     alloc: Global,
@@ -99,7 +99,7 @@ fn judge_array(
     Ok(())
 }
 
-/// `x = R`.
+// `x = R`.
 fn judge_set(
     alloc: Global,
     functions: &Functions,
@@ -117,7 +117,7 @@ fn judge_set(
     spawn_into(alloc, symbols, x, right)
 }
 
-/// A right side that is set: where the variable has a kind, that kind.
+// A right side that is assigned: it must have the variable's kind, if that has one.
 #[tactic(auto, using(crate::proofs::LeastViolation::Earliest::earliest_append), unfolding(crate::specs::Expressions::wanted))]
 fn want_right(
     functions: &Functions,
@@ -134,7 +134,7 @@ fn want_right(
     }
 }
 
-/// Makes a target pending, where the right side is a spawn.
+// Makes a target pending, where the right side is a spawn.
 fn spawn_into(
     alloc: Global,
     symbols: &mut SymbolTable,
@@ -149,7 +149,7 @@ fn spawn_into(
     }
 }
 
-/// `a[E] = E`.
+// `a[E] = E`.
 #[tactic(auto, using(crate::proofs::LeastViolation::Earliest::earliest_append))]
 fn judge_store(symbols: &SymbolTable, found: &mut Findings, x: &Name, i: &Expr, e: &Expr)
     ensures { found.new ≡ earliest found.old (array_use ((known_in symbols.now).what x.now.bytes) (pending_in symbols.now) x.now
@@ -159,7 +159,7 @@ fn judge_store(symbols: &SymbolTable, found: &mut Findings, x: &Name, i: &Expr, 
     want_two(symbols, found, i, e);
 }
 
-/// `pfor i in E..E into a call f(i, ..)`.
+// `pfor i in E..E into a call f(i, ..)`.
 #[tactic(auto, using(crate::proofs::LeastViolation::Earliest::earliest_append))]
 fn judge_loop(
     functions: &Functions,
@@ -179,7 +179,7 @@ fn judge_loop(
     judge_loop_call(functions, symbols, found, target.is_some(), call);
 }
 
-/// Two expressions that have to be numbers.
+// Two expressions that must be numbers.
 #[tactic(auto, using(crate::proofs::LeastViolation::Earliest::earliest_append), unfolding(crate::specs::Expressions::two_wanted))]
 fn want_two(symbols: &SymbolTable, found: &mut Findings, a: &Expr, b: &Expr)
     ensures { found.new ≡ earliest found.old (two_wanted kind.Int (reading_of a.now) (reading_of b.now) (known_in symbols.now) (pending_in symbols.now)) }
@@ -188,7 +188,7 @@ fn want_two(symbols: &SymbolTable, found: &mut Findings, a: &Expr, b: &Expr)
     want(symbols, found, Kind::Int, b);
 }
 
-/// The end of an `if` with these blocks: what was pending before may still be so where one of them keeps it.
+// The end of an `if`: what was pending before may still be so where one of these blocks keeps it.
 fn end_if(
     alloc: Global,
     symbols: &mut SymbolTable,
@@ -208,7 +208,7 @@ fn end_if(
     Ok(())
 }
 
-/// The beginning of a `while`: its condition and its body are judged with all that an earlier iteration may have left pending.
+// The start of a `while`: its condition and its body are judged with all that an earlier iteration may have left pending.
 fn begin_while(alloc: Global, symbols: &mut SymbolTable, body: &[Stmt]) -> Result<(), Memory>
     ensures { OnOk result (walk_state symbols.new ≡ record (walk_state symbols.old) { names = union (walk_state symbols.old).names (after body.now (walk_state symbols.old).names) }) }
 {
@@ -216,7 +216,7 @@ fn begin_while(alloc: Global, symbols: &mut SymbolTable, body: &[Stmt]) -> Resul
     Ok(())
 }
 
-/// Statements in a row.
+// A list of statements.
 #[cycle(statements)]
 pub(crate) fn judge_each(
     alloc: Global,
@@ -235,7 +235,7 @@ pub(crate) fn judge_each(
     Ok(())
 }
 
-/// The statements of a block. What they leave pending is dropped; the answer tells whether what was pending before may still be so.
+// The statements of a block. What they leave pending is dropped. Returns whether what was pending before may still be so.
 #[cycle(statements)]
 fn judge_block(
     alloc: Global,
@@ -253,7 +253,7 @@ fn judge_block(
     Ok(symbols.leave(outer))
 }
 
-/// One statement.
+// One statement.
 #[cycle(statements)]
 #[tactic(auto, using(crate::proofs::LeastViolation::Earliest::earliest_append))]
 fn judge(
@@ -297,8 +297,8 @@ fn judge(
     Ok(())
 }
 
-/// A statement that has blocks. Both blocks of an `if`, and that of a `scope`, are judged with what is pending before; a `while` is judged
-/// once, with what an earlier iteration may have left pending. A `scope` ends with a sync.
+// A statement with blocks. Both blocks of an `if`, and that of a `scope`, are judged with what is pending before; a `while` is
+// judged once, with what an earlier iteration may have left pending. A `scope` ends with a sync.
 #[cycle(statements)]
 #[tactic(auto, using(crate::proofs::LeastViolation::Earliest::earliest_append))]
 fn judge_nested(

@@ -1,4 +1,4 @@
-// What is known and what is pending before a statement.
+// What is declared and what is pending before a statement.
 
 ghost use Rattle.std.specs.Prelude.{◌≡◌, false, true, OnOk, ◌&&◌};
 ghost use Rattle.script_check.specs.Names.{no_names, names_if, with_name};
@@ -16,26 +16,26 @@ use script_grammar::Name;
 use std::alloc::Global;
 use std::mem;
 
-/// How many variables a function has at most at a place.
+// The most variables of a function.
 pub(crate) const MOST_VARIABLES: usize = 256;
 
-/// What undoes a change of the pending set: the name that came in, or the set that a sync emptied.
+// How to undo a change of the pending set: the name that was added, or the set that a sync emptied.
 #[derive(Drop)]
 pub(crate) enum Change {
     Added(Vec<u8>),
     Cleared(NameTable<()>),
 }
 
-/// An open block: what changed the pending set since it began, the newest last, and whether what was pending where it began may still
-/// be so.
+// An open block: the changes of the pending set since it began, the newest last, and whether what was pending at its start may
+// still be so.
 #[derive(Drop)]
 pub(crate) struct Block {
     changes: Vec<Change>,
     keeps: bool,
 }
 
-/// The variables that are known, the pending set, and the innermost open block. There is one set for all open blocks, and the end of a
-/// block undoes its changes: so each use of a name is one lookup, however many blocks are open, and no block copies the set.
+// The declared variables, the pending set, and the innermost open block. All open blocks share the set, and the end of a block
+// undoes its changes: so each use of a name is one lookup, however many blocks are open, and no block copies the set.
 #[derive(Drop)]
 pub(crate) struct SymbolTable {
     known: NameTable<Variable>,
@@ -44,7 +44,7 @@ pub(crate) struct SymbolTable {
 }
 
 impl SymbolTable {
-    /// Nothing known, nothing pending.
+    // Nothing declared, nothing pending.
     pub(crate) fn new(alloc: Global) -> SymbolTable
         ensures known { known_in result ≡ no_entries }
         ensures pending { pending_in result ≡ no_names }
@@ -59,21 +59,21 @@ impl SymbolTable {
         }
     }
 
-    /// What a name stands for.
+    // The variable with this name.
     pub(crate) fn variable(&self, name: &Name) -> Option<Variable>
         ensures { result ≡ (known_in self.now).what name.now.bytes }
     {
         self.known.get(name.bytes.as_slice())
     }
 
-    /// Whether a name is pending.
+    // Whether a name is pending.
     pub(crate) fn is_pending(&self, name: &Name) -> bool
         ensures { result ≡ pending_in self.now name.now.bytes }
     {
         self.pending.get(name.bytes.as_slice()).is_some()
     }
 
-    /// Makes a variable known, and adds a finding where its name is known or one too many.
+    // Declares a variable, and adds a violation where its name is declared already or it is one too many.
     pub(crate) fn declare(
         &mut self,
         alloc: Global,
@@ -95,7 +95,7 @@ impl SymbolTable {
         self.known.insert(alloc, bytes, variable)
     }
 
-    /// A spawn with this target.
+    // Records a spawn with this target.
     pub(crate) fn add_pending(&mut self, alloc: Global, name: &Name) -> Result<(), Memory>
         ensures { OnOk result (walk_state self.new ≡ record (walk_state self.old) { names = with_name name.now.bytes (walk_state self.old).names }) }
     {
@@ -108,7 +108,7 @@ impl SymbolTable {
         Ok(())
     }
 
-    /// Nothing is pending any more.
+    // Nothing is pending any more.
     pub(crate) fn sync(&mut self, alloc: Global) -> Result<(), Memory>
         ensures { OnOk result (walk_state self.new ≡ record (walk_state self.old) { names = no_names; keeps = false }) }
     {
@@ -118,7 +118,7 @@ impl SymbolTable {
         Ok(())
     }
 
-    /// The end of an `if`: what was pending before it stays so if one of the blocks keeps it.
+    // Ends an `if`: what was pending before it may still be so if one of the blocks keeps it.
     pub(crate) fn keep_if(&mut self, alloc: Global, keeps: bool) -> Result<(), Memory>
         ensures { OnOk result (walk_state self.new ≡ record (walk_state self.old) { names = names_if keeps (walk_state self.old).names; keeps = keeps && (walk_state self.old).keeps }) }
     {
@@ -128,7 +128,7 @@ impl SymbolTable {
         Ok(())
     }
 
-    /// Begins a block. The answer is the block around it, which `leave` wants back.
+    // Begins a block. Returns the block around it, which `leave` takes back.
     pub(crate) fn enter(&mut self, alloc: Global) -> Block
         ensures outer { result ≡ self.old.block }
         ensures state { walk_state self.new ≡ record (walk_state self.old) { keeps = true; before = pending_in self.old } }
@@ -140,7 +140,7 @@ impl SymbolTable {
         mem::replace(&mut self.block, inner)
     }
 
-    /// Ends a block: what was pending where it began is so again. The answer tells whether it may still be so after the block.
+    // Ends a block: what was pending at its start is so again. Returns whether it may still be so after the block.
     pub(crate) fn leave(&mut self, outer: Block) -> bool
         ensures keeps { result ≡ self.old.block.keeps }
         ensures state { walk_state self.new ≡ record (walk_state self.old) {
@@ -155,7 +155,7 @@ impl SymbolTable {
         mem::replace(&mut self.block, outer).keeps
     }
 
-    /// Undoes one change.
+    // Undoes one change.
     fn undo(&mut self, change: Change)
         ensures known { known_in self.new ≡ known_in self.old }
         ensures names { pending_in self.new ≡ undo change (pending_in self.old) }

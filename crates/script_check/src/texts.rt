@@ -1,4 +1,4 @@
-// Whether the texts of functions hold a spawn.
+// Whether the texts of functions contain a spawn.
 
 ghost use Rattle.std.specs.Prelude.{◌≡◌, IfOk};
 ghost use Rattle.script_check.specs.Spawns.{any_spawns, each_spawns, spawns, is_spawn};
@@ -7,7 +7,7 @@ use crate::memory::Memory;
 use script_grammar::{Act, Function, Items, Right, Stmt};
 use std::alloc::Global;
 
-/// For each function whether the word `spawn` stands in its text.
+// Of each function, whether the word `spawn` is in its text.
 pub(crate) fn each_spawns(alloc: Global, functions: &[Function]) -> Result<Items<bool>, Memory>
     ensures { IfOk result (λ each. each ≡ each_spawns functions.now) }
 {
@@ -18,7 +18,7 @@ pub(crate) fn each_spawns(alloc: Global, functions: &[Function]) -> Result<Items
     Ok(Items(each))
 }
 
-/// Whether the word `spawn` stands in these statements, in blocks inside them too.
+// Whether the word `spawn` is in these statements, also in their blocks.
 #[cycle(texts)]
 fn any_spawns(statements: &[Stmt]) -> bool
     ensures { result ≡ any_spawns statements.now }

@@ -1,8 +1,8 @@
-// What a function's name stands for.
+// What a function's names stand for.
 
 use script_grammar::Kind;
 
-/// A variable: a scalar of a kind, or an array of numbers.
+// A variable: a scalar of a kind, or an array of numbers.
 #[derive(Clone, Copy)]
 pub(crate) enum Variable {
     Scalar(Kind),

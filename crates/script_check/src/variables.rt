@@ -1,4 +1,4 @@
-// The variables of a function with their places.
+// The variables of a function with their slots.
 
 ghost use Rattle.std.specs.Prelude.{◌≡◌, ◌<◌, ◌≤◌, ◌++◌, ◌∷◌, [], IfOk, length};
 ghost use Rattle.script_check.specs.Places.{place_in, with_new_name};
@@ -10,7 +10,7 @@ use script_grammar::{Items, NameText};
 use std::alloc::Global;
 use std::marker::Model;
 
-/// Names of variables, with the first place of each. They are seen as the list of the names.
+// Names of variables, with the slot of each, the index of its first declaration. Contracts see the list of the names.
 #[derive(Drop)]
 pub(crate) struct Variables {
     names: Vec<NameText>,
@@ -33,7 +33,7 @@ impl Model for Variables {
 }
 
 impl Variables {
-    /// None.
+    // No names.
     pub(crate) fn new(alloc: Global) -> Variables
         ensures { result ≡ [] }
     {
@@ -43,7 +43,7 @@ impl Variables {
         }
     }
 
-    /// One name more.
+    // Adds a name.
     pub(crate) fn with(self, alloc: Global, name: &NameText) -> Result<Variables, Memory>
         requires { length self < most_variables }
         ensures { IfOk result (λ more. more ≡ self ++ name.now ∷ []) }
@@ -58,7 +58,7 @@ impl Variables {
         Ok(Variables { names, first })
     }
 
-    /// The same of a name that is new.
+    // Adds a name that is new.
     pub(crate) fn with_new(self, alloc: Global, name: &NameText) -> Result<Variables, Memory>
         requires { length (with_new_name self name.now) ≤ most_variables }
         ensures { IfOk result (λ more. more ≡ with_new_name self name.now) }
@@ -69,14 +69,14 @@ impl Variables {
         self.with(alloc, name)
     }
 
-    /// The place of a name.
+    // A name's slot.
     pub(crate) fn place(&self, name: &NameText) -> Option<u16>
         ensures { result ≡ place_in self.now name.now }
     {
         self.first.get(name.as_slice())
     }
 
-    /// The names in order.
+    // The names in order.
     pub(crate) fn names(self) -> Items<NameText>
         ensures { result ≡ self }
     {

@@ -1,7 +1,7 @@
--- The first fault of a list of tokens, and where there is none.
+-- The first fault of a list of tokens.
 --
--- A token is unexpected where no further tokens of the version make a script of it and those before it. Limits are judged only of a token that may
--- stand where it does.
+-- A token is unexpected where no script of the version begins with the tokens before it and this one. Limits are judged only of a
+-- token that is expected.
 use Rattle.std.specs.Prelude.{◌≡◌, ℕ, suc, ◌<◌, ◌≤◌, ◌⊎◌, Bool, true, false, List, [], ◌∷◌, ◌++◌, length, slice_get, Some, if◌then◌else◌}
 use Rattle.script_tokens.specs.declared.version.Version.{Version}
 use Rattle.script_tokens.specs.declared.token.Word.{Word}
@@ -22,37 +22,37 @@ abbrev pub functions_begun : List Terminal → ℕ
 functions_begun [] = 0
 functions_begun (t ∷ ts) = if is_fn t.word then suc (functions_begun ts) else functions_begun ts
 
--- in a script of the version that goes on with the token after these, the nesting at the token is n
+-- in a script of the version that begins with these tokens and this one, it stands at nesting n
 abbrev pub NestsAt : Version → List Terminal → Terminal → ℕ → Type 0
 NestsAt version before t n =
     (more : List Terminal) × (functions : List Function) × AreOf version (before ++ t ∷ more) × (d : IsScript (before ++ t ∷ more) functions)
     × (slice_get (functions_nesting d 0) (length before) ≡ Some n)
 
--- the token after these breaks the limit that a fault of that number names
+-- the token after these breaks the limit whose fault has that number
 pub data BreaksLimit (version : Version) (before : List Terminal) (t : Terminal) : ℕ → Type 0 where
   number_out_of_range : t.word ≡ word.Number → 9223372036854775807 < decimal 0 t.text → BreaksLimit version before t fault.number_out_of_range
   name_too_long : t.word ≡ word.Name → 32 < length t.text → BreaksLimit version before t fault.name_too_long
   nested_too_deep : {n : ℕ} → NestsAt version before t n → 64 < n → BreaksLimit version before t fault.nested_too_deep
   too_many_functions : t.word ≡ word.Fn → 1024 ≤ functions_begun before → BreaksLimit version before t fault.too_many_functions
 
--- the token after these is at fault: it is unexpected, or breaks a limit
+-- the token after these is at fault: it is unexpected, or it breaks a limit
 pub data IsFault (version : Version) (before : List Terminal) (t : Terminal) : ℕ → Type 0 where
   unexpected : (IsViable version (before ++ t ∷ []) → ⊥) → IsFault version before t fault.unexpected_token
   breaks_limit : {n : ℕ} → IsViable version (before ++ t ∷ []) → BreaksLimit version before t n → IsFault version before t n
 
--- what stands after the last token: where the text ends, and why there is no further token
+-- where the tokens end in the text, and why there is no further one
 pub record TextEnd : Type 0 where
   pub end : ℕ
   pub stop : LexEnd
 
--- The fault after all tokens, its number and its place: the unexpected end where the text ends and they are no script yet, else what stopped
--- them.
+-- The fault behind all tokens, its number and its offset: an unexpected end where the text ends and they are no script yet, else
+-- what stopped them.
 abbrev pub FaultAtStop : Version → ℕ → LexEnd → List Terminal → ℕ → ℕ → Type 0
 FaultAtStop version end End tokens number at = (number ≡ fault.unexpected_end) × (at ≡ end) × ((functions : List Function) → IsScriptOf version tokens functions → ⊥)
 FaultAtStop version end (NotAscii place) tokens number at = (number ≡ fault.not_ascii) × (at ≡ place)
 FaultAtStop version end (NoToken place) tokens number at = (number ≡ fault.unexpected_token) × (at ≡ place)
 
--- the first fault after the tokens `before`, its number and its place
+-- the first fault after the tokens `before`, its number and its offset
 abbrev pub FaultAfter : Version → TextEnd → List Terminal → List Terminal → ℕ → ℕ → Type 0
 FaultAfter version ending before [] number at = FaultAtStop version ending.end ending.stop before number at
 FaultAfter version ending before (t ∷ ts) number at =

@@ -1,8 +1,8 @@
--- The grammar, as derivations of lists of tokens. There is one for both versions: what version 2 has more begins with a token that no text
--- of version 1 has, and `AreOf` says so of a list of tokens.
+-- The grammar, as derivations of lists of tokens. It serves both versions: what version 2 adds begins with a token that no text of
+-- version 1 has, which `AreOf` says of a list of tokens.
 --
--- `IsX tokens x rest`: the tokens before `rest` derive from X, and `x` is their tree. Each constructor is a rule; its tokens
--- stand in the first index in the order of the text.
+-- `IsX tokens x rest`: the tokens before `rest` derive from X, and `x` is their tree. Each constructor is a rule; its tokens are in
+-- the first index, in the order of the text.
 use Rattle.std.specs.Prelude.{◌≡◌, ℕ, ◌+◌, ◌*◌, ◌-◌, pos, Bool, true, false, List, [], ◌∷◌, ◌++◌, Option, Some, None, if◌then◌else◌}
 use Rattle.script_tokens.specs.declared.version.Version.{Version}
 use Rattle.script_tokens.specs.declared.version.Version.TheVariants.{One, Two}
@@ -42,7 +42,7 @@ tok at w text = record { at = at; word = w; text = text }
 abbrev pub name_at : ℕ → List ℕ → Name
 name_at at text = record { bytes = text; at = at }
 
--- the number that is written by n and then these digits
+-- the number whose digits are those of n and then these
 abbrev pub decimal : ℕ → List ℕ → ℕ
 decimal n [] = n
 decimal n (digit ∷ digits) = decimal (10 * n + (digit - 48)) digits
@@ -288,7 +288,7 @@ abbrev pub has_scope : List Terminal → Bool
 has_scope [] = false
 has_scope (t ∷ ts) = if is_scope t.word then true else has_scope ts
 
--- the tokens are those of the version: in version 1 none is the word `scope`
+-- the tokens are of the version: in version 1 none is the word `scope`
 abbrev pub AreOf : Version → List Terminal → Type 0
 AreOf One tokens = has_scope tokens ≡ false
 AreOf Two tokens = Unit {0}
@@ -297,6 +297,6 @@ AreOf Two tokens = Unit {0}
 abbrev pub IsScriptOf : Version → List Terminal → List Function → Type 0
 IsScriptOf version tokens functions = AreOf version tokens × IsScript tokens functions
 
--- some further tokens make it a script of the version's grammar
+-- they are the beginning of some script of the version's grammar
 abbrev pub IsViable : Version → List Terminal → Type 0
 IsViable version tokens = (more : List Terminal) × (functions : List Function) × IsScriptOf version (tokens ++ more) functions

@@ -1,4 +1,4 @@
--- What a text means: the script that it is, or its first fault.
+-- What a text means: its script, or its first fault.
 use Rattle.std.specs.Prelude.{ℕ, ◌≤◌, List, [], length, map}
 use Rattle.script_tokens.specs.declared.token.Lexeme.{Lexeme}
 use Rattle.script_tokens.specs.declared.lexing.TheConstants.{MAX_BYTES}
@@ -17,20 +17,20 @@ token_of bytes l = tok l.start l.word (text_of bytes l)
 abbrev pub tokens_of : List ℕ → List Lexeme → List Terminal
 tokens_of bytes ls = map (token_of bytes) ls
 
--- The bytes are the text of this script: they are of its version, what stands after the version's line is cut into tokens up to the end, and
--- these are the script within the limits. Offsets are those in the bytes.
+-- The bytes are the text of this script: they are of its version, the tokens behind the version line reach to the end of the text,
+-- and they are the script, within the limits. Offsets are those in the bytes.
 pub record Text (bytes : List ℕ) (script : Script) : Type 0 where
   pub lexemes : List Lexeme
   pub cut : IsLexed bytes script.version lexemes End
   pub program : IsProgram script.version (tokens_of bytes lexemes) script.functions
 
--- a script that a text of at most a mebibyte is of: what a parse can give
+-- some text of at most a mebibyte is the script's: what a parse can return
 pub record IsOfText (script : Script) : Type 0 where
   pub bytes : List ℕ
   pub size : length bytes ≤ MAX_BYTES
   pub text : Text bytes script
 
--- the first fault of the bytes, its number and its place
+-- the first fault of the bytes, its number and its offset
 pub record SyntaxFault (bytes : List ℕ) (number at : ℕ) : Type 0 where
   pub lexemes : List Lexeme
   pub stop : LexEnd

@@ -4,8 +4,8 @@ ghost use Rattle.std.specs.Prelude.{◌≡◌};
 
 use std::marker::Model;
 
-/// A `Box` that contracts see as its value. A `Box` itself has its address as part of its value there, so that no two trees
-/// of boxes would be equal.
+/// A `Box` that contracts see as its value. Of a plain `Box` they see the address too, so that no two trees of boxes would be
+/// equal.
 #[derive(Drop)]
 pub struct Boxed<T>(pub Box<T>);
 

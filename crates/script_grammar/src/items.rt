@@ -4,7 +4,7 @@ ghost use Rattle.std.specs.Prelude.{◌≡◌};
 
 use std::marker::Model;
 
-/// A `Vec` that contracts see as the list of its items, also inside a type that holds itself.
+/// A `Vec` that contracts see as the list of its items, also inside a recursive type.
 #[derive(Drop)]
 pub struct Items<T>(pub Vec<T>);
 

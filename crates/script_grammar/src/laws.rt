@@ -1,8 +1,8 @@
-//! What holds of every script that a text is of. Each function does nothing; its contract is the law.
+//! Laws of every script that a text can be of. Each function does nothing, and is proved to ensure its law.
 
 ghost use Rattle.script_grammar.specs.Text.{FunctionsAreFew};
 
-/// A script of a text has at most 1024 functions.
+/// A script that a text is of has at most 1024 functions.
 #[tactic(auto, using(crate::proofs::Counting::functions_are_few))]
 pub fn functions_are_few()
     ensures { FunctionsAreFew }

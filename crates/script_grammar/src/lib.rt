@@ -1,8 +1,8 @@
-//! Scripts as trees, and the grammar that says of which tree a text is.
+//! Scripts as trees, and the grammar: which text is which tree's.
 //!
-//! The tree types stand in [`tree`]. `Items` and `Boxed` are `Vec` and `Box` as contracts want them: seen as the list, and as
-//! the value, so that two trees are equal in a contract exactly where they are the same tree. `NameText` is a name's bytes, seen
-//! as their list.
+//! The tree types are in [`tree`]. `Items` and `Boxed` are `Vec` and `Box` for contracts, which see the list and the value, so that
+//! two trees are equal in a contract exactly where they are the same tree. `NameText` holds a name's bytes, which contracts see as
+//! a list.
 #![tactic(auto)]
 
 pub mod boxed;
@@ -22,7 +22,7 @@ pub use tree::{
 
 fn is_shared<T: Send + Sync>() {}
 
-/// Scripts may be sent to other threads and read by several at once. The body asks for it, so that a field which forbids it fails the build.
+// Scripts may be sent to other threads and read by several at once. A field that forbids it makes this fail to compile.
 fn all_are_shared() {
     is_shared::<Script>();
 }

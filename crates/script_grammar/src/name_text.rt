@@ -6,17 +6,17 @@ ghost use Rattle.std.specs.Str.{bytes_eq};
 
 use std::marker::Model;
 
-/// How many bytes a name has at most.
+/// The most bytes of a name.
 pub const LONGEST_NAME: usize = 32;
 
-/// How many of them the number has by which names are told apart.
+// How many of them are compared as one number.
 const COMPARED_FIRST: u8 = 8;
 
-/// A name's bytes, in place, so that a copy takes no memory and two names are mostly compared as two numbers. Contracts see them as
-/// their list.
+/// A name's bytes, stored inline, so that a copy takes no memory and two names are mostly compared as two numbers. Contracts see
+/// the list of the bytes.
 #[derive(Drop)]
 pub struct NameText {
-    /// The bytes, and zeros after them.
+    /// The bytes, filled up with zeros.
     room: [u8; 32],
     length: u8,
 }
@@ -85,7 +85,7 @@ impl NameText {
     }
 }
 
-/// Whether both are the same, byte by byte. No call stands here, so that a search has no frame.
+// Whether both are the same, byte by byte. It calls nothing, so that a search needs no frame.
 #[inline(always)]
 fn same_bytes(left: &[u8], right: &[u8]) -> bool
     ensures { result ≡ bytes_eq left.now right.now }
@@ -101,7 +101,7 @@ fn same_bytes(left: &[u8], right: &[u8]) -> bool
     true
 }
 
-/// The first bytes as a number.
+// The first bytes as a number.
 #[inline(always)]
 fn front_number(room: &[u8; 32]) -> u64
     ensures number { result ≡ from_le_bytes w64 (take 8 room.now) }

@@ -1,6 +1,7 @@
-// The tree of a script: what a parser gives, and what everything above works on.
+// The tree of a script: what the parser returns, and all above works on.
 //
-// Every `at` is an offset in bytes from the script's start. Parentheses are not kept, and a sum or a product of one operand is that operand.
+// Every `at` is an offset in bytes from the script's start. Parentheses aren't kept, and a sum or a product of one operand is that
+// operand.
 
 ghost use Rattle.std.specs.Prelude.{◌≡◌};
 
@@ -9,7 +10,7 @@ use crate::items::Items;
 use crate::name_text::NameText;
 use script_tokens::Version;
 
-/// A name's bytes with the offset of its first one.
+/// A name's bytes, and the offset of the first one.
 #[derive(Drop)]
 pub struct Name {
     pub bytes: NameText,
@@ -17,7 +18,7 @@ pub struct Name {
 }
 
 impl Name {
-    /// The same name at the same place.
+    /// The same name with the same offset.
     #[inline(always)]
     pub fn copy(&self) -> Name
         ensures { result ≡ self.now }
@@ -29,10 +30,10 @@ impl Name {
     }
 }
 
-/// A script: its version, and its functions in the order of the text. The run begins at the one named `main`.
+/// A script: its version, and its functions in the order of the text. A run begins with the one named `main`.
 #[derive(Drop)]
 pub struct Script {
-    /// The version that the text is of. Scopes stand in version 2 alone.
+    /// The version that the text is of. Only version 2 has scopes.
     pub version: Version,
     /// The functions, in the order of the text.
     pub functions: Items<Function>,
@@ -114,7 +115,7 @@ pub enum Act {
     If(Expr, Items<Stmt>, Items<Stmt>),
     /// `while E { .. }`
     While(Expr, Items<Stmt>),
-    /// `pfor i in E..E into a call f(i, ..);`, where `args` are those after the loop name.
+    /// `pfor i in E..E into a call f(i, ..);`, where `args` are those behind the loop variable.
     Pfor {
         var: Name,
         lo: Expr,
@@ -122,7 +123,7 @@ pub enum Act {
         target: Option<Name>,
         call: CallText,
     },
-    /// `scope { .. }`, in version 2 alone: its block is one level further in the pedigree.
+    /// `scope { .. }`, in version 2 only: its block is one level deeper in the pedigree.
     Scope(Items<Stmt>),
 }
 
@@ -143,9 +144,9 @@ pub enum Expr {
     Item(Name, Boxed<Expr>),
     /// `-E`
     Neg(u32, Boxed<Expr>),
-    /// `same(E, E)`: whether two ids are one.
+    /// `same(E, E)`: whether two ids are the same.
     Same(u32, Boxed<Expr>, Boxed<Expr>),
-    /// `older(E, E)`: whether the first id's pedigree stands before the second's.
+    /// `older(E, E)`: whether the first id's pedigree precedes the second's.
     Older(u32, Boxed<Expr>, Boxed<Expr>),
     Compare(Boxed<Expr>, Comparison, Boxed<Expr>),
     /// The first operand, and at least one more with its sign.

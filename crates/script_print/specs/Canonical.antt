@@ -1,7 +1,7 @@
--- The canonical text of a script. That of version 2 begins with the version's line.
+-- The canonical text of a script. That of version 2 begins with the version line.
 --
--- Offsets play no part in it. A statement stands on a line of its own, and what stands inside braces is indented by two spaces more
--- than what stands around them.
+-- Offsets play no part in it. Each statement has a line of its own, and what is inside braces is indented by two spaces more than
+-- what is around them.
 use Rattle.std.specs.Prelude.{ℕ, Bool, true, false, List, [], ◌∷◌, ◌++◌, Option, Some, None, codes, flat_map, nat_lt, if◌then◌else◌}
 use Rattle.std.specs.Fmt.{signed_decimal}
 use Rattle.script_tokens.specs.declared.version.Version.{Version}
@@ -35,7 +35,7 @@ use Rattle.script_grammar.specs.declared.tree.Script.{Script}
 
 -- Expressions.
 
--- An expression's text, and how strongly it holds together: a comparison by 1, a sum by 2, a product by 3, a unary minus by 4, all else by 5.
+-- An expression's text and its precedence: of a comparison 1, of a sum 2, of a product 3, of a unary minus 4, of all else 5.
 pub record Printed : Type 0 where
   pub precedence : ℕ
   pub text : List ℕ
@@ -43,7 +43,7 @@ pub record Printed : Type 0 where
 abbrev pub at_precedence : ℕ → List ℕ → Printed
 at_precedence precedence text = record { precedence = precedence; text = text }
 
--- an operand, which stands in parentheses exactly where its precedence is below the need
+-- an operand, in parentheses exactly where its precedence is too low
 abbrev pub operand : ℕ → Printed → List ℕ
 operand need x = if nat_lt x.precedence need then codes "(" ++ x.text ++ codes ")" else x.text
 
@@ -68,7 +68,7 @@ product_sign_text Modulo = codes "%"
 abbrev pub spaced : List ℕ → List ℕ
 spaced sign = codes " " ++ sign ++ codes " "
 
--- one node, with what its parts give in their places
+-- the text of one node, of the texts of its parts
 abbrev pub expr_at : Expr-F Printed (List ℕ) (List ℕ) → Printed
 expr_at (node.Number n) = at_precedence 5 (signed_decimal n.value)
 expr_at (node.Var x) = at_precedence 5 x.bytes
@@ -119,7 +119,7 @@ right_text (right.New at) = codes "new"
 right_text (right.Call at c) = codes "call " ++ call_text c
 right_text (right.Spawn at c) = codes "spawn " ++ call_text c
 
--- a loop has no spaces round its `..`, and the loop name is the first argument
+-- a loop has no spaces around its `..`, and the loop variable is its first argument
 abbrev pub range_text : Name → Expr → Expr → List ℕ
 range_text i lo hi = codes "pfor " ++ i.bytes ++ codes " in " ++ expr_text lo ++ codes ".." ++ expr_text hi
 
@@ -130,11 +130,11 @@ abbrev pub into_text : Option Name → List ℕ
 into_text None = []
 into_text (Some a) = codes " into " ++ a.bytes
 
--- the text of a statement, whose first line is indented by the margin: two spaces for each open brace
+-- the text of a statement by its margin, which is two spaces for each open brace
 abbrev pub Indented : Type 0
 Indented = (margin : List ℕ) → List ℕ
 
--- a block's statements stand on lines of their own between its braces
+-- a block has its statements on lines of their own between its braces
 abbrev pub block_text : List Indented → Indented
 block_text block margin = codes "{\n" ++ flat_map (λ stmt. stmt (margin ++ codes "  ")) block ++ margin ++ codes "}"
 
@@ -143,7 +143,7 @@ abbrev pub else_text : List Indented → Indented
 else_text [] margin = []
 else_text (stmt ∷ stmts) margin = codes " else " ++ block_text (stmt ∷ stmts) margin
 
--- what a statement does, after its margin
+-- the text of a statement behind its margin
 abbrev pub act_at : Act-F Indented Indented → Indented
 act_at (act.Let x r) margin = codes "let " ++ x.bytes ++ codes " = " ++ right_text r ++ codes ";"
 act_at (act.Array a n) margin = codes "let " ++ a.bytes ++ codes "[" ++ signed_decimal n.value ++ codes "];"
@@ -167,7 +167,7 @@ act_text = fold-Act Indented Indented act_at line_at
 abbrev pub stmt_text : Stmt → Indented
 stmt_text = fold-Stmt Indented Indented act_at line_at
 
--- the lines of these statements
+-- the lines of some statements
 abbrev pub stmts_text : List Stmt → Indented
 stmts_text stmts margin = flat_map (λ stmt. stmt_text stmt margin) stmts
 
@@ -192,7 +192,7 @@ function_text f = head_text f ++ stmts_text f.body (codes "  ") ++ codes "  retu
 
 -- Scripts.
 
--- what the text of a version begins with
+-- what a text of the version begins with
 abbrev pub version_text : Version → List ℕ
 version_text One = []
 version_text Two = version_line

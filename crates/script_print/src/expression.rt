@@ -17,7 +17,7 @@ const NEGATION: u8 = 4;
 
 const ATOM: u8 = 5;
 
-// How strongly an expression holds together.
+// How strongly an expression binds.
 fn precedence(e: &Expr) -> u8
     ensures { result ≡ (printed e.now).precedence }
 {
@@ -74,7 +74,7 @@ pub(crate) fn write_expr(e: &Expr, text: &mut Vec<u8>) -> Result<(), Memory>
     }
 }
 
-// An operand where one of at least the precedence `need` may stand bare.
+// An operand, in parentheses where its precedence is below `need`.
 #[cycle(expressions)]
 fn write_operand(need: u8, x: &Expr, text: &mut Vec<u8>) -> Result<(), Memory>
     ensures { OnOk result (text.new.items ≡ text.old.items ++ operand need (printed x.now)) }

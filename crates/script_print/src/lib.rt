@@ -1,8 +1,8 @@
 //! The canonical text of a script.
 //!
-//! Two scripts that are equal apart from offsets have one canonical text. Where texts are of them, it is the text of a script that is equal
-//! to them apart from offsets. `specs/Canonical.antt` says what it is: how lines are indented, where spaces stand, and which operands stand in
-//! parentheses.
+//! Two scripts that differ only in offsets have the same canonical text. Of a script that some text is of, the canonical text is
+//! again that script's, but for offsets. `specs/Canonical.antt` says what it is: how lines are indented, where spaces go, and which
+//! operands have parentheses.
 #![tactic(auto)]
 
 mod expression;

@@ -13,9 +13,9 @@ use std::alloc::Global;
 
 /// The canonical text of a script.
 ///
-/// Of a script that a text is of, it is the text of the same tree apart from offsets, and so its own canonical text. A tree that no text gives,
-/// such as a sum of one term, has one too. It can have more bytes than the text that the script was read from, also more than a text may have
-/// that is read again. The time is linear in its length. `Err` is want of memory alone.
+/// Of a script that some text is of, it is a text of the same tree but for offsets, and so its own canonical text. A tree that no
+/// text gives, such as a sum of one term, has one too. It can be longer than the text that the script was read from, and longer
+/// than a text may be. The time is linear in its length. Only running out of memory makes it `Err`.
 pub fn print_script(alloc: Global, script: &Script) -> Result<Vec<u8>, Memory>
     ensures text { IfOk result (λ text. text.items ≡ canonical script.now) }
     ensures same_tree { IfOk result (λ text. IsOfText script.now → IsTextOf text.items script.now) }
@@ -27,7 +27,7 @@ pub fn print_script(alloc: Global, script: &Script) -> Result<Vec<u8>, Memory>
     Ok(text)
 }
 
-// The line of version 2; a text of version 1 begins with its functions.
+// The version line; a text of version 1 begins with its functions.
 fn write_version(version: Version, text: &mut Vec<u8>) -> Result<(), Memory>
     ensures { OnOk result (text.new.items ≡ text.old.items ++ version_text version) }
 {

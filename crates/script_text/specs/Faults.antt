@@ -1,4 +1,4 @@
--- All faults of a text, each by itself: whether it is one depends on no other.
+-- All faults of a text, each defined without the others.
 use Rattle.std.specs.Prelude.{◌≡◌, ℕ, ◌≤◌, List, ◌∷◌, ◌++◌, length, Some, slice_get}
 use Rattle.script_tokens.specs.declared.token.Lexeme.{Lexeme}
 use Rattle.script_tokens.specs.declared.lexing.LexEnd.{LexEnd}
@@ -17,9 +17,9 @@ pub record HasTokens (bytes : List ℕ) (tokens : List Terminal) (stop : LexEnd)
   pub cut : IsLexed bytes (version_of bytes) lexemes stop
   pub same : tokens_of bytes lexemes ≡ tokens
 
--- The text has a fault of this number at this offset, whatever else is wrong with it: a byte from 128 on, also in a comment; a byte at which no
--- token, blank or comment begins; a token with which those so far begin no script, or one that may stand there and breaks a limit; or its end,
--- where the tokens begin a script and aren't one.
+-- The text has a fault of this number at this offset, whatever else is wrong with it: a byte from 128 on, also in a comment; a byte
+-- with which no token, blank or comment begins; a token with which the ones up to it begin no script, or one that is expected and
+-- breaks a limit; or the end, where the tokens begin a script and aren't one.
 pub data HasFault (bytes : List ℕ) : (number : ℕ) → (at : ℕ) → Type 0 where
   not_ascii : {at b : ℕ} → slice_get bytes at ≡ Some b → 128 ≤ b → HasFault bytes fault.not_ascii at
   no_token : {at : ℕ} {tokens : List Terminal} → HasTokens bytes tokens (NoToken at) → HasFault bytes fault.unexpected_token at
@@ -28,7 +28,7 @@ pub data HasFault (bytes : List ℕ) : (number : ℕ) → (at : ℕ) → Type 0 
   unexpected_end : {tokens : List Terminal} → HasTokens bytes tokens End → IsViable (version_of bytes) tokens →
       ((functions : List Function) → IsScriptOf (version_of bytes) tokens functions → ⊥) → HasFault bytes fault.unexpected_end (length bytes)
 
--- It stands at the first offset at which the text has a fault, and is the one of the least number of those there.
+-- It is at the first offset at which the text has a fault, and has the least number of those there.
 pub record IsFirstFault (bytes : List ℕ) (number at : ℕ) : Type 0 where
   pub has : HasFault bytes number at
   pub first : (n place : ℕ) → HasFault bytes n place → at ≤ place

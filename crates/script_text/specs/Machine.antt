@@ -1,9 +1,9 @@
--- A machine that reads tokens from left to right and knows what may come next. It serves the clauses of private functions and the proofs;
--- what a script is, and what its fault is, is said without it. There is one machine for both versions: a text of version 1 has no token
--- `scope`, and no symbol of the machine has to be that token.
+-- A machine that reads tokens from left to right and knows what may come next. Private functions' contracts and proofs use it; what
+-- a script is, and what its fault is, is defined without it. It serves both versions: a text of version 1 has no token `scope`, and
+-- the machine never requires one.
 --
--- Its state is a stack: the symbols that are still expected, the nearest first. Each rule of a symbol takes one token and puts
--- symbols in the place of its own. A closing bracket is expected only once its opening one was taken.
+-- Its state is a stack of the symbols that are still expected, the next one on top. Each rule of a symbol takes one token and
+-- replaces the symbol by others. A closing bracket is expected only once its opening one was read.
 use Rattle.std.specs.Prelude.{ℕ, suc, List, [], ◌∷◌, ◌++◌, Option, Some, None, option_and_then, Bool, true, false, ◌&&◌, ◌||◌, nat_eq, nat_lt, length, if◌then◌else◌}
 use Rattle.script_tokens.specs.declared.token.Word.{Word}
 use Rattle.script_tokens.specs.declared.token.Word.TheVariants as word
@@ -14,10 +14,10 @@ use Rattle.script_grammar.specs.Fault.{is_fn, TextEnd}
 use Rattle.script_grammar.specs.FaultNumbers as fault
 
 pub data Sym : Type 0 where
-  -- a token of that word, or the name with these bytes
+  -- a token of this word, or the name with these bytes
   only : Word → Sym
   exactly : List ℕ → Sym
-  -- the arguments of a loop's call, whose first is that name
+  -- the arguments of a loop's call, of which the first is this name
   loop_args : List ℕ → Sym
   factor index pair more_factors more_terms comparison minus_end : Sym
   args more_args call_args right into loop_name : Sym
@@ -29,7 +29,7 @@ pub record Production : Type 0 where
   pub fits : List ℕ → Bool
   pub rest : List ℕ → List Sym
 
--- that word, whatever its text, and then these symbols
+-- this word, whatever its text, and then these symbols
 abbrev pub rule : Word → List Sym → Production
 rule w r = record { first = w; fits = λ _. true; rest = λ _. r }
 
@@ -87,14 +87,14 @@ same_bytes [] (b ∷ ys) = false
 same_bytes (a ∷ xs) [] = false
 same_bytes (a ∷ xs) (b ∷ ys) = nat_eq a b && same_bytes xs ys
 
--- an expression, or a sum, is a factor with what may follow
+-- an expression or a sum: a factor and what may follow
 abbrev pub sum_then : List Sym → List Sym
 sum_then s = factor ∷ more_factors ∷ more_terms ∷ s
 
 abbrev pub expr_then : List Sym → List Sym
 expr_then s = factor ∷ more_factors ∷ more_terms ∷ comparison ∷ s
 
--- the rules of a factor, with what stands after it
+-- the rules of a factor, and what follows it
 abbrev pub factor_rules : List Sym → List Production
 factor_rules s =
     rule word.Name (index ∷ s)
@@ -170,7 +170,7 @@ rules param = rule word.Name [] ∷ rule word.Id (only word.Name ∷ []) ∷ []
 rules answer = rule word.Arrow (only word.Id ∷ []) ∷ []
 rules body = rule word.OpenBlock (stmts ∷ only word.Return ∷ expr_then (only word.Semicolon ∷ only word.CloseBlock ∷ [])) ∷ []
 
--- may be left out
+-- may be omitted
 abbrev pub is_empty : Sym → Bool
 is_empty index = true
 is_empty more_factors = true
@@ -197,7 +197,7 @@ choose (Some r) b s o = Some (r ++ s)
 choose None true s o = o
 choose None false s o = None
 
--- the stack after a token, where it may come
+-- the stack after a token, where the token is expected
 abbrev pub consume : Word → List ℕ → List Sym → Option (List Sym)
 consume w text [] = None
 consume w text (a ∷ s) = choose (find_rule w text (rules a)) (is_empty a) s (consume w text s)
@@ -227,16 +227,16 @@ abbrev pub onward : Option (List Sym) → (List Sym → Nestings) → Nestings
 onward None go = None
 onward (Some s) go = option_and_then (λ p. Some (nesting s ∷ p.0, p.1)) (go s)
 
--- the nesting after each token, and the stack in the end
+-- the nesting after each token, and the final stack
 abbrev pub nestings : List Terminal → List Sym → Nestings
 nestings [] s = Some ([], s)
 nestings (t ∷ ts) s = onward (consume t.word t.text s) (nestings ts)
 
--- a fault: its number and its place
+-- a fault: its number and its offset
 abbrev pub PlacedFault : Type 0
 PlacedFault = ℕ × ℕ
 
--- the limit that a token breaks where it may come, with n functions before, and nested d deep
+-- the limit that an expected token breaks, behind n functions, and nested d deep
 abbrev pub broken : ℕ → Terminal → ℕ → Option ℕ
 broken n t d =
     if same_word t.word word.Number && nat_lt 9223372036854775807 (decimal 0 t.text) then Some fault.number_out_of_range

@@ -1,4 +1,4 @@
--- The answer of the call that gives the token which comes next.
+-- What `next_token` returns.
 use Rattle.std.specs.Prelude.{◌≡◌, ℕ, List, Result, Ok, Err}
 use Rattle.script_tokens.specs.declared.version.Version.{Version}
 use Rattle.script_tokens.specs.declared.token.Token as token
@@ -9,7 +9,7 @@ use Rattle.script_grammar.specs.FaultNumbers as fault
 use Rattle.script_text.specs.declared.error.SyntaxError.{SyntaxError}
 use Rattle.script_text.specs.declared.error.SyntaxError.TheVariants.{Bad}
 
--- why no token comes next, as an error
+-- why there is no next token, as an error
 abbrev pub error_of : Misfit → SyntaxError
 error_of (NotAscii at) = Bad fault.not_ascii at
 error_of (NoToken at) = Bad fault.unexpected_token at
@@ -18,6 +18,6 @@ abbrev pub next_answer : Result token.Token Misfit → Result token.Token Syntax
 next_answer (Ok t) = Ok t
 next_answer (Err misfit) = Err (error_of misfit)
 
--- the token of a version that comes next from an offset on, or the error
+-- the next token of a version from an offset on, or the error
 abbrev pub NextAnswer : Version → List ℕ → ℕ → Result token.Token SyntaxError → Type 0
 NextAnswer version bytes from result = (next : Result token.Token Misfit) × NextToken version bytes from next × (result ≡ next_answer next)

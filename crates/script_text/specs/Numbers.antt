@@ -1,4 +1,4 @@
--- The numbers of the faults of a text, and what they are called.
+-- The numbers of the faults of a text, and their names.
 use Rattle.std.specs.Prelude.{ℕ, nat_eq, List, [], ◌∷◌, if◌then◌else◌, codes}
 use Rattle.script_grammar.specs.FaultNumbers as fault
 use Rattle.script_text.specs.declared.fault.TextFault.{TextFault}
@@ -13,7 +13,7 @@ number_of NestedTooDeep = fault.nested_too_deep
 number_of UnexpectedEnd = fault.unexpected_end
 number_of TooManyFunctions = fault.too_many_functions
 
--- the fault among these that has this number, and the last one where none has
+-- the fault with this number among these, or the last one
 abbrev pub fault_among : List TextFault → ℕ → TextFault
 fault_among [] number = TooManyFunctions
 fault_among (fault ∷ faults) number = if nat_eq number (number_of fault) then fault else fault_among faults number
@@ -21,7 +21,7 @@ fault_among (fault ∷ faults) number = if nat_eq number (number_of fault) then 
 abbrev pub fault_of : ℕ → TextFault
 fault_of = fault_among (NotAscii ∷ UnexpectedToken ∷ NumberOutOfRange ∷ NameTooLong ∷ NestedTooDeep ∷ UnexpectedEnd ∷ [])
 
--- what it is called
+-- its name
 abbrev pub fault_name : TextFault → List ℕ
 fault_name NotAscii = codes "not ASCII"
 fault_name UnexpectedToken = codes "unexpected token"

@@ -1,4 +1,4 @@
--- What the parser's functions say of the lexemes that they were given.
+-- What the parser's functions state of the lexemes they are given.
 use Rattle.std.specs.Prelude.{◌≡◌, ℕ, suc, ◌+◌, ◌<◌, ◌≤◌, Bool, true, false, List, [], ◌∷◌, ◌++◌, length, Option, Some, None, Result, Ok, Err, nat_lt}
 use Rattle.std.specs.Borrow.{Bor}
 use Rattle.script_tokens.specs.declared.token.Word.{Word}
@@ -32,12 +32,12 @@ terminals_of source ls = tokens_of source.bytes.now ls
 abbrev pub text_end : LexedText → TextEnd
 text_end source = record { end = source.end; stop = source.stop }
 
--- the machine comes from the symbols before to those after, by the lexemes between
+-- the machine gets from the symbols before to those after by the lexemes between
 abbrev pub ReadsTo : List Sym → List Sym → LexedText → ℕ → List Lexeme → List Lexeme → Type 0
 ReadsTo front back source d old rest =
     (n : ℕ) (s : List Sym) → nesting s ≡ d → judge (text_end source) n (front ++ s) (terminals_of source old) ≡ judge (text_end source) n (back ++ s) (terminals_of source rest)
 
--- the machine finds that fault
+-- the machine finds this fault
 abbrev pub Finds : List Sym → LexedText → ℕ → List Lexeme → ℕ → ℕ → Type 0
 Finds front source d old number at =
     (n : ℕ) (s : List Sym) → nesting s ≡ d → judge (text_end source) n (front ++ s) (terminals_of source old) ≡ Some (number, at)
@@ -47,12 +47,12 @@ abbrev pub Errs : List Sym → LexedText → ℕ → List Lexeme → SyntaxError
 Errs front source d old Memory = Unit {0}
 Errs front source d old (Bad number at) = Finds front source d old number at
 
--- What was read from the front derives so, and takes the symbols before from the machine's stack. Or the machine finds the fault.
+-- What was read derives so, and takes the symbols before off the machine's stack. Or the machine finds the fault.
 abbrev pub Reads : {X : Type 0} → (List Terminal → X → List Terminal → Type 0) → List Sym → LexedText → ℕ → List Lexeme → Result (X × Bor (List Lexeme)) SyntaxError → Type 0
 Reads R front source d old (Ok p) = R (terminals_of source old) p.0 (terminals_of source p.1.now) × ReadsTo front [] source d old p.1.now
 Reads R front source d old (Err e) = Errs front source d old e
 
--- the fault where nothing that may come next does
+-- the fault where the next lexeme isn't expected
 abbrev pub stopped_at : ℕ → LexEnd → SyntaxError
 stopped_at end End = Bad fault.unexpected_end end
 stopped_at end (NotAscii place) = Bad fault.not_ascii place
@@ -62,7 +62,7 @@ abbrev pub unexpected_in : LexedText → List Lexeme → SyntaxError
 unexpected_in source [] = stopped_at source.end source.stop
 unexpected_in source (l ∷ ls) = Bad fault.unexpected_token l.start
 
--- that word comes next, at that place and with these after it; or it doesn't
+-- this word comes next, at this offset and with these lexemes behind it; or it doesn't
 abbrev pub NextIs : Word → ℕ → List Lexeme → List Lexeme → Type 0
 NextIs w at old rest = (l : Lexeme) × (old ≡ l ∷ rest) × (l.word ≡ w) × (l.start ≡ at)
 
@@ -70,7 +70,7 @@ abbrev pub NextIsNot : Word → List Lexeme → Type 0
 NextIsNot w [] = Unit {0}
 NextIsNot w (l ∷ ls) = l.word ≡ w → ⊥
 
--- a word that no limit but the nesting is about
+-- a word that only the nesting limits
 abbrev pub is_unlimited : Word → Bool
 is_unlimited w = nat_lt 2 (word_number w)
 
@@ -81,7 +81,7 @@ abbrev pub PassesWord : Word → LexedText → ℕ → List Lexeme → Result (B
 PassesWord w source d old (Ok rest) = ((at : ℕ) × NextIs w at old rest.now) × ReadsTo (only w ∷ []) [] source d old rest.now
 PassesWord w source d old (Err e) = Errs (only w ∷ []) source d old e
 
--- a symbol that has to be a bracket with these after it
+-- a symbol that must be a bracket, with these symbols behind it
 pub record IsBracket (a : Sym) (w : Word) (inside : List Sym) : Type 0 where
   pub needed : is_empty a ≡ false
   pub only_rule : rules a ≡ rule w inside ∷ []
@@ -116,7 +116,7 @@ abbrev pub Signs : {X : Type 0} → Sym → (Word → X → Type 0) → Word →
 Signs a R w None = (text : List ℕ) → find_rule w text (rules a) ≡ None
 Signs a R w (Some sign) = R w sign
 
--- a sign comes next, and what stands after it; or the symbol has no rule for what comes next
+-- a sign comes next, and what is behind it; or the symbol has no rule for what comes next
 abbrev pub SignNext : {X : Type 0} → Sym → (Word → X → Type 0) → List Lexeme → Option (X × Bor (List Lexeme)) → Type 0
 SignNext a R [] None = Unit {0}
 SignNext a R (l ∷ ls) None = (text : List ℕ) → find_rule l.word text (rules a) ≡ None
@@ -132,7 +132,7 @@ abbrev pub ReadsPair : LexedText → ℕ → List Lexeme → Result (Expr × Exp
 ReadsPair source d old (Ok p) = IsOperands (terminals_of source old) p.0 p.1 (terminals_of source p.2.now) × ReadsTo (pair ∷ []) [] source d old p.2.now
 ReadsPair source d old (Err e) = Errs (pair ∷ []) source d old e
 
--- that lexeme comes next
+-- this lexeme comes next
 abbrev pub NextLexeme : Word → Lexeme → List Lexeme → List Lexeme → Type 0
 NextLexeme w l old rest = (old ≡ l ∷ rest) × (l.word ≡ w)
 
@@ -143,7 +143,7 @@ pub data IsName : List Terminal → Name → List Terminal → Type 0 where
 pub data IsNumber : List Terminal → Number → List Terminal → Type 0 where
   a_number_token : {a : ℕ} {t : List ℕ} {rest : List Terminal} → IsNumber (tok a word.Number t ∷ rest) (number_at a t) rest
 
--- { "," expr }, with these expressions before its own
+-- { "," expr }, with these expressions in front of its own
 abbrev pub AddsArgs : List Expr → List Terminal → List Expr → List Terminal → Type 0
 AddsArgs found ts xs rest = (more : List Expr) × (xs ≡ found ++ more) × IsMoreArgs ts more rest
 
@@ -174,7 +174,7 @@ pub data IsElement : List Terminal → Expr → Expr → List Terminal → Type 
       → IsExpr ts x (tok b word.CloseItem u ∷ tok c word.Assign v ∷ us) → IsExpr us y (tok d word.Semicolon w ∷ rest)
       → IsElement (tok a word.OpenItem t ∷ ts) x y rest
 
--- a word that a statement may begin with
+-- a word that a statement can begin with
 abbrev pub begins_stmt : Word → Bool
 begins_stmt word.Let = true
 begins_stmt word.Name = true
@@ -193,7 +193,7 @@ abbrev pub NoStmt : List Lexeme → Type 0
 NoStmt [] = Unit {0}
 NoStmt (l ∷ ls) = begins_stmt l.word ≡ false
 
--- What was read after a lexeme makes with it a statement that does this.
+-- What was read behind a lexeme makes with it a statement that does this.
 abbrev pub ReadsAct : LexedText → ℕ → Lexeme → List Lexeme → Result (Act × Bor (List Lexeme)) SyntaxError → Type 0
 ReadsAct source d first rest (Ok p) =
     IsStmt (terminals_of source (first ∷ rest)) (stmt_at first.start p.0) (terminals_of source p.1.now) × ReadsTo (stmts ∷ []) (stmts ∷ []) source d (first ∷ rest) p.1.now
@@ -222,7 +222,7 @@ abbrev pub Repeats : List ℕ → LexedText → ℕ → List Lexeme → Result (
 Repeats n source d old (Ok rest) = ((l : Lexeme) × NextLexeme word.Name l old rest.now × (text_of source.bytes.now l ≡ n)) × ReadsTo (exactly n ∷ []) [] source d old rest.now
 Repeats n source d old (Err e) = Errs (exactly n ∷ []) source d old e
 
--- { "," param }, with these parameters before its own
+-- { "," param }, with these parameters in front of its own
 abbrev pub AddsParams : List Param → List Terminal → List Param → List Terminal → Type 0
 AddsParams found ts xs rest = (more : List Param) × (xs ≡ found ++ more) × IsMoreParams ts more rest
 
@@ -244,7 +244,7 @@ ReadsBody source d old (Err e) = Errs (body ∷ []) source d old e
 abbrev pub IsRestOfFunction : List Terminal → Function → List Terminal → Type 0
 IsRestOfFunction ts f rest = (a : ℕ) (t : List ℕ) → IsFunction (tok a word.Fn t ∷ ts) f rest
 
--- What was read are all functions, and then the machine expects nothing. Or it finds the fault.
+-- All functions were read, and then the machine expects nothing. Or it finds the fault.
 abbrev pub ReadsFunctions : LexedText → List Lexeme → Result (List Function × Bor (List Lexeme)) SyntaxError → Type 0
 ReadsFunctions source old (Ok p) =
     IsFunctions (terminals_of source old) p.0 (terminals_of source p.1.now)

@@ -5,7 +5,7 @@ ghost use Rattle.script_text.specs.declared.error.SyntaxError.TheVariants.{Memor
 
 use std::alloc::{AllocError, AllocFailed};
 
-/// Why a text is no script.
+/// Why a text isn't a script.
 #[derive(Clone, Copy, Debug, PartialEq, Eq)]
 pub enum SyntaxError {
     /// The first fault: its number and the offset of the byte where it stands (docs/LANGUAGE.md, "Faults of a text").
@@ -18,7 +18,7 @@ pub enum SyntaxError {
     /// - 6, unexpected end: the length of the text, where it begins a script and isn't one.
     /// - 7, too many functions: the 1025th `fn`.
     Bad { number: u8, at: u32 },
-    /// Want of memory.
+    /// There was no memory for the call.
     Memory,
 }
 

@@ -1,11 +1,11 @@
-// The faults of a text, their numbers, and what they are called.
+// The faults of a text, their numbers, and their names.
 
 ghost use Rattle.std.specs.Prelude.{◌≡◌};
 ghost use Rattle.script_text.specs.Numbers.{fault_of, fault_text, number_of, fault_name};
 
 use crate::error::SyntaxError;
 
-/// The faults of a text, by what is wrong. `SyntaxError` says where each stands.
+// The faults of a text, by what is wrong. `SyntaxError` also has the offset.
 #[derive(Clone, Copy)]
 pub(crate) enum TextFault {
     NotAscii,
@@ -32,7 +32,7 @@ impl TextFault {
         }
     }
 
-    /// The fault of this number. Of a number that none has it is the last.
+    // The fault of this number, or the last one where none has it.
     fn of_number(number: u8) -> TextFault
         ensures { result ≡ fault_of number }
     {
@@ -61,7 +61,7 @@ impl TextFault {
         }
     }
 
-    /// This fault, at the byte of this offset.
+    // This fault at an offset.
     pub(crate) fn at(self, at: u32) -> SyntaxError
         ensures { result ≡ SyntaxError.Bad (number_of self) at }
     {
@@ -72,7 +72,7 @@ impl TextFault {
     }
 }
 
-/// What a number of `SyntaxError::Bad` says, in words: that of `not ASCII` is 1. A number that no fault has is taken for 7.
+/// The name of the fault with this number of `SyntaxError::Bad`: `not ASCII` is 1. A number that no fault has counts as 7.
 pub fn fault_text(number: u8) -> &'static str
     ensures { result.now ≡ fault_text number }
 {

@@ -1,20 +1,20 @@
-//! What holds of every text, as functions that do nothing: each is proved to ensure its law.
+//! Laws of every text. Each function does nothing, and is proved to ensure its law.
 
 ghost use Rattle.script_text.specs.Laws.{FaultIsFirst, FaultIsUnique, GapsAreBlanksAndComments, NestingCountsOpen, TreeExcludesFault, TreeIsUnique};
 
-/// A text is of one script at most.
+/// A text is of at most one script.
 pub fn tree_is_unique()
     ensures { TreeIsUnique }
 {}
 
-/// A text has one fault at most: at the first place where one stands it has one number. A name, a number and a word `fn` nest no deeper
-/// than what stands before them, so the first token at fault breaks one limit only.
+/// A text has at most one fault: at the first offset at which it has one, there is one number. A name, a number and a word `fn`
+/// nest no deeper than what comes before them, so the first token at fault breaks only one limit.
 pub fn fault_is_unique()
     ensures { FaultIsUnique }
 {}
 
-/// Of all faults that a text has, each by itself, its fault stands at the first offset, and of those there it is the one of the least number.
-/// No other one does.
+/// Of all faults that a text has, each by itself, its fault is the one at the first offset, and of several there the one with the
+/// least number. No other fault is.
 pub fn fault_is_first()
     ensures { FaultIsFirst }
 {}
@@ -24,13 +24,13 @@ pub fn tree_excludes_fault()
     ensures { TreeExcludesFault }
 {}
 
-/// A gap before a token is a list of blanks and comments, and after it comes neither.
+/// The gap before a token is a list of blanks and comments, and neither follows it.
 pub fn gaps_are_blanks_and_comments()
     ensures { GapsAreBlanksAndComments }
 {}
 
-/// The nesting at each token of a script counts what is open there: the closing brackets that are still to come, and the unary minuses
-/// whose operand hasn't ended. What may come next is kept by a machine that reads the tokens from left to right.
+/// The nesting at each token of a script counts what is open there: the closing brackets that are still to come, and the unary
+/// minuses whose operand hasn't ended. A machine that reads the tokens from left to right keeps what may come next.
 pub fn nesting_counts_open()
     ensures { NestingCountsOpen }
 {}

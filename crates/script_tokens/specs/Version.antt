@@ -3,14 +3,14 @@ use Rattle.std.specs.Prelude.{ℕ, List, take, codes, bytes_eq, if◌then◌else
 use Rattle.script_tokens.specs.declared.version.Version.{Version}
 use Rattle.script_tokens.specs.declared.version.Version.TheVariants.{One, Two}
 
--- the line with which a text of version 2 begins, its line feed included
+-- the line that a text of version 2 begins with, its line feed included
 abbrev pub version_line : List ℕ
 version_line = codes "version 2\n"
 
 abbrev pub version_of : List ℕ → Version
 version_of bytes = if bytes_eq (take 10 bytes) version_line then Two else One
 
--- the offset of what stands after the version's line
+-- the offset behind the version line
 abbrev pub begins_at : Version → ℕ
 begins_at One = 0
 begins_at Two = 10

@@ -1,4 +1,4 @@
--- Which texts are tokens of a version, and which token each is. A token is a name, a keyword, a number or a symbol, and `Word` says which.
+-- Which texts are tokens of a version, and which tokens. A token is a name, a keyword, a number or a symbol, and `Word` says which.
 use Rattle.std.specs.Prelude.{ℕ, Bool, true, false, List, [], ◌∷◌, Option, Some, None, ◌||◌, ◌&&◌, ◌==◌, if◌then◌else◌, unwrap_or, codes, bytes_eq}
 use Rattle.std.specs.List.{list_all}
 use Rattle.std.specs.Char.{is_ascii_alphabetic, is_ascii_digit}
@@ -45,7 +45,7 @@ is_letter b = is_ascii_alphabetic b || b == 95
 abbrev pub is_name_byte : ℕ → Bool
 is_name_byte b = is_letter b || is_ascii_digit b
 
--- a letter or `_`, and then letters, digits and `_`
+-- a letter or `_`, followed by letters, digits and `_`
 abbrev pub is_name : List ℕ → Bool
 is_name [] = false
 is_name (b ∷ bs) = is_letter b && list_all is_name_byte bs
@@ -55,19 +55,19 @@ abbrev pub is_number : List ℕ → Bool
 is_number [] = false
 is_number (b ∷ bs) = is_ascii_digit b && list_all is_ascii_digit bs
 
--- the token of a version that a whole text is
+-- the token that a whole text is
 abbrev pub word_of : Version → List ℕ → Option Word
 word_of version text =
     if is_name text then Some (unwrap_or (word_spelled (keywords version) text) Name)
     else if is_number text then Some Number
     else word_spelled symbols text
 
--- the word that version 2 alone has
+-- the word that only version 2 has
 abbrev pub is_scope : Word → Bool
 is_scope Scope = true
 is_scope _ = false
 
--- the sort of the token
+-- the kind of token
 abbrev pub kind_of : Word → TokenKind
 kind_of Name = kinds.Name
 kind_of Number = kinds.Number

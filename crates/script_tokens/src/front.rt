@@ -1,4 +1,4 @@
-// The gap and the token at the front of some bytes.
+// The gap and the token that some bytes begin with.
 
 ghost use Rattle.std.specs.Prelude.{◌≡◌, ◌≤◌, ◌∷◌, [], length, option_and_then, slice_get};
 ghost use Rattle.std.specs.List.{prefix_len};
@@ -28,7 +28,7 @@ fn is_name_byte(byte: u8) -> bool
     is_letter(byte) || byte.is_ascii_digit()
 }
 
-// How many bytes at the front are blanks and comments.
+// The length of the blanks and comments that the bytes begin with.
 pub(crate) fn gap_length(bytes: &[u8]) -> usize
     ensures value { result ≡ length_of_gap bytes.now }
     ensures within { result ≤ length bytes.now }
@@ -71,7 +71,7 @@ fn long_symbol_at(first: u8, rest: &[u8]) -> Option<Word>
     long_symbol(first, *rest.first()?)
 }
 
-// The longest token of a version at the front, and its length.
+// The longest token that the bytes begin with, and its length.
 pub(crate) fn front_token(version: Version, bytes: &[u8]) -> Option<(Word, usize)>
     ensures { Fronts version bytes.now result }
 {

@@ -9,42 +9,42 @@ use crate::token::{Lexeme, Token, TokenKind};
 use crate::version::Version;
 use std::alloc::Global;
 
-/// The most bytes that a text may have, one mebibyte. So every offset is a `u32`.
+/// The longest text, one mebibyte. So every offset is a `u32`.
 pub const MAX_BYTES: usize = 1_048_576;
 
-/// Why the lexemes of a text end.
+/// Why a text has no further lexeme.
 #[derive(Clone, Copy, Debug, PartialEq, Eq)]
 pub enum LexEnd {
-    /// The text was read to its end.
+    /// The text ends.
     End,
-    /// At this offset stands a byte from 128 on, in a gap or where a token is due.
+    /// There is a byte from 128 on at this offset, in a gap or where a token should begin.
     NotAscii(u32),
-    /// At this offset stands a byte below 128 at which no token, blank or comment begins.
+    /// There is a byte below 128 at this offset with which no token, blank or comment begins.
     NoToken(u32),
 }
 
-/// Why no token comes next: a [`LexEnd`] other than the end.
+/// Why there is no next token: a [`LexEnd`] other than the end.
 #[derive(Clone, Copy, Debug, PartialEq, Eq)]
 pub enum Misfit {
-    /// At this offset stands a byte from 128 on, in the gap or directly after it.
+    /// There is a byte from 128 on at this offset, in the gap or right behind it.
     NotAscii(u32),
-    /// At this offset, directly after the gap, stands a byte below 128 at which no token begins.
+    /// There is a byte below 128 at this offset, right behind the gap, with which no token begins.
     NoToken(u32),
 }
 
-/// The version of a text, its lexemes in order, and why they end. The line of the version, the texts of the lexemes, and the gaps between
-/// them make up the text up to the stop.
+/// A text's version, its lexemes in order, and why they end. The version line, the lexemes' texts and the gaps between them make up
+/// the text up to where they end.
 #[derive(Debug, Drop)]
 pub struct Lexed {
     /// The version of the text.
     pub version: Version,
     /// The lexemes before the stop, in order.
     pub lexemes: Vec<Lexeme>,
-    /// Why no lexeme comes after them.
+    /// Why there are no further ones.
     pub stop: LexEnd,
 }
 
-// The lexeme at the offset `at`, of which `rest` is the text from there on, or why there is none.
+// The lexeme at the offset `at`, where `rest` is the text from there on, or why there is none.
 fn lexeme_at(version: Version, at: u32, rest: &[u8]) -> Result<Lexeme, LexEnd>
     requires { at + length rest.now ≤ MAX_BYTES }
     ensures { LexemeAt version at rest.now result }
@@ -65,7 +65,7 @@ fn lexeme_at(version: Version, at: u32, rest: &[u8]) -> Result<Lexeme, LexEnd>
     }
 }
 
-// The lexeme that comes next after the offset `from`, or why there is none.
+// The next lexeme from the offset `from` on, or why there is none.
 fn next_lexeme(version: Version, bytes: &[u8], from: u32) -> Result<Lexeme, LexEnd>
     requires size { length bytes.now ≤ MAX_BYTES }
     requires within { from ≤ length bytes.now }
@@ -76,11 +76,11 @@ fn next_lexeme(version: Version, bytes: &[u8], from: u32) -> Result<Lexeme, LexE
     lexeme_at(version, from + gap as u32, &left[gap..])
 }
 
-/// Cuts a text into the lexemes of its version, from the end of the version's line up to the text's end or to the first byte that fits
+/// Cuts a text into the lexemes of its version, from behind the version line to the text's end or to the first byte that fits
 /// nowhere. Offsets are those in the whole text.
 ///
-/// The time is linear in the length of the text, and the memory in the number of its lexemes. `Err` is want of memory alone: a text that
-/// can't be read to its end gives the lexemes before the byte that stopped it, and that byte's offset in `stop`.
+/// The time is linear in the length of the text, and the memory in the number of its lexemes. Only running out of memory makes it
+/// `Err`: where a byte fits nowhere, the result has the lexemes before it, and its offset in `stop`.
 pub fn lexemes(alloc: Global, bytes: &[u8]) -> Result<Lexed, Memory>
     requires { length bytes.now ≤ MAX_BYTES }
     ensures { IfOk result (λ lexed. IsLexed bytes.now lexed.version lexed.lexemes.items lexed.stop) }
@@ -105,16 +105,16 @@ pub fn lexemes(alloc: Global, bytes: &[u8]) -> Result<Lexed, Memory>
     }
 }
 
-/// The token of a version that comes next from the offset `from` on, after the blanks and comments that stand there. It takes no memory,
-/// and doesn't ask of which version the text is.
+/// The next token of a version from the offset `from` on, behind the blanks and comments there. It takes no memory, and doesn't
+/// look for the text's version.
 ///
-/// At the end of the text this is the token [`TokenKind::End`], whose `start` and `end` are the text's length. There is none exactly where a
-/// byte from 128 on stands among these blanks and comments or directly after them (`NotAscii`, with the offset of the first such byte), or
-/// else where the byte directly after them begins no token (`NoToken`, with its offset). An offset inside a token or a comment is taken
-/// as the start of a text.
+/// At the end of the text this is the token [`TokenKind::End`], whose `start` and `end` are the text's length. It is `Err` exactly
+/// where a byte from 128 on is among these blanks and comments or right behind them (`NotAscii`, with the offset of the first such
+/// byte), or else where the byte right behind them begins no token (`NoToken`, with its offset). An offset inside a token or a
+/// comment is taken as the start of a text.
 ///
-/// It is for who goes through a text token by token, as to colour it: of `a..b` the tokens from 0 on are `a` at 0 to 1, `..` at 1 to 3, `b`
-/// at 3 to 4, and `End` at 4 to 4, each from where the one before it ended.
+/// For reading a text token by token, as an editor's highlighting does: the tokens of `a..b` from 0 on are `a` at 0 to 1, `..` at 1
+/// to 3, `b` at 3 to 4, and `End` at 4 to 4, each from where the one before it ended.
 pub fn next_token(bytes: &[u8], from: u32, version: Version) -> Result<Token, Misfit>
     requires size { length bytes.now ≤ MAX_BYTES }
     requires within { from ≤ length bytes.now }

@@ -1,8 +1,8 @@
-// Want of memory.
+// Out of memory.
 
 use std::alloc::{AllocError, AllocFailed};
 
-/// No memory could be had.
+/// There was no memory for the call.
 #[derive(Clone, Copy, Debug, PartialEq, Eq)]
 pub struct Memory;
 

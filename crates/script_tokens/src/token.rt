@@ -2,7 +2,7 @@
 
 ghost use Rattle.std.specs.Prelude.{◌≡◌, ◌≤◌, length};
 
-/// A token's sort. `End` is the end of the text.
+/// A token's kind. `End` is the end of the text.
 #[derive(Clone, Copy, Debug, PartialEq, Eq)]
 pub enum TokenKind {
     Name,
@@ -20,7 +20,7 @@ pub struct Token {
     pub end: u32,
 }
 
-/// Which token stands there: a name, a number, a keyword or a symbol.
+/// Which name, number, keyword or symbol a token is.
 #[derive(Clone, Copy, Debug, PartialEq, Eq)]
 pub enum Word {
     Name,
@@ -87,14 +87,14 @@ pub enum Word {
     Arrow,
     /// `..`
     Range,
-    /// `scope`, which is a keyword of version 2 alone.
+    /// `scope`, a keyword of version 2 only.
     Scope,
 }
 
 impl Word {
     ghost use Rattle.script_tokens.specs.Word.{kind_of};
 
-    /// The sort of the token: `Name` or `Number`, else `Keyword` or `Symbol`, and never `End`.
+    /// The kind of token: `Name` or `Number`, else `Keyword` or `Symbol`, and never `End`.
     pub fn kind(self) -> TokenKind
         ensures { result ≡ kind_of self }
     {
@@ -125,7 +125,7 @@ impl Word {
     }
 }
 
-/// A token of the text, told by its word: `bytes[start..end]`.
+/// A token with its word: its text is `bytes[start..end]`.
 #[derive(Clone, Copy, Debug, PartialEq, Eq)]
 pub struct Lexeme {
     pub word: Word,
@@ -136,8 +136,7 @@ pub struct Lexeme {
 impl Lexeme {
     ghost use Rattle.script_tokens.specs.Lexing.{text_of};
 
-    /// The lexeme's bytes, where `bytes` is the text in which it stands. It is for who shows a text word by word: those of `a..b` are `a`, `..`
-    /// and `b`.
+    /// The lexeme's text, where `bytes` is the whole one. The lexemes of `a..b` have the texts `a`, `..` and `b`.
     pub fn text<'a>(&self, bytes: &'a [u8]) -> &'a [u8]
         requires order { self.now.start ≤ self.now.end }
         requires within { self.now.end ≤ length bytes.now }

@@ -5,11 +5,11 @@ ghost use Rattle.script_tokens.specs.Version.{begins_at, version_of};
 
 /// A version of the script language.
 ///
-/// A text of version 2 begins with the line `version 2`: these nine bytes and a line feed. Every other text is of version 1, and all of
-/// it is the script.
+/// A text of version 2 begins with the line `version 2`: these nine bytes and a line feed. Every other text is of version 1, and
+/// all of it is the script.
 #[derive(Clone, Copy, Debug, PartialEq, Eq)]
 pub enum Version {
-    /// The first version, which has no scopes. Its texts have no line of their own for it.
+    /// The first version, which has no scopes. Its texts have no version line.
     One,
     /// The version with scopes.
     Two,
@@ -27,7 +27,7 @@ impl Version {
         }
     }
 
-    /// The offset at which the script begins in a text of this version: what stands before it is the version's line.
+    /// The offset at which the script begins in a text of this version, behind the version line.
     pub fn begins_at(self) -> u32
         ensures { result ≡ begins_at self }
     {

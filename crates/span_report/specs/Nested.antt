@@ -1,5 +1,5 @@
--- How the events of a run nest: what a spawned child does stands between its Spawn and its parent's next event, and so do a loop's iterations.
--- A scope has no event of its own: the instance's own events stand one rank deeper there.
+-- How the events of a run nest: those of a spawned child, or of a loop's iterations, are between the Spawn or the loop's event and
+-- the parent's next one. A scope has no event of its own: the instance's own events have one more rank there.
 use Rattle.std.specs.Prelude.{◌+◌, ℕ, List, [], ◌∷◌, ◌++◌}
 use Rattle.serial_meaning.specs.Plan.{PlanView}
 use Rattle.serial_meaning.specs.Eval.{elision}
@@ -13,8 +13,9 @@ pub data RaisesWithoutChild : List ℕ → Event → Type 0 where
   New : (j : List ℕ) → RaisesWithoutChild j (event.New j)
   Sync : (j : List ℕ) → RaisesWithoutChild j (event.Sync j)
 
--- Whose events a list has: those of the instance with the path `home`, at a present path from this rank on, or those of the iterations of the
--- loop with this pedigree from this number on. A present path is the instance's and then the ranks of its open scopes.
+-- Whose events a list has: those of the instance with the path `home`, at a present path from this rank on, or those of the
+-- iterations of the loop with this pedigree from this number on. A present path is the instance's path and then the ranks of its
+-- open scopes.
 pub data Whose : Type 0 where
   Instance : (home : List ℕ) → Whose
   Iterations : Whose

@@ -1,4 +1,4 @@
--- An open instance: what an event of its own and the end of a child do to the lengths that it keeps.
+-- An open instance: how its own events and the ends of its children change the lengths that it keeps.
 use Rattle.std.specs.Prelude.{◌+◌, cond, Bool, max, ℕ, List, [], ◌∷◌, ◌++◌, Option, Some, None, length, slice_get, take}
 use Rattle.std.specs.Str.{bytes_eq}
 use Rattle.serial_meaning.specs.declared.event.Event.{Event}
@@ -7,7 +7,7 @@ use Rattle.span_report.specs.declared.instance.OpenInstance.{OpenInstance}
 use Rattle.span_report.specs.declared.instance.Begun.{Begun}
 use Rattle.span_report.specs.declared.instance.Begun.TheVariants.{Spawned, Iterated}
 
--- how long the longest chain is that ends in the instance's next event
+-- the longest chain that ends in the instance's next event
 abbrev pub next_length : OpenInstance → ℕ
 next_length o = max o.before o.looped + 1
 
@@ -15,7 +15,7 @@ next_length o = max o.before o.looped + 1
 abbrev pub went_on : OpenInstance → OpenInstance
 went_on o = record o { before = next_length o; looping = None; looped = 0; within = max o.within (next_length o) }
 
--- After a sync. What it waits for comes before what follows, and not before the sync.
+-- After a sync. What it waits for precedes what follows, but not the sync itself.
 abbrev pub synced : OpenInstance → OpenInstance
 synced o = record o { before = max (next_length o) o.spawned; looping = None; looped = 0; spawned = 0; within = max o.within (next_length o) }
 
@@ -39,11 +39,11 @@ after_child_end o Iterated within = record o { looped = max o.looped within; wit
 abbrev pub new_open_instance : List ℕ → Begun → ℕ → OpenInstance
 new_open_instance path how before = record { path = path; begun = how; before = before; looping = None; looped = 0; spawned = 0; within = 0 }
 
--- whether a path begins with another
+-- whether `front` is a prefix of the path
 abbrev pub starts : List ℕ → List ℕ → Bool
 starts front path = bytes_eq (take (length front) path) front
 
--- whether a path is the instance's or that of one below it, or goes on from the instance's by the ranks of its open scopes
+-- whether a path is that of the instance, also in its open scopes, or of one below it
 abbrev pub is_path_below : OpenInstance → List ℕ → Bool
 is_path_below o path = starts o.path path
 
@@ -51,7 +51,7 @@ abbrev pub iteration_at : List ℕ → Option ℕ → Option (List ℕ)
 iteration_at by None = None
 iteration_at by (Some k) = Some (by ++ k ∷ [])
 
--- the path of an iteration with which a path begins, where the instance is in a loop and the path is of that
+-- where the instance is in a loop: the path of the iteration that this path belongs to, if any
 abbrev pub iteration_on : Option (List ℕ) → List ℕ → Option (List ℕ)
 iteration_on None path = None
 iteration_on (Some by) path = cond (starts by path) (iteration_at by (slice_get path (length by))) None

@@ -12,7 +12,7 @@ use serial_meaning::laws::whole_answers_are_evals;
 use serial_meaning::{Answer, Chunk, Event, Memory, Out};
 use std::alloc::Global;
 
-/// Work and span of main's answer. It takes memory for the open instances alone, however many events there are.
+/// Work and span of main's answer. It takes memory only for the open instances, however many events there are.
 pub fn span(alloc: Global, answer: &Answer) -> Result<Span, Memory>
     requires main { answer.now.origin ≡ main_origin answer.now.plan }
     requires whole { IsWhole answer.now.outcome }
@@ -27,7 +27,7 @@ pub fn span(alloc: Global, answer: &Answer) -> Result<Span, Memory>
     })
 }
 
-/// How many events the longest chain has.
+// The number of events in the longest chain.
 #[tactic(auto, using(crate::proofs::LongestChains::Stacks::walked_append))]
 fn longest_chain(alloc: Global, events: &Out) -> Result<u64, Memory>
     ensures { IfOk result (λ n. n ≡ walked_span events.now) }

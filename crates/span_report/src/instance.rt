@@ -5,35 +5,35 @@ use ped_path::Ped;
 use serial_meaning::{Event, Memory};
 use std::alloc::Global;
 
-/// How an instance began.
+// How an instance began.
 #[derive(Clone, Copy, Debug, PartialEq, Eq)]
 pub(crate) enum Begun {
-    /// By the program's start or a spawn.
+    // By the program's start or a spawn.
     Spawned,
-    /// As an iteration of a loop.
+    // As an iteration of a loop.
     Iterated,
 }
 
-/// An instance that has begun and may go on. All but its place are lengths of chains: each is that of the longest chain that ends
-/// in such an event, and 0 where there is none. What belongs to a child that is open too is left out.
+// An instance that has begun and not ended. All fields but its path are lengths of chains: of the longest that ends in such an
+// event, 0 where there is none. What belongs to a child that is still open isn't counted yet.
 #[derive(Drop)]
 pub(crate) struct OpenInstance {
     pub path: Ped,
     pub begun: Begun,
-    /// Before what the instance does next. Where it is in a loop, before each iteration.
+    // Before what the instance does next, or before each iteration where it is in a loop.
     pub before: u64,
-    /// The pedigree of the loop that it is in, from the loop's event to the instance's next one.
+    // The pedigree of its current loop, from the loop's event to the instance's next one.
     pub looping: Option<Ped>,
-    /// In the loop that it is in.
+    // In its current loop.
     pub looped: u64,
-    /// In the children that it spawned since its last sync.
+    // In the children that it spawned since its last sync.
     pub spawned: u64,
-    /// In the instance and all below it.
+    // In the instance and all below it.
     pub within: u64,
 }
 
 impl OpenInstance {
-    /// An instance that has just begun, of which a chain of this length ends before the first event.
+    // An instance that has just begun, with a chain of this length before its first event.
     pub(crate) fn begin(path: Ped, how: Begun, before: u64) -> OpenInstance
         ensures { result ≡ new_open_instance path how before }
     {
@@ -48,15 +48,15 @@ impl OpenInstance {
         }
     }
 
-    /// Whether a path is that of this instance, in an open scope or in none, or of one that stands below it.
+    // Whether a path is that of this instance, also in its open scopes, or of one below it.
     pub(crate) fn leads_to(&self, path: &Ped) -> bool
         ensures { result ≡ is_path_below self.now path.now }
     {
         path.begins_with(&self.path)
     }
 
-    /// The path of the iteration with which this path begins, where the instance is in a loop and the path is of that. A path in an
-    /// open scope isn't.
+    // Where the instance is in a loop: the path of the iteration that this path belongs to. A path in an open scope belongs to
+    // none.
     pub(crate) fn iteration_on(&self, alloc: Global, path: &Ped) -> Result<Option<Ped>, Memory>
         ensures { IfOk result (λ found. found ≡ iteration_on self.now.looping path.now) }
     {
@@ -72,7 +72,7 @@ impl OpenInstance {
         }
     }
 
-    /// Takes in an event of this instance. Where 2^64 - 1 events stand in a chain before it, it answers `Memory`.
+    // Adds an event of this instance. It is `Memory` where a chain of 2^64 - 1 events precedes it.
     pub(crate) fn add_event(&mut self, alloc: Global, event: &Event) -> Result<(), Memory>
         ensures { OnOk result (self.new ≡ after_event self.old event.now) }
     {
@@ -84,7 +84,7 @@ impl OpenInstance {
         self.within = self.within.max(length);
         match event {
             Event::Print(_, _) | Event::Draw(_, _) | Event::New(_) | Event::Spawn(_) => {}
-            // What the sync waits for is before what follows, and not before the sync.
+            // What the sync waits for precedes what follows, but not the sync itself.
             Event::Sync(_) => {
                 self.before = length.max(self.spawned);
                 self.spawned = 0;
@@ -94,7 +94,7 @@ impl OpenInstance {
         Ok(())
     }
 
-    /// Takes in what a child did, which has ended.
+    // Adds what a child did that has ended.
     pub(crate) fn take_in(&mut self, child: &OpenInstance)
         ensures { self.new ≡ after_child_end self.old child.now.begun child.now.within }
     {

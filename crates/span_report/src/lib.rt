@@ -1,8 +1,8 @@
-//! Work and span of a run: how many events it has, and how long the longest chain of events is of which each is in series before the
-//! next. Events are counted, and no time.
+//! Work and span of a run: how many events it has, and how many are in the longest chain of which each precedes the next in series.
+//! Events are counted, not time.
 //!
-//! Events of one instance are in series. A child's are so with what its parent did before the spawn, and with what comes after the
-//! parent's next sync. Iterations of a loop are in parallel with one another.
+//! Events of one instance are in series. A child's events come after what its parent did before the spawn, and before what follows
+//! the parent's next sync. Iterations of a loop are in parallel with each other.
 #![tactic(auto)]
 
 mod chain;

@@ -9,12 +9,12 @@ use serial_meaning::{Event, Memory};
 use std::alloc::Global;
 use std::mem;
 
-/// A walk along the events of a run. It keeps the open instances alone: the one that the last event belongs to, or that it spawned,
-/// and those that this one stands below.
+// A walk along a run's events. It keeps only the open instances: the one that the last event belongs to, or that it spawned, and its
+// ancestors.
 #[derive(Drop)]
 pub(crate) struct Walk {
     top: OpenInstance,
-    /// From main's on.
+    // From main's on.
     below: Vec<OpenInstance>,
 }
 
@@ -28,7 +28,7 @@ impl Walk {
         })
     }
 
-    /// Goes on by the run's next event.
+    // Moves on by the run's next event.
     pub(crate) fn add_event(&mut self, alloc: Global, event: &Event) -> Result<(), Memory>
         ensures { OnOk result (open_instances self.new ≡ walked (open_instances self.old) event.now) }
     {
@@ -44,7 +44,7 @@ impl Walk {
         Ok(())
     }
 
-    /// Ends the instances that this path's instance neither is nor stands below.
+    // Ends the instances that don't lead to this path.
     fn leave(&mut self, path: &Ped)
         ensures { open_instances self.new ≡ closed_to path.now self.old.top (reverse self.old.below.items) }
     {
@@ -56,7 +56,7 @@ impl Walk {
         }
     }
 
-    /// Goes to the instance of this path: the current one, or the next iteration of the loop that this one is in.
+    // Moves to the instance of this path: the current one, or the next iteration of its current loop.
     fn enter(&mut self, alloc: Global, path: &Ped) -> Result<(), Memory>
         ensures { OnOk result (open_instances self.new ≡ opened_to path.now (open_instances self.old)) }
     {
@@ -67,7 +67,7 @@ impl Walk {
         Ok(())
     }
 
-    /// Ends the current instance, whose parent this is.
+    // Ends the current instance, whose parent this is.
     fn end_in(&mut self, parent: OpenInstance)
         ensures top { self.new.top ≡ after_child_end parent self.old.top.begun self.old.top.within }
         ensures below { self.new.below ≡ self.old.below }
@@ -84,7 +84,7 @@ impl Walk {
         Ok(())
     }
 
-    /// Ends all instances. The length of the longest chain of all.
+    // Ends all instances, and returns the length of the longest chain.
     pub(crate) fn longest(mut self) -> u64
         ensures { result ≡ (after_ends self.top (reverse self.below.items)).within }
     {

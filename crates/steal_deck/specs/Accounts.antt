@@ -13,7 +13,7 @@ module _ {T : Type 0} where
   times n [] = 0
   times n (e ∷ es) = one_if (nat_eq e.0 n) + times n es
 
-  -- each number below this one is in the entries, once
+  -- each number below this one is in the entries exactly once
   abbrev pub EachOnce : ℕ → List (ℕ × T) → Type 0
   EachOnce count entries = (n : ℕ) → n < count → times n entries ≡ 1
 
@@ -22,7 +22,7 @@ module _ {T : Type 0} where
   AreEntriesOf pushed [] = Unit {0}
   AreEntriesOf pushed (e ∷ es) = (get_elem? pushed e.0 ≡ some e.1) × AreEntriesOf pushed es
 
-  -- the entry before the others, unless it was taken so many times
+  -- the entry in front of the others, unless it was taken; the number says how often
   abbrev pub unless : ℕ → ℕ × T → List (ℕ × T) → List (ℕ × T)
   unless zero e es = e ∷ es
   unless (suc k) e es = es

@@ -1,4 +1,4 @@
--- What clauses say of a deck and of its thieves, and what each call does to them.
+-- How contracts see a deck and its thieves, and what each call does to them.
 use Rattle.std.specs.Prelude.{◌≡◌, ℕ, ◌+◌, ◌<◌, List, [], ◌∷◌, ◌++◌, length, min}
 use Rattle.std.specs.declared.alloc.Global.{Global}
 use mathlib.Core.Option.{some}
@@ -11,8 +11,8 @@ use Rattle.steal_deck.specs.Accounts.{times, left_of}
 abbrev pub DeckId : Type 0
 DeckId = (ℕ × ℕ) × Global
 
--- What the owner's end knows: its deck, the tasks that it pushed, the entries that it took, those that the thieves took which came back,
--- how many thieves were made and came back, and how many of its pops answered None.
+-- What the owner knows: its deck, the tasks that it pushed, the entries that it took, those taken by thieves that came back, how
+-- many thieves were made and came back, and how many of its pops returned None.
 pub record OwnerEnd (T : Type 0) : Type 0 where
   pub deck : DeckId
   pub pushed : List T
@@ -22,13 +22,13 @@ pub record OwnerEnd (T : Type 0) : Type 0 where
   pub came : ℕ
   pub nones : ℕ
 
--- What a thief's end knows: its deck, the entries that it took, and how many of its steals answered Nothing or Lost.
+-- What a thief knows: its deck, the entries that it took, and how many of its steals returned Nothing or Lost.
 pub record ThiefEnd (T : Type 0) : Type 0 where
   pub deck : DeckId
   pub taken : List (ℕ × T)
   pub misses : ℕ
 
--- a count that has risen by one, up to its last value
+-- a count raised by one, up to its greatest value
 abbrev pub risen : ℕ → ℕ
 risen n = min (n + 1) 18446744073709551615
 
@@ -65,7 +65,7 @@ module _ {T : Type 0} where
     pub change : new ≡ record old { pushed = old.pushed ++ x ∷ [] }
     pub event : OwnerDoes (push x) (owner_of old) (owner_of new)
 
-  -- the last entry left was taken, which the owner didn't know to be taken
+  -- the last entry left was taken, one that the owner didn't know to be taken
   pub record Pops (old : OwnerEnd T) (x : T) (new : OwnerEnd T) : Type 0 where
     pub number : ℕ
     pub change : new ≡ record old { taken = old.taken ++ (number, x) ∷ [] }
@@ -75,7 +75,7 @@ module _ {T : Type 0} where
     pub fresh : times number (known_taken old) ≡ 0
     pub last : AllCameBack old → left_of old.pushed (known_taken old) ≡ left_of new.pushed (known_taken new) ++ (number, x) ∷ []
 
-  -- no entry was left at one moment, and none is where all thieves came back
+  -- at one moment no entry was left, and where all thieves came back none is now
   pub record FindsNone (old new : OwnerEnd T) : Type 0 where
     pub change : new ≡ record old { nones = risen old.nones }
     pub moment : OwnerFindsNone (owner_of old)

@@ -1,5 +1,5 @@
--- The history of a deck: what its parties did, one event after another, and the state to which that leads.
--- Pushes are numbered from 0. An entry is a task with the number of its push.
+-- The history of a deck: what its parties did, one event after another, and the state that this leads to. Pushes are numbered from
+-- 0. An entry is a task with its push's number.
 use Rattle.std.specs.Prelude.{◌≡◌, ℕ, ◌+◌, ◌≤◌, true, false, List, [], ◌∷◌, ◌++◌, map, length, set}
 use mathlib.Core.Option.{some}
 use lib.ListN.{get_elem?}
@@ -8,7 +8,7 @@ use Rattle.steal_deck.specs.declared.rule.Party.{Party}
 pub data DeckEvent (T : Type 0) : Type 0 where
   push : T → DeckEvent T
   pop : ℕ × T → DeckEvent T
-  -- by the thief at this place among the others, as `take_back`
+  -- by the thief with this index among the others, as `take_back`
   steal : ℕ → ℕ × T → DeckEvent T
   make_thief : DeckEvent T
   take_back : ℕ → DeckEvent T
@@ -33,25 +33,25 @@ module _ {T : Type 0} where
   abbrev pub retired : Party T
   retired = record { is_thief = false; pushed = []; taken = []; back = []; made = 0; came = 0 }
 
-  -- a party has pushed a task more, or taken an entry more
+  -- a party that has pushed one task more, or taken one entry more
   abbrev pub with_push : Party T → T → Party T
   with_push v x = record v { pushed = v.pushed ++ x ∷ [] }
 
   abbrev pub with_entry : Party T → ℕ × T → Party T
   with_entry v e = record v { taken = v.taken ++ e ∷ [] }
 
-  -- the owner has made a thief more, or taken one back with all that it took
+  -- the owner has made one thief more, or taken one back with all that it took
   abbrev pub with_thief : Party T → Party T
   with_thief v = record v { made = v.made + 1 }
 
   abbrev pub with_back : Party T → Party T → Party T
   with_back v w = record v { back = v.back ++ w.taken; came = v.came + 1 }
 
-  -- the thief v is at this place among the others, and hasn't come back
+  -- the thief v has this index among the others, and hasn't come back
   abbrev pub IsThiefAt : DeckState T → ℕ → Party T → Type 0
   IsThiefAt s k v = (get_elem? s.others k ≡ some v) × (v.is_thief ≡ true)
 
-  -- what an event makes of a state: a push appends the next number, a pop removes the last entry left, and a steal the first
+  -- how an event changes a state: a push appends the next number, a pop removes the last entry left, and a steal the first
   abbrev pub LeadsBy : DeckEvent T → DeckState T → DeckState T → Type 0
   LeadsBy (push x) r s = s ≡ state (r.left ++ (length r.owner.pushed, x) ∷ []) (with_push r.owner x) r.others
   LeadsBy (pop e) r s = (r.left ≡ s.left ++ e ∷ []) × (s ≡ state s.left (with_entry r.owner e) r.others)
@@ -59,28 +59,28 @@ module _ {T : Type 0} where
   LeadsBy make_thief r s = s ≡ state r.left (with_thief r.owner) (r.others ++ thief [] ∷ [])
   LeadsBy (take_back k) r s = (v : Party T) × IsThiefAt r k v × (s ≡ state r.left (with_back r.owner v) (set r.others k retired))
 
-  -- these events, the newest first, lead from the new deck to this state
+  -- these events, the newest first, lead from a new deck to this state
   abbrev pub IsHistory : List (DeckEvent T) → DeckState T → Type 0
   IsHistory [] s = s ≡ state [] (owner [] [] [] 0 0) []
   IsHistory (e ∷ events) s = (r : DeckState T) × IsHistory events r × LeadsBy e r s
 
-  -- the deck holds these tasks, and its parties know these things, in a state of a history
+  -- some history has a state in which the deck holds these tasks, and its parties know this
   abbrev pub HasHistory : List T → List (Party T) → Type 0
   HasHistory items views = (events : List (DeckEvent T)) × (s : DeckState T) × IsHistory events s × (items ≡ map (λ e. e.1) s.left) × (views ≡ s.owner ∷ s.others)
 
-  -- one event of the history, which made of what the owner knew, v, what it knows now, w
+  -- one event of the history, which changed what the owner knows from v to w
   abbrev pub OwnerDoes : DeckEvent T → Party T → Party T → Type 0
   OwnerDoes e v w = (events : List (DeckEvent T)) × (r : DeckState T) × (s : DeckState T) × IsHistory events r × LeadsBy e r s × (r.owner ≡ v) × (s.owner ≡ w)
 
-  -- the same of a thief, which took the first entry left
+  -- the same for a thief, which took the first entry left
   abbrev pub ThiefTakes : ℕ × T → Party T → Party T → Type 0
   ThiefTakes e v w = (events : List (DeckEvent T)) × (r : DeckState T) × (s : DeckState T) × (k : ℕ) × IsHistory events r × LeadsBy (steal k e) r s
       × (get_elem? r.others k ≡ some v) × (get_elem? s.others k ≡ some w)
 
-  -- in a state of the history no entry was left, while the owner knew v
+  -- in some state of the history no entry was left, while the owner knew v
   abbrev pub OwnerFindsNone : Party T → Type 0
   OwnerFindsNone v = (events : List (DeckEvent T)) × (s : DeckState T) × IsHistory events s × (s.owner ≡ v) × (s.left ≡ [])
 
-  -- in a state of the history at most one entry was left, while a thief knew v
+  -- in some state of the history at most one entry was left, while a thief knew v
   abbrev pub ThiefFindsFew : Party T → Type 0
   ThiefFindsFew v = (events : List (DeckEvent T)) × (s : DeckState T) × (k : ℕ) × IsHistory events s × (get_elem? s.others k ≡ some v) × (length s.left ≤ 1)

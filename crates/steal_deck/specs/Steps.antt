@@ -1,4 +1,4 @@
--- What each step on the shared deck tells the party that makes it.
+-- What each step on the shared deck tells the party that takes it.
 use Rattle.std.specs.Prelude.{◌≡◌, ℕ, ◌<◌, List, [], ◌∷◌, ◌++◌, length}
 use mathlib.Core.Option.{some}
 use lib.ListN.{get_elem?}
@@ -7,7 +7,7 @@ use Rattle.steal_deck.specs.History.{with_push, with_entry, push, pop, OwnerDoes
 use Rattle.steal_deck.specs.Accounts.{times, EachOnce, AreEntriesOf, left_of}
 
 module _ {T : Type 0} where
-  -- the list has one task, of which this holds
+  -- the list has one task, and this holds of it
   abbrev pub One : (T → Type 0) → List T → Type 0
   One P [] = ⊥
   One P (x ∷ []) = P x
@@ -31,7 +31,7 @@ module _ {T : Type 0} where
   abbrev pub Stole : Party T → T → Party T → Type 0
   Stole v x w = (n : ℕ) × (w ≡ with_entry v (n, x)) × ThiefTakes (n, x) v w
 
-  -- where all thieves came back, each push is in the owner's lists or left, once
+  -- where all thieves came back, each push is exactly once in the owner's lists or left
   abbrev pub Accounted : Party T → Type 0
   Accounted v = v.made ≡ v.came
       → EachOnce (length v.pushed) (left_of v.pushed (party_taken v) ++ party_taken v) × AreEntriesOf v.pushed (left_of v.pushed (party_taken v) ++ party_taken v)

@@ -10,11 +10,11 @@ use crossbeam_deque::Worker;
 use std::alloc::Global;
 use std::marker::Model;
 
-/// A deck, by its owner's end.
+/// The owner's end of a deck.
 ///
-/// A clause sees it as what the owner knows: which deck it is, what was `pushed`, the entries that the owner has `taken`,
-/// those that thieves took which came `back`, how many thieves were `made` and `came` back, and how many pops answered
-/// `None` (`nones`). It is `Send` where `T` is.
+/// Contracts see what the owner knows: which deck it is, what was `pushed`, the entries that the owner has `taken`, those taken by
+/// thieves that came `back`, how many thieves were `made` and `came` back, and how many pops returned `None` (`nones`). It is
+/// `Send` where `T` is.
 #[derive(Drop)]
 pub struct Deck<T> {
     worker: Worker<T, Global, Party<T>, OneHistory>,
@@ -30,7 +30,7 @@ impl<T> Model for Deck<T> {
 
     ghost view = { λ d. owner_end (worker_deque d.worker) (worker_view d.worker) d.nones };
 
-    // The first pass, of a LIFO deque, is the owner's. There is room for 64 pushes, and no index is above the pushes.
+    // The owner's pass is the first one, of a LIFO deque. There is room for 64 pushes, and no index exceeds the pushes.
     ghost invariant = { λ d.
         (worker_port d.worker ≡ 0) × (worker_flavor d.worker ≡ 1) × ((worker_view d.worker).is_thief ≡ false)
         × (64 ≤ worker_capacity d.worker) × (worker_index d.worker ≤ length (worker_view d.worker).pushed) };
@@ -62,8 +62,8 @@ impl<T> Deck<T> {
         })
     }
 
-    /// Takes a thief of this deck back: the owner then knows what the thief took. It is for who wants to know what became of each task:
-    /// after the last thief `close` gives those that nobody took (the example at the crate's head).
+    /// Takes a thief of this deck back: the owner then knows what the thief took. After the last thief, `close` returns the tasks
+    /// that nobody took (the example at the crate's head).
     pub fn rejoin(&mut self, thief: Thief<T>)
     where
         T: Drop,
@@ -81,8 +81,8 @@ impl<T> Deck<T> {
 
     /// Pushes a task, which becomes the newest entry.
     ///
-    /// `Err` hands the task back, with the deck unchanged. It comes where the deck can't grow, for want of memory or by
-    /// its own limits, and never among the first 64 pushes. So it is no fault of the program: the caller keeps the task.
+    /// `Err` returns the task, with the deck unchanged. That happens where the deck can't grow, because memory or its own limits
+    /// are reached, and never among the first 64 pushes. The caller keeps the task, and goes on.
     pub fn push(&mut self, task: T) -> Result<(), T>
         ensures kept { self.new ≡ record self.old { pushed = self.new.pushed } }
         ensures ok { OnOk result (Pushes self.old task self.new) }
@@ -95,8 +95,8 @@ impl<T> Deck<T> {
 
     /// Takes the newest entry left.
     ///
-    /// `None` comes where no entry was left at one moment of the call. Where all thieves came back it comes just where
-    /// the owner knows each push to be taken. It is counted, up to the last value of the count.
+    /// `None` where no entry was left at one moment of the call. Where all thieves came back that is so exactly where the owner
+    /// knows each push to be taken. Each `None` is counted, up to the count's greatest value.
     pub fn pop(&mut self) -> Option<T>
         ensures kept { self.new ≡ record self.old { taken = self.new.taken; nones = self.new.nones } }
         ensures some { IfSome result (λ task. Pops self.old task self.new) }
@@ -110,17 +110,16 @@ impl<T> Deck<T> {
         task
     }
 
-    /// Ends the work on a deck whose thieves all came back, so that no steal can follow, and gives the entries left.
+    /// Ends the work on a deck whose thieves all came back, so that no steal can follow, and returns the entries left.
     ///
-    /// Each number pushed was taken once, by the owner or a thief, or is left, and not both. It is for who ends before all tasks were taken (the
-    /// example at the crate's head).
+    /// Each number pushed was either taken once, by the owner or a thief, or is left (the example at the crate's head).
     pub fn close(mut self) -> Remains<T>
         requires { AllCameBack self }
         ensures left { result ≡ left_of self.pushed (known_taken self) }
         ensures once { EachOnce (length self.pushed) (result ++ known_taken self) }
         ensures tasks { AreEntriesOf self.pushed (result ++ known_taken self) }
     {
-        // The owner's lists don't tell by themselves that no number is in them twice: a look at the deck does.
+        // The owner's lists alone don't show that no number is in them twice: the deck does.
         self.worker.len_as::<Account>();
         Remains { deck: self }
     }

@@ -2,7 +2,7 @@ ghost use Rattle.std.specs.Prelude.{◌≡◌};
 
 use std::alloc::AllocError;
 
-/// Want of memory, the only error of `Deck::new` and `Deck::thief`.
+/// There was no memory: the only error of `Deck::new` and `Deck::thief`.
 #[derive(Debug, Clone, Copy, PartialEq, Eq)]
 pub struct Memory;
 

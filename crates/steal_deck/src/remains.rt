@@ -3,9 +3,9 @@ ghost use Rattle.std.specs.Prelude.{◌≡◌, ◌++◌, ◌∷◌, [], ℕ, IfS
 use crate::deck::Deck;
 use std::marker::Model;
 
-/// What is left of a deck that was closed.
+/// What is left of a closed deck.
 ///
-/// A clause sees it as the list of the entries left, in order of their numbers.
+/// Contracts see the list of the entries left, in order of their numbers.
 #[derive(Drop)]
 pub struct Remains<T> {
     pub(crate) deck: Deck<T>,
@@ -24,7 +24,7 @@ impl<T> Model for Remains<T> {
 }
 
 impl<T> Remains<T> {
-    /// Takes the last entry of the list, or answers `None` where the list is empty: of `b` and `c`, pushed in this order, `c` comes first.
+    /// Takes the last entry of the list, `None` where it is empty: of `b` and `c`, pushed in this order, `c` comes first.
     pub fn pop(&mut self) -> Option<T>
         ensures some { IfSome result (λ task. (number : ℕ) × (self.old ≡ self.new ++ (number, task) ∷ [])) }
         ensures none { IfNone result ((self.old ≡ []) × (self.new ≡ [])) }

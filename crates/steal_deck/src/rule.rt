@@ -1,16 +1,16 @@
-//! The rule that a deck and its thieves share, and the steps under it.
+//! The protocol that a deck and its thieves share, and its steps.
 //!
-//! The rule says that the tasks in the deck, and what each party knows, are a state of a history. There are five kinds of
-//! step: a push, a pop, a steal, the split of a thief's pass from the owner's, and the join of the two.
-//! Each makes one event, and it is proved of each that the history goes on with it.
+//! It says that the tasks in the deck, and what each party knows, are a state of a history. There are five kinds of step: a push, a
+//! pop, a steal, the split of a thief's pass from the owner's, and the join of the two. Each adds one event to the history, which
+//! is proved of each.
 
 use crossbeam_deque::protocol::{Join, Lesson, Outcome, Protocol, Split};
 use std::collections::LinkedList;
 
-/// What one party of a deck knows, the owner or a thief. Proofs alone see it, and no value of it is made.
+/// What one party of a deck knows, the owner or a thief. It is for proofs only, and no value of it exists at run time.
 ///
-/// A thief knows the entries that it took. The owner knows besides what it pushed, which entries were taken by thieves
-/// that came back, and how many thieves were made and came back.
+/// A thief knows the entries that it took. The owner also knows what it pushed, which entries were taken by thieves that came back,
+/// and how many thieves were made and came back.
 pub struct Party<T> {
     pub is_thief: bool,
     pub pushed: LinkedList<T>,
@@ -20,7 +20,7 @@ pub struct Party<T> {
     pub came: u64,
 }
 
-/// The rule: the deck and its parties have a history.
+/// The invariant: the deck and its parties have a history.
 pub struct OneHistory;
 
 impl<T> Protocol<T, Party<T>> for OneHistory {

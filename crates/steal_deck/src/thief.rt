@@ -6,21 +6,21 @@ use crossbeam_deque::{Pass, Stealer};
 use std::alloc::Global;
 use std::marker::Model;
 
-/// What a steal answers.
+/// What a steal returns.
 #[derive(Clone, Copy, Debug, Drop, PartialEq, Eq)]
 pub enum Steal<T> {
     /// The oldest entry left.
     Took(T),
-    /// No entry was taken, and at one moment of the call the deck had at most one: the owner may have been about to pop it.
+    /// No entry was taken. At one moment of the call the deck had at most one, which the owner may have been about to pop.
     Nothing,
-    /// No entry was taken, and the steal may be tried again, as where another thief was faster.
+    /// No entry was taken, since another thief was faster, for instance. The steal may be tried again.
     Lost,
 }
 
-/// The end of a deck for one party beside the owner.
+/// The end of a deck for a party other than the owner.
 ///
-/// A clause sees it as what the thief knows: which deck it is of, the entries that it has `taken`, and how many of its
-/// steals answered `Nothing` or `Lost` (`misses`). It is `Send` where `T` is.
+/// Contracts see what the thief knows: which deck it is of, the entries that it has `taken`, and how many of its steals returned
+/// `Nothing` or `Lost` (`misses`). It is `Send` where `T` is.
 #[derive(Drop)]
 pub struct Thief<T> {
     pub(crate) stealer: Stealer<T, Global, Party<T>, OneHistory>,
@@ -44,7 +44,7 @@ impl<T> Model for Thief<T> {
 impl<T> Thief<T> {
     /// Takes the oldest entry left.
     ///
-    /// Each `Nothing` and each `Lost` is counted, up to the last value of the count.
+    /// Each `Nothing` and each `Lost` is counted, up to the count's greatest value.
     pub fn steal(&mut self) -> Steal<T>
         ensures kept { self.new ≡ record self.old { taken = self.new.taken; misses = self.new.misses } }
         ensures answer { StealAnswers self.old result self.new }

@@ -12,7 +12,7 @@ use crate::parser::source::{LexedText, expect, expect_name, open, rest_after};
 use script_grammar::{CallText, Expr, Items};
 use script_tokens::{Lexeme, Word};
 
-// What stands after an argument: further ones, each after a comma. They are put after those that were found before.
+// What follows an argument: more of them, each after a comma. They are added to those read before.
 pub(crate) fn more_args<'t>(
     source: &LexedText<'_>,
     mut found: Vec<Expr>,
@@ -31,7 +31,7 @@ pub(crate) fn more_args<'t>(
     Ok((Items(found), left))
 }
 
-// The arguments after an opening parenthesis, and the closing one.
+// The arguments behind an opening parenthesis, and the closing one.
 fn arguments<'t>(
     source: &LexedText<'_>,
     tokens: &'t [Lexeme],

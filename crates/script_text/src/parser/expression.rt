@@ -208,7 +208,7 @@ fn factor<'t>(
     }
 }
 
-// A factor that begins with a name, after which `rest` stands.
+// A factor that begins with a name; `rest` follows the name.
 #[cycle(expressions)]
 fn name_or_item<'t>(
     source: &LexedText<'_>,

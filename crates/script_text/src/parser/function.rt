@@ -43,7 +43,7 @@ fn param<'t>(
     ))
 }
 
-// What stands after a parameter: further ones, each after a comma. They are put after those that were found before.
+// What follows a parameter: more of them, each after a comma. They are added to those read before.
 fn more_params<'t>(
     source: &LexedText<'_>,
     mut found: Vec<Param>,
@@ -62,7 +62,7 @@ fn more_params<'t>(
     Ok((Items(found), left))
 }
 
-// The parameters after an opening parenthesis, and the closing one.
+// The parameters behind an opening parenthesis, and the closing one.
 fn params<'t>(
     source: &LexedText<'_>,
     tokens: &'t [Lexeme],
@@ -98,7 +98,7 @@ fn answer_kind<'t>(
     Ok((Kind::Int, tokens))
 }
 
-// `{ .. return E; }`: the statements, the place of `return`, and what it returns.
+// `{ .. return E; }`: the statements, the offset of `return`, and what it returns.
 fn body<'t>(
     source: &LexedText<'_>,
     tokens: &'t [Lexeme],
@@ -117,7 +117,7 @@ fn body<'t>(
     Ok((acts, return_at, x, rest))
 }
 
-// What stands after `fn`.
+// What follows `fn`.
 fn function<'t>(
     source: &LexedText<'_>,
     tokens: &'t [Lexeme],

@@ -80,7 +80,7 @@ fn target<'t>(
     Ok((None, tokens))
 }
 
-// `call f(i, ..);`, where `i` is the loop's name again.
+// `call f(i, ..);`, where `i` is the loop variable again.
 fn loop_call<'t>(
     source: &LexedText<'_>,
     var: &Name,
@@ -103,7 +103,7 @@ fn loop_call<'t>(
     Ok((CallText { name, args }, rest))
 }
 
-// What stands after the name, which has to come again.
+// What follows the name, which must be repeated here.
 fn repeated<'t>(
     source: &LexedText<'_>,
     name: &Name,

@@ -13,15 +13,15 @@ use script_grammar::{LONGEST_NAME, Name, NameText, Number};
 use script_tokens::{LexEnd, Lexeme, Version, Word};
 use std::alloc::Global;
 
-/// A text that was cut into lexemes.
+// A text, cut into lexemes.
 #[derive(Drop)]
 pub(crate) struct LexedText<'a> {
     pub(crate) alloc: Global,
     pub(crate) bytes: &'a [u8],
     pub(crate) version: Version,
-    /// The length of the text.
+    // The length of the text.
     pub(crate) end: u32,
-    /// Why there is no further lexeme.
+    // Why there is no further lexeme.
     pub(crate) stop: LexEnd,
 }
 
@@ -29,7 +29,7 @@ const DEEPEST: u8 = 64;
 
 const LARGEST_NUMBER: u64 = 9_223_372_036_854_775_807;
 
-// The bytes of a lexeme. A place past the end of the text stands for the end.
+// A lexeme's bytes. An offset past the end counts as the end.
 pub(crate) fn text<'a>(source: &LexedText<'a>, lexeme: Lexeme) -> &'a [u8]
     ensures { result.now ≡ text_of source.now.bytes.now lexeme }
 {
@@ -64,7 +64,7 @@ pub(crate) fn number_node(source: &LexedText<'_>, lexeme: Lexeme) -> Result<Numb
     }
 }
 
-// The number that digits stand for, if an i64 holds it.
+// The number that digits write, if an i64 holds it.
 fn decimal_value(digits: &[u8]) -> Option<u64>
     ensures { IsValue digits.now result }
 {
@@ -79,7 +79,7 @@ fn decimal_value(digits: &[u8]) -> Option<u64>
     Some(value)
 }
 
-// The lexeme of that word and what stands after it, where it comes next.
+// The next lexeme and what follows it, where it is of this word.
 pub(crate) fn next(tokens: &[Lexeme], word: Word) -> Option<(Lexeme, &[Lexeme])>
     ensures { MatchOption result (NextIsNot word tokens.now) (λ p. NextLexeme word p.0 tokens.now p.1.now) }
 {
@@ -91,7 +91,7 @@ pub(crate) fn next(tokens: &[Lexeme], word: Word) -> Option<(Lexeme, &[Lexeme])>
     }
 }
 
-// The place of the word and what stands after it, where it comes next.
+// The offset of the next lexeme and what follows it, where it is of this word.
 pub(crate) fn rest_after(tokens: &[Lexeme], word: Word) -> Option<(u32, &[Lexeme])>
     ensures { MatchOption result (NextIsNot word tokens.now) (λ p. NextIs word p.0 tokens.now p.1.now) }
 {
@@ -99,7 +99,7 @@ pub(crate) fn rest_after(tokens: &[Lexeme], word: Word) -> Option<(u32, &[Lexeme
     Some((lexeme.start, rest))
 }
 
-// The fault where nothing that may come next does.
+// The fault where the next lexeme isn't expected.
 pub(crate) fn unexpected(source: &LexedText<'_>, tokens: &[Lexeme]) -> SyntaxError
     ensures { result ≡ unexpected_in source.now tokens.now }
 {
@@ -111,7 +111,7 @@ pub(crate) fn unexpected(source: &LexedText<'_>, tokens: &[Lexeme]) -> SyntaxErr
     }
 }
 
-// One level further in, at the token that leads there.
+// One level deeper, at the token that opens it.
 pub(crate) fn deeper(depth: u8, at: u32) -> Result<u8, SyntaxError>
     requires { depth ≤ 64 }
     ensures { Deepens depth at result }
@@ -123,7 +123,7 @@ pub(crate) fn deeper(depth: u8, at: u32) -> Result<u8, SyntaxError>
     }
 }
 
-// What stands after the word, which has to come next.
+// What follows this word, which must come next.
 pub(crate) fn expect<'t>(
     source: &LexedText<'_>,
     tokens: &'t [Lexeme],
@@ -140,7 +140,7 @@ pub(crate) fn expect<'t>(
     }
 }
 
-// What stands after an opening bracket, which has to come next.
+// What follows an opening bracket, which must come next.
 pub(crate) fn open<'t>(
     source: &LexedText<'_>,
     tokens: &'t [Lexeme],
@@ -160,7 +160,7 @@ pub(crate) fn open<'t>(
     }
 }
 
-// What was read before, beside what was read now. It is dropped where there is a fault.
+// What was read before, with what was read now. It is dropped where there is a fault.
 pub(crate) fn beside<A: Drop, B>(
     before: A,
     now: Result<B, SyntaxError>,

@@ -186,7 +186,7 @@ fn begins_statement(word: Word) -> bool
     )
 }
 
-// The first lexeme of a statement and what stands after it, where one begins.
+// The first lexeme of a statement and what follows it, where a statement begins.
 fn next_stmt(tokens: &[Lexeme]) -> Option<(Lexeme, &[Lexeme])>
     ensures { MatchOption result (NoStmt tokens.now)
         (λ p. (tokens.now ≡ p.0 ∷ p.1.now) × (begins_stmt p.0.word ≡ true)) }
@@ -221,7 +221,7 @@ pub(crate) fn stmts<'t>(
     Ok((Items(found), left))
 }
 
-// A statement, told by its first lexeme.
+// A statement, chosen by its first lexeme.
 #[cycle(statements)]
 fn act<'t>(
     source: &LexedText<'_>,
@@ -328,7 +328,7 @@ fn block<'t>(
     Ok((body, rest))
 }
 
-// The block after `else`. Where no `else` comes, it is empty.
+// The block behind `else`. Where there is no `else`, it is empty.
 #[cycle(statements)]
 fn otherwise<'t>(
     source: &LexedText<'_>,
