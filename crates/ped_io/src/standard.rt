@@ -1,14 +1,41 @@
 // A source over a reader of std, and a sink over a writer.
 ghost use Rattle.std.specs.Prelude.{◌≡◌, ◌<◌, length};
 ghost use Rattle.std.specs.Io.{ReadsAtMost};
-ghost use Rattle.ped_io.specs.Causes.{Counts, HasCause};
+ghost use Rattle.ped_io.specs.Causes.{Counts, HandsOn, HasCause, TakesOrFails};
 ghost use Rattle.ped_io.specs.Streams.{Reads, TakesSome, Writes};
 
 use crate::stream::{Failed, Sink, Source};
-use std::io::{Read, Write};
+use std::io::{self, ErrorKind, Read, Write};
 
-/// A source over a reader. A read asks the reader once and hands on what it gives, and the count of faults
-/// rises, by one, exactly where the reader fails.
+// A reader's or a writer's answer, with its failure counted.
+fn counted(answer: io::Result<usize>, faults: &mut u64) -> Result<usize, Failed>
+    ensures told { HandsOn answer result }
+    ensures cause { HasCause faults.old faults.new result }
+    ensures count { Counts faults.old faults.new result }
+{
+    match answer {
+        Ok(count) => Ok(count),
+        Err(_) => {
+            *faults = faults.saturating_add(1);
+            Err(Failed)
+        }
+    }
+}
+
+// A writer's answer, where it is a failure to take no byte.
+fn taken(answer: io::Result<usize>) -> io::Result<usize>
+    ensures { TakesOrFails answer result }
+{
+    match answer {
+        Ok(0) => Err(io::Error::from(ErrorKind::WriteZero)),
+        other => other,
+    }
+}
+
+/// A source over a reader. A read asks the reader once and hands on its answer. It fails exactly where the reader does, and the count of
+/// faults then rises by one, until it stands at its last value, 18446744073709551615.
+///
+/// That the answer handed on is the reader's is one line of code, of which no clause speaks: a reader doesn't tell that it was asked.
 ///
 /// It tells the bytes that the reader tells. Standard input tells none.
 #[derive(Debug, Drop)]
@@ -39,18 +66,14 @@ impl<R: Read> Source for StdSource<R> {
         ensures cause { HasCause (⟦<StdSource<R> as Source>⟧.faults self.old) (⟦<StdSource<R> as Source>⟧.faults self.new) result }
         ensures count { Counts (⟦<StdSource<R> as Source>⟧.faults self.old) (⟦<StdSource<R> as Source>⟧.faults self.new) result }
     {
-        match self.inner.read(buf) {
-            Ok(count) => Ok(count),
-            Err(_) => {
-                self.faults = self.faults.saturating_add(1);
-                Err(Failed)
-            }
-        }
+        counted(self.inner.read(buf), &mut self.faults)
     }
 }
 
-/// A sink over a writer. A write asks the writer once and hands on what it takes, and the count of faults
-/// rises, by one, exactly where the writer fails. A writer that takes no byte has failed.
+/// A sink over a writer. A write asks the writer once and hands on its answer. It fails exactly where the writer does, or takes no byte, and
+/// the count of faults then rises by one, until it stands at its last value, 18446744073709551615.
+///
+/// As with a source, no clause says that the answer is the writer's.
 ///
 /// It tells the bytes that the writer tells. Standard output and standard error tell none.
 #[derive(Debug, Drop)]
@@ -81,12 +104,6 @@ impl<W: Write> Sink for StdSink<W> {
         ensures cause { HasCause (⟦<StdSink<W> as Sink>⟧.faults self.old) (⟦<StdSink<W> as Sink>⟧.faults self.new) result }
         ensures count { Counts (⟦<StdSink<W> as Sink>⟧.faults self.old) (⟦<StdSink<W> as Sink>⟧.faults self.new) result }
     {
-        match self.inner.write(bytes) {
-            Ok(count) if 0 < count => Ok(count),
-            _ => {
-                self.faults = self.faults.saturating_add(1);
-                Err(Failed)
-            }
-        }
+        counted(taken(self.inner.write(bytes)), &mut self.faults)
     }
 }
