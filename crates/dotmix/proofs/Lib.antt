@@ -1,3 +1,4 @@
 pub mod GammaLemmas
+pub mod LawLemmas
 pub mod MixLemmas
 pub mod ProductLemmas

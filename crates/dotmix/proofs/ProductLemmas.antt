@@ -8,7 +8,7 @@ use Rattle.std.proofs.lemmas.List.Sums.{sum_by-append}
 use Rattle.std.proofs.lemmas.Option.{slice_get_within, get_or_from_slice_get}
 use Rattle.dotmix.specs.Draws.{coefficient, dot, modulus, terms}
 
-zip-none : (gamma : List ℕ) → zip {X = ℕ} gamma [] ≡ []
+pub zip-none : (gamma : List ℕ) → zip {X = ℕ} gamma [] ≡ []
 zip-none [] = refl
 zip-none (c ∷ gamma) = refl
 

@@ -1,4 +1,5 @@
 pub mod Draws
 pub mod Words
 pub mod GammaState
+pub mod Laws
 pub mod Trails

@@ -19,6 +19,7 @@
 #![tactic(auto)]
 
 mod gamma;
+pub mod laws;
 mod memory;
 mod mixing;
 mod product;

@@ -32,6 +32,10 @@ default_depth = 256
 abbrev pub hash_depth : ℕ
 hash_depth = 512
 
+-- the seed where neither a seed nor a list is given
+abbrev pub default_seed : ℕ
+default_seed = 0
+
 abbrev pub depth_of : OptionValues → ℕ
 depth_of values = unwrap_or (number_value values name.Depth) default_depth
 
@@ -52,9 +56,9 @@ abbrev pub gamma_from : Option (List ℕ) → ℕ → ℕ → List ℕ
 gamma_from None seed depth = coefficients seed depth
 gamma_from (Some given) seed depth = padded given depth
 
--- by default the coefficients of seed 0
+-- those of the list or the seed that is given
 abbrev pub command_gamma : OptionValues → ℕ → List ℕ
-command_gamma values depth = gamma_from (list values name.Gamma) (unwrap_or (number_value values name.Seed) 0) depth
+command_gamma values depth = gamma_from (list values name.Gamma) (unwrap_or (number_value values name.Seed) default_seed) depth
 
 abbrev pub settings_of : OptionValues → Settings
 settings_of values = record {

@@ -23,6 +23,9 @@ const DEFAULT_DEPTH: u32 = 256;
 /// How many coefficients there are where a command takes no depth.
 const HASH_DEPTH: u32 = 512;
 
+/// The seed where neither a seed nor coefficients are given.
+const DEFAULT_SEED: u64 = 0;
+
 const DEFAULT_BUDGET: u32 = 1_000_000;
 
 const DEFAULT_WORKERS: u32 = 4;
@@ -239,7 +242,7 @@ impl<'a> Given<'a> {
                 Err(error) => Err(gamma_error(error, at)),
             },
             None => {
-                let seed = self.number(OptionName::Seed).unwrap_or(0);
+                let seed = self.number(OptionName::Seed).unwrap_or(DEFAULT_SEED);
                 Ok(Gamma::of_seed(alloc, seed, depth)?)
             }
         }

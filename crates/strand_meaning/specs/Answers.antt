@@ -6,7 +6,7 @@ use Rattle.serial_meaning.specs.declared.event.Event.{Event}
 use Rattle.serial_meaning.specs.declared.answer.Outcome.{Outcome}
 use Rattle.serial_meaning.specs.declared.answer.Outcome.TheVariants as outcome
 
--- events and an outcome; a cut is by a fault that stands before all that the origin can do
+-- events and an outcome; a cut's fault precedes all that the origin can do
 abbrev pub evaluation_of : List Event → Outcome → Evaluation
 evaluation_of out (outcome.Value v) = record { items = out; ending = Ok (v ∷ []) }
 evaluation_of out (outcome.Values vs) = record { items = out; ending = Ok vs }

@@ -1,5 +1,5 @@
--- Statements that don't touch pending variables (docs/LANGUAGE.md, "Pending variables"): those into which a child's value is still to
--- come.
+-- Statements that don't touch pending variables (docs/LANGUAGE.md, "Pending variables"): those that a child's value is still to
+-- fill.
 use Rattle.std.specs.Prelude.{◌≡◌, List, [], ◌∷◌, ◌++◌, Option, Some, None, Contains}
 use Rattle.script_grammar.specs.declared.tree.Name.{Name}
 use Rattle.script_grammar.specs.declared.tree.Expr.{Expr}
@@ -16,7 +16,7 @@ use Rattle.serial_meaning.specs.Plan.{PlanView, functions_of}
 abbrev pub IsWithin : Names → Names → Type 0
 IsWithin some all = (name : List _) → Contains some name → Contains all name
 
--- no name of the one is a name of the other
+-- no name is in both
 abbrev pub IsApart : Names → Names → Type 0
 IsApart names others = (name : List _) → Contains names name → Contains others name → ⊥
 
@@ -35,7 +35,7 @@ abbrev pub target_names : Option Name → Names
 target_names None = []
 target_names (Some x) = x.bytes ∷ []
 
--- the variables that a statement reads or writes, without what stands inside it
+-- the variables that a statement itself reads or writes, without the statements inside it
 abbrev pub touched : Act-F Act Stmt → Names
 touched (act.Let x r) = x.bytes ∷ names_in_right r
 touched (act.Array x n) = x.bytes ∷ []
@@ -50,7 +50,7 @@ touched (act.While e a) = names_in e
 touched (act.Pfor x lo hi target c) = names_in lo ++ (names_in hi ++ (names_in_all c.args ++ target_names target))
 touched (act.Scope a) = []
 
--- a spawn's target is pending from then on, and nothing is after a sync
+-- a spawn's target is pending from then on, and a sync leaves none pending
 abbrev pub pending_right : Name → Right → Names → Names
 pending_right x (right.Value e) pending = pending
 pending_right x (right.Draw at) pending = pending
@@ -72,7 +72,7 @@ pending_after (act.While e a) pending = pending
 pending_after (act.Pfor x lo hi target c) pending = pending
 pending_after (act.Scope a) pending = []
 
--- nothing stands inside it
+-- it contains no statements
 abbrev pub IsSimple : Act-F Act Stmt → Type 0
 IsSimple (act.Let x r) = Unit {0}
 IsSimple (act.Array x n) = Unit {0}
@@ -87,8 +87,9 @@ IsSimple (act.While e a) = ⊥
 IsSimple (act.Pfor x lo hi target c) = Unit {0}
 IsSimple (act.Scope a) = ⊥
 
--- Where these variables are pending the statements touch none that is pending before it, and at their end no others are pending than
--- those of the last list. A loop's condition and body are judged with all that is pending before one of its iterations. A scope ends with a sync.
+-- Where these variables are pending, each statement touches none that is pending before it, and at the end only those of the last
+-- list are pending. A loop's condition and body are judged with all that is pending before any of its iterations. A scope ends with
+-- a sync.
 pub data IsClear : Names → List Stmt → Names → Type 0 where
   Nothing : {pending ends : Names} → IsWithin pending ends → IsClear pending [] ends
   Simple : {pending ends : Names} {st : Stmt} {sts : List Stmt} (a : Act-F Act Stmt) → out-Act (out-Stmt st).act ≡ a → IsSimple a →
@@ -100,7 +101,7 @@ pub data IsClear : Names → List Stmt → Names → Type 0 where
   Levels : {pending ends : Names} {st : Stmt} {sts : List Stmt} (block : List Stmt) (left : Names) → out-Act (out-Stmt st).act ≡ act.Scope block →
       IsClear pending block left → IsClear [] sts ends → IsClear pending (st ∷ sts) ends
 
--- each function's statements, where nothing is pending before them
+-- each function's statements, with nothing pending before them
 abbrev pub IsClearFunction : Function → Type 0
 IsClearFunction f = (ends : Names) × IsClear [] f.body ends
 

@@ -1,4 +1,4 @@
--- What a task is once answers are taken of which one is a fault or a cut.
+-- How a task ends where one of its children's answers is a fault or a cut.
 use Rattle.std.specs.Prelude.{◌≡◌, List, [], ◌∷◌, ◌++◌, Option, Some, None, Err, Contains}
 use Rattle.serial_meaning.specs.Plan.{PlanView}
 use Rattle.serial_meaning.specs.Eval.{eval}
@@ -19,7 +19,7 @@ use Rattle.strand_meaning.specs.Rest.{GaveValues, evaluations}
 abbrev pub merged_of : Task → List AwaitedChild → Trace
 merged_of t ps = merged_answers ps (evaluations (eval t.plan) ps) (record t.trace { handed = [] })
 
--- A child's cut is one of its parent, where the children before it gave values.
+-- A child's cut may be its parent's, where the children before it gave values.
 abbrev pub CutsPass : Type 0
 CutsPass =
     (t : Task) (front : List AwaitedChild) (p : AwaitedChild) (later : List AwaitedChild) (by : Fault) → IsTask t → t.trace.fault ≡ None → t.trace.handed ≡ front ++ p ∷ later →
@@ -41,7 +41,7 @@ AreAnswersOf plan [] (a ∷ answers) = ⊥
 AreAnswersOf plan (p ∷ ps) [] = ⊥
 AreAnswersOf plan (p ∷ ps) (a ∷ answers) = (a.plan ≡ plan) × (a.origin ≡ p.child) × IsAnswer a.plan a.origin a.out a.outcome × AreAnswersOf plan ps answers
 
--- the first outcome that isn't values, a fault or a cut
+-- the first outcome that is a fault or a cut
 abbrev pub or_ends : Option Outcome → Outcome → Option Outcome
 or_ends (Some ended) next = Some ended
 or_ends None (outcome.Value v) = None
@@ -57,15 +57,15 @@ abbrev pub by_fault : Option Fault → Option Outcome
 by_fault None = None
 by_fault (Some f) = Some (outcome.Fault f)
 
--- the fault that an outcome names, if it does, is the plan's
+-- the fault of an outcome, if it has one, is the plan's
 abbrev pub IsByFaultOf : PlanView → Outcome → Type 0
 IsByFaultOf plan (outcome.Value v) = Unit {0}
 IsByFaultOf plan (outcome.Values vs) = Unit {0}
 IsByFaultOf plan (outcome.Fault f) = Contains (faults plan) f
 IsByFaultOf plan (outcome.Cut f) = Contains (faults plan) f
 
--- Once all its children's answers are merged, the first fault or cut in the order of a task's trace is its own answer, with what was
--- merged up to there. Where that is a fault, the answers after it may be cuts.
+-- Once all its children's answers are merged, a task answers with the first fault or cut in the order of its trace, and with what
+-- was merged up to there. Where that is a fault, the answers after it may be cuts.
 abbrev pub AnswersEnd : Type 0
 AnswersEnd =
     (t : Task) (answers : List AnswerView) (ended : Outcome) → IsTask t → AreAnswersOf t.plan t.trace.handed answers → ended_after (by_fault t.trace.fault) answers ≡ Some ended →

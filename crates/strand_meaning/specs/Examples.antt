@@ -11,13 +11,13 @@ use Rattle.serial_meaning.specs.declared.origin.Origin.TheVariants.{Loop}
 use Rattle.strand_meaning.specs.Task.{Task, start, MoveOrStop, Passes, Stops, Spawn, Wait, End, step, on}
 use Rattle.strand_meaning.specs.Rest.{evaluations}
 
--- a stop, without what is left
+-- a stop, without the rest of the task
 pub data Mark : Type 0 where
   ToChild : Mark
   ToWait : Mark
   ToEnd : Mark
 
--- The stops of a task, where each wait is over with the evaluations of the children: in as many moves and stops as are given.
+-- The stops of a task, where each wait ends with the evaluations of the children, for as many moves and stops as are given.
 abbrev pub marked : (Task → List Mark) → PlanView → MoveOrStop → List Mark
 marked go plan (Passes next) = go next
 marked go plan (Stops (Spawn child rest)) = ToChild ∷ go rest
@@ -43,17 +43,17 @@ ReturnWaitsForAChild =
     main_marks 8 (f_of_nothing ∷ function (codes "main") [] (stated (act.Spawn (applied (codes "f") [])) ∷ []) (number 0) ∷ [])
     ≡ ToChild ∷ ToWait ∷ ToEnd ∷ []
 
--- A sync after no spawn is passed.
+-- A sync without a spawn before it doesn't wait.
 abbrev pub SyncAloneIsPassed : Type 0
 SyncAloneIsPassed = main_marks 8 (function (codes "main") [] (stated act.Sync ∷ []) (number 0) ∷ []) ≡ ToEnd ∷ []
 
--- A fault, here of a return that finds no step, waits for the child first.
+-- A fault, here of a return without a step left, first waits for the child.
 abbrev pub FaultWaitsForAChild : Type 0
 FaultWaitsForAChild =
     (let plan = plan_of (f_of_nothing ∷ function (codes "main") [] (stated (act.Spawn (applied (codes "f") [])) ∷ []) (number 0) ∷ []) 1 in marks 8 (start plan (main_origin plan)))
     ≡ ToChild ∷ ToWait ∷ ToEnd ∷ []
 
--- A loop is handed out whole, and waited for at once.
+-- A loop is begun as one child, and waited for at once.
 abbrev pub LoopsAreHandedOutWhole : Type 0
 LoopsAreHandedOutWhole =
     main_marks 8
@@ -62,7 +62,7 @@ LoopsAreHandedOutWhole =
     ∷ [])
     ≡ ToChild ∷ ToWait ∷ ToEnd ∷ []
 
--- A loop task hands out half while two iterations are left, runs the last one, and waits.
+-- A loop's task begins half as a child while two iterations are left, runs the last one itself, and waits.
 abbrev pub LoopTasksHandOutHalves : Type 0
 LoopTasksHandOutHalves =
     (let plan = plan_of (f_of_number ∷ []) 20 in marks 12 (start plan (Loop 0 [] (pos 0) (0 ∷ []) (record { lo = 0; hi = 3 }))))

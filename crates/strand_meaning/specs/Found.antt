@@ -1,4 +1,4 @@
--- Where the variables are found to which the values of a task's children go.
+-- The slots of the variables that the values of a task's children go to are in the plan's tables.
 use Rattle.std.specs.Prelude.{◌≡◌, ℕ, true, List, [], ◌∷◌, Option, Some, None, length, map}
 use Rattle.script_check.specs.Places.{every_in_target, finds_all, has_place, table_of_places, variable_names}
 use Rattle.script_grammar.specs.declared.tree.Function.{Function}
@@ -9,7 +9,7 @@ use Rattle.strand_meaning.specs.Machine.{Destination, Spawned, Looped, Half, Mac
 use Rattle.strand_meaning.specs.Task.{Stage, Running, AtSync, AtLoop, Ended, Remaining, Splits, Runs, Finished}
 use Rattle.strand_meaning.specs.Trace.{AwaitedChild}
 
--- the numbers of the functions of a machine's frames, the innermost first
+-- the functions of a machine's frames, the innermost first
 abbrev pub functions_in : Machine → List ℕ
 functions_in m = map (λ a. a.function) (m.top ∷ m.below)
 
@@ -19,7 +19,7 @@ functions_at (AtSync m) = functions_in m
 functions_at (AtLoop m) = functions_in m
 functions_at (Ended ended) = []
 
--- of the frames that remain of a task
+-- those of the frames that remain of a task
 abbrev pub functions_left : Remaining → List ℕ
 functions_left (Splits left) = []
 functions_left (Runs stage) = functions_at stage
@@ -29,17 +29,17 @@ abbrev pub variables_in : Option Function → List (List ℕ)
 variables_in None = []
 variables_in (Some f) = variable_names f
 
--- The plan's table has the place of the variable among those of the function of this number, if there is a target.
+-- The plan's table has the variable's slot in this function, if there is a target.
 abbrev pub FindsTargetIn : PlanView → Option Name → ℕ → Type 0
 FindsTargetIn plan target function =
     every_in_target (has_place (table_of_places (functions_of plan)) (variables_in (function_at (functions_of plan) function))) target ≡ true
 
--- the same of the frame with so many below it, if there is one
+-- the same for the frame with this many below it, if there is one
 abbrev pub FindsAt : PlanView → ℕ → Option Name → List ℕ → Type 0
 FindsAt plan height target [] = Unit {0}
 FindsAt plan height target (function ∷ below) = (height ≡ length below → FindsTargetIn plan target function) × FindsAt plan height target below
 
--- and of the innermost one
+-- and for the innermost one
 abbrev pub FindsInnermost : PlanView → Option Name → List ℕ → Type 0
 FindsInnermost plan target [] = Unit {0}
 FindsInnermost plan target (function ∷ below) = FindsTargetIn plan target function
@@ -53,6 +53,6 @@ abbrev pub FindsTargets : PlanView → List ℕ → List AwaitedChild → Type 0
 FindsTargets plan functions [] = Unit {0}
 FindsTargets plan functions (p ∷ ps) = FindsDestination plan functions p.destination × FindsTargets plan functions ps
 
--- the plan's tables have all that its functions name
+-- the plan's tables have everything that its functions name
 abbrev pub IsFoundPlan : PlanView → Type 0
 IsFoundPlan plan = finds_all (table_of_places (functions_of plan)) (functions_of plan) ≡ true

@@ -29,7 +29,7 @@ use Rattle.strand_meaning.specs.Sound.{IsSoundStage, UnfilledArePendingIn, IsTas
 abbrev pub ValidPlansAreClear : Type 0
 ValidPlansAreClear = (plan : PlanView) → IsValid plan.script → IsClearPlan plan
 
--- A task begins sound: of an origin of the plan, where no function touches a pending variable.
+-- A new task satisfies the invariant: of an origin of the plan, where no function touches a pending variable.
 abbrev pub TasksBegin : Type 0
 TasksBegin = (plan : PlanView) (o : Origin) → IsOriginOf plan o → IsClearPlan plan → IsTask (start plan o)
 
@@ -39,7 +39,7 @@ IsFaultOf plan (outcome.Values vs) = Unit {0}
 IsFaultOf plan (outcome.Fault f) = Contains (faults plan) f
 IsFaultOf plan (outcome.Cut f) = ⊥
 
--- what a stop gives is sound, and an end is the origin's evaluation
+-- what a stop returns satisfies the invariant, and an end is the origin's evaluation
 abbrev pub IsSoundStop : Task → Stop → Type 0
 IsSoundStop t (Spawn child rest) = IsOriginOf t.plan child × IsTask rest
 IsSoundStop t (Wait rest) = IsTask rest
@@ -56,7 +56,7 @@ StepsAreSound = (t : Task) → IsTask t → IsSoundStep t (step t)
 abbrev pub StopsAreSound : Type 0
 StopsAreSound = (t : Task) (stop : Stop) → IsTask t → IsNext t stop → IsSoundStop t stop
 
--- A task that takes the evaluations of its children as their answers stays sound.
+-- A task that takes its children's evaluations as their answers keeps the invariant.
 abbrev pub AnswersKeepTasks : Type 0
 AnswersKeepTasks = (t : Task) → IsTask t → IsTask (on (evaluations (eval t.plan) t.trace.handed) t)
 
@@ -65,11 +65,11 @@ on_reached change (Ok (Stands m)) = Ok (Stands (change m))
 on_reached change (Ok (Gives v)) = Ok (Gives v)
 on_reached change (Err f) = Err f
 
--- a move's run, with what it leaves changed
+-- a move's run, with the machine that it leaves changed
 abbrev pub changed_run : (Machine → Machine) → Run Effect Fault Reached → Run Effect Fault Reached
 changed_run change r = record { items = r.items; ending = on_reached change r.ending }
 
--- A child's value or fault may be put in before a move or after it, and the move shows the same: no move reads or writes an unfilled
+-- A child's value or fault may be put in before a move or after it, with the same effects: no move reads or writes an unfilled
 -- variable.
 abbrev pub MovesLeaveUnfilledAlone : Type 0
 MovesLeaveUnfilledAlone =
@@ -77,8 +77,8 @@ MovesLeaveUnfilledAlone =
     IsSoundStage plan awaiting (Running m) → Contains awaiting p → p.destination ≡ Spawned owner target →
     move plan path (changed owner (frame_with_answer target ended) m) ≡ changed_run (changed owner (frame_with_answer target ended)) (move plan path m)
 
--- The unfilled variables of each frame of a task are in the set by which validity judges the statement at which it stands; at an implied sync,
--- and at the `return` that brings one, in the set that validity has at the end of the statements before it.
+-- The unfilled variables of each frame of a task are in the set with which validity judges the statement that the frame is at; at
+-- an implied sync, and at the `return` that implies it, in the set that validity has behind the statements before it.
 abbrev pub UnfilledIsPending : Type 0
 UnfilledIsPending = (t : Task) → IsTask t → UnfilledArePendingIn t.plan t.trace.handed t.remaining
 
@@ -91,13 +91,13 @@ KeepsOrigin t (Spawn child rest) = IsSameTask t rest
 KeepsOrigin t (Wait rest) = IsSameTask t rest
 KeepsOrigin t (End out ended) = Unit {0}
 
--- fewer stops are left after one
+-- fewer stops are left behind this one
 abbrev pub LeavesFewer : Task → Stop → Type 0
 LeavesFewer t (Spawn child rest) = (stops_left rest < stops_left t) × (rest.waiting ≡ false)
 LeavesFewer t (Wait rest) = (stops_left rest < stops_left t) × (rest.waiting ≡ true)
 LeavesFewer t (End out ended) = Unit {0}
 
--- With each stop of a task that doesn't stand in a wait fewer are left.
+-- Each stop of a task that isn't waiting leaves fewer.
 abbrev pub StopsFall : Type 0
 StopsFall = (t : Task) (stop : Stop) → IsTask t → t.waiting ≡ false → IsNext t stop → LeavesFewer t stop
 
@@ -109,22 +109,22 @@ AnswersAreEvaluations = (plan : PlanView) (o : Origin) (out : List Event) (ended
 abbrev pub AnswersLeaveNoMore : Type 0
 AnswersLeaveNoMore = (t : Task) → IsTask t → t.waiting ≡ true → stops_left (on (evaluations (eval t.plan) t.trace.handed) t) ≤ stops_left t
 
--- What is left of a task at a stop has its plan and its origin.
+-- The rest of a task at a stop has its plan and its origin.
 abbrev pub StopsKeepOrigins : Type 0
 StopsKeepOrigins = (t : Task) (stop : Stop) → IsNext t stop → KeepsOrigin t stop
 
--- There is one next stop.
+-- There is only one next stop.
 abbrev pub StopsAreOne : Type 0
 StopsAreOne = (t : Task) (stop other : Stop) → IsNext t stop → IsNext t other → stop ≡ other
 
 abbrev pub StopsCome : Type 0
 StopsCome = (t : Task) → (stop : Stop) × IsNext t stop
 
--- With each move fewer are left before the next stop.
+-- Each move leaves fewer before the next stop.
 abbrev pub MovesFall : Type 0
 MovesFall = (t next : Task) → step t ≡ Passes next → moves_left next < moves_left t
 
--- an instance leaves room for a rank of its own, and a loop for its iterations' too
+-- an instance's path leaves room for a rank, and a loop's for its iterations' ranks too
 abbrev pub FitsDepth : PlanView → Origin → Type 0
 FitsDepth plan (Instance function args path) = length path + 1 ≤ plan.limits.depth
 FitsDepth plan (Loop function rest first path range) = length path + 2 ≤ plan.limits.depth
@@ -133,11 +133,11 @@ FitsDepth plan (Loop function rest first path range) = length path + 2 ≤ plan.
 abbrev pub OriginsFit : Type 0
 OriginsFit = (plan : PlanView) (o : Origin) → 1 ≤ plan.limits.depth → IsOriginOf plan o → FitsDepth plan o
 
--- Of a task that wasn't advanced nothing is to be observed.
+-- Nothing is observed of a task that hasn't run yet.
 abbrev pub ObservationBegins : Type 0
 ObservationBegins = (plan : PlanView) (o : Origin) → IsInstanceOrigin o → IsOnWay no_observation (start plan o)
 
--- With what is observed up to a stop all is observed of the task there, and at the end its whole node.
+-- What is observed up to a stop extends what was observed of the task, and at the end it is the whole node.
 abbrev pub ObservationGoesOn : Type 0
 ObservationGoesOn = (t : Task) (observation later : Observation) (stop : Stop) → IsTask t → IsInstanceOrigin t.origin → IsOnWay observation t → Shows t later stop → OnWay (also observation later) t stop
 
@@ -145,6 +145,6 @@ ObservationGoesOn = (t : Task) (observation later : Observation) (stop : Stop) �
 abbrev pub AnswersShowNothing : Type 0
 AnswersShowNothing = (t : Task) (observation : Observation) → IsTask t → IsInstanceOrigin t.origin → IsOnWay observation t → IsOnWay observation (on (evaluations (eval t.plan) t.trace.handed) t)
 
--- There is one way to the next stop.
+-- There is a way to the next stop on which the task is observed.
 abbrev pub StopsAreShown : Type 0
 StopsAreShown = (t : Task) (stop : Stop) → IsNext t stop → (observation : Observation) × Shows t observation stop

@@ -1,5 +1,5 @@
--- How many stops are left to a task, at most, and how many moves before the next one. The stops are a number of the open run of what
--- remains: a sync is a wait, and a child is a spawn and, where it is a loop, a wait.
+-- A bound on the stops that a task has left, and on the moves before the next one. The stops are a number of the open run of what
+-- remains: a sync is a wait, and a child is a spawn and, if it is a loop, a wait too.
 use Rattle.std.specs.Prelude.{ℕ, ◌+◌, ◌-◌, ◌*◌, Bool, true, false, List, [], ◌∷◌, length, if◌then◌else◌}
 use Rattle.serial_meaning.specs.Plan.{PlanView}
 use Rattle.serial_meaning.specs.Eval.{Evaluation, path_of}
@@ -27,7 +27,7 @@ item_stops (Child o ∷ items) = 2 + item_stops items
 item_stops (Opened j ∷ items) = item_stops items
 item_stops (Closed j ∷ items) = item_stops items
 
--- a wait that it comes to, or stands in
+-- a wait to come, or under way
 abbrev pub at_wait : Bool → ℕ
 at_wait true = 0
 at_wait false = 1
@@ -62,16 +62,17 @@ stops_left t = stops_of t.plan t.origin t.waiting t.trace.handed t.remaining
 
 -- Moves
 
--- the moves by which a frame leaves its open scopes: of each the sync at its end and the way out
+-- the moves by which a frame leaves its open scopes: for each the sync at its end and the way out
 abbrev pub ways_out : Frame → ℕ
 ways_out a = 2 * length a.levels - (if a.leaving then 1 else 0)
 
--- those, and one by which each ends
+-- those, and one for the end of each frame
 abbrev pub all_ways_out : List Frame → ℕ
 all_ways_out [] = 0
 all_ways_out (a ∷ below) = ways_out a + 1 + all_ways_out below
 
--- what an instance may still do: a move for each step and two for the scope or one for the call that it may begin, and the ways out of all that is open
+-- what an instance may still do: a move for each step, two for the scope or one for the call that it may begin, and the ways out of
+-- all that is open
 abbrev pub moves_of : Machine → ℕ
 moves_of m = 3 * m.steps + ways_out m.top + all_ways_out m.below
 

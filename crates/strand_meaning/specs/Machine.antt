@@ -1,6 +1,6 @@
--- An instance as a machine: a stack of frames that does one thing at a time. What a statement does is the text of the serial
--- elision and of the open tree, in a third manner: children are handed out, and what stands inside a block, an iteration or a callee is what
--- the machine does next.
+-- An instance as a machine: a stack of frames that makes one move at a time. A statement's meaning is the one text of the serial
+-- elision and of the open tree, in a third interpretation: children are begun, and what is inside a block, an iteration or a callee
+-- is left for the machine's next moves.
 use Rattle.std.specs.Prelude.{ℕ, Bool, true, false, List, [], ◌∷◌, ◌++◌, Option, Some, None, Result, Ok, Err, length}
 use Rattle.std.specs.Prelude.{pos}
 use Rattle.script_grammar.specs.declared.tree.Name.{Name}
@@ -27,15 +27,14 @@ use Rattle.serial_meaning.specs.declared.origin.Origin.{Origin}
 
 -- The manner
 
--- where a child's value goes: into a variable, if any, of the frame with so many below it, which spawned it; into an array, if
+-- where a child's value goes: into a variable, if any, of the frame with this many below it, which spawned it; into an array, if
 -- any, of the innermost frame, whose loop it is; or among the values of the loop that it is a part of
 pub data Destination : Type 0 where
   Spawned : ℕ → Option Name → Destination
   Looped : Option Name → Destination
   Half : Destination
 
--- what a move shows: an event, a child, that it stands at a sync and waits, that it stands at a loop's end and waits, and where a scope begins
--- and has ended
+-- what a move shows: an event, a child, a wait at a sync, a wait at a loop's end, and where a scope begins and has ended
 pub data Effect : Type 0 where
   Opens : List ℕ → Effect
   Closes : List ℕ → Effect
@@ -44,8 +43,8 @@ pub data Effect : Type 0 where
   Syncs : Effect
   Loops : Effect
 
--- A statement is left by a fault, or because it goes inside: to these statements, at a present path and with so many open calls, from this
--- state.
+-- How a statement is left early: by a fault, or to go inside, to these statements, at a present path and with this many open calls,
+-- from this state.
 pub data Exit : Type 0 where
   Faulted : Fault → Exit
   Inside : List ℕ → ℕ → List Stmt → State Bool → Exit
@@ -58,8 +57,8 @@ abbrev pub sync_effects : Bool → List Effect
 sync_effects true = Syncs ∷ []
 sync_effects false = []
 
--- Children are handed out, and a filler stands for a spawned child's value. A loop's values aren't put in yet. It is known whether
--- there was a spawn since the last sync, and a sync waits only then.
+-- Children are begun, with a placeholder for a spawned child's value. A loop's values aren't put in yet. The state tells whether
+-- there was a spawn since the last sync, and only then a sync waits.
 abbrev pub handing : PlanView → Destination → Manner Effect Exit Bool
 handing plan destination = record {
   event = Emitted;
@@ -72,7 +71,7 @@ handing plan destination = record {
   sync = λ k. record { items = sync_effects k; ending = Ok false };
 }
 
--- what stands inside isn't done, but left for the next moves
+-- what is inside isn't run, but left for the next moves
 abbrev pub inside : BlockMeaning Effect Exit Bool
 inside here calls sts s = run_ends_by (Inside here calls sts s)
 
@@ -92,15 +91,15 @@ child_destination height (act.Scope a) = Spawned height None
 
 -- The stack
 
--- A scope that a frame has open: the rank of the strand that came to it, and the statements left after it.
+-- An open scope of a frame: the rank of the strand that came to it, and the statements left behind it.
 pub record Level : Type 0 where
   pub rank : ℕ
   pub left : List Stmt
 
--- A function that was begun: its place in the script, the statements left in its innermost open scope, its open scopes, of which the innermost
--- stands first, and whether the sync at the end of that one is after it;
--- whether all these and the sync that its return implies are after it; its variables; whether it spawned since its own last sync, and the least fault among the answers of these children that
--- were taken; and the variable of the frame below it that its value goes to.
+-- A function under way: its index in the script; the statements left in its innermost open scope; its open scopes, the innermost
+-- first; whether it is past the sync at the end of that one; whether it is past all these and the sync that its return implies; its
+-- variables; whether it spawned since its own last sync, and the least fault among the answers of these children that were taken;
+-- and the variable of the frame below it that its value goes to.
 pub record Frame : Type 0 where
   pub function : ℕ
   pub left : List Stmt
@@ -112,7 +111,7 @@ pub record Frame : Type 0 where
   pub faulted : Option Fault
   pub target : Option Name
 
--- an instance's rank, its steps left, its innermost frame and the others from the innermost on, which are its open calls
+-- an instance's rank, its steps left, its innermost frame and the others outwards from it, whose calls are open
 pub record Machine : Type 0 where
   pub rank : ℕ
   pub steps : ℕ
@@ -134,7 +133,7 @@ abbrev pub inside_of : List ℕ → List Level → List ℕ
 inside_of path [] = path
 inside_of path (l ∷ ls) = inside_of path ls ++ l.rank ∷ []
 
--- the present path of the innermost of these frames, in an instance of that path
+-- the present path of the innermost of these frames, in an instance with that path
 abbrev pub present : List ℕ → List Frame → List ℕ
 present path [] = path
 present path (a ∷ below) = inside_of (present path below) a.levels
@@ -143,11 +142,11 @@ present path (a ∷ below) = inside_of (present path below) a.levels
 abbrev pub here_of : List ℕ → Machine → List ℕ
 here_of path m = inside_of (present path m.below) m.top.levels
 
--- the innermost frame goes on with these statements, from this state
+-- the innermost frame continues with these statements, from this state
 abbrev pub with_left : Machine → List Stmt → State Bool → Machine
 with_left m left s = record m { rank = s.rank; steps = s.steps; top = record m.top { left = left; env = s.env; spawned = s.spawned } }
 
--- it goes on in a scope, after which these statements are left
+-- it continues in a scope, behind which these statements are left
 abbrev pub into_level : Machine → List Stmt → List Stmt → State Bool → Machine
 into_level m after inner s = record m {
   rank = s.rank;
@@ -155,15 +154,15 @@ into_level m after inner s = record m {
   top = record m.top { left = inner; levels = record { rank = m.rank; left = after } ∷ m.top.levels; env = s.env; spawned = s.spawned };
 }
 
--- the sync at the end of its innermost scope is after it
+-- it is past the sync at the end of its innermost scope
 abbrev pub with_leaving : Machine → State Bool → Machine
 with_leaving m s = record m { rank = s.rank; steps = s.steps; top = record m.top { leaving = true; env = s.env; spawned = s.spawned } }
 
--- it goes on after its innermost scope
+-- it continues behind its innermost scope
 abbrev pub out_of_level : Machine → Level → List Level → State Bool → Machine
 out_of_level m l ls s = record m { rank = s.rank; steps = s.steps; top = record m.top { left = l.left; levels = ls; leaving = false; env = s.env; spawned = s.spawned } }
 
--- its return is paid, and its last sync is after it
+-- its return's step is taken, and it is past its last sync
 abbrev pub with_returning : Machine → State Bool → Machine
 with_returning m s = record m { rank = s.rank; steps = s.steps; top = record m.top { returning = true; env = s.env; spawned = s.spawned } }
 
@@ -171,13 +170,13 @@ abbrev pub with_scalar : Option Name → Value → Env → Env
 with_scalar None v env = env
 with_scalar (Some x) v env = with_slot env x.bytes (Scalar v)
 
--- the value of a frame that ended goes to the one below it, which goes on
+-- the value of a frame that ended goes to the one below it, which continues
 abbrev pub back_in_caller : List Frame → Option Name → Value → ℕ → ℕ → Reached
 back_in_caller [] target v rank steps = Gives v
 back_in_caller (caller ∷ below) target v rank steps = Stands (record { rank = rank; steps = steps; top = record caller { env = with_scalar target v caller.env }; below = below })
 
 module _ (plan : PlanView) where
-  -- a new frame over the one that calls
+  -- a new frame on top of the one that calls
   abbrev pub calling : Option Name → CallText → List Stmt → Machine → List Stmt → State Bool → Machine
   calling target c left m body s = record {
     rank = s.rank;
@@ -186,7 +185,7 @@ module _ (plan : PlanView) where
     below = record m.top { left = left } ∷ m.below;
   }
 
-  -- what a statement goes inside to: a callee's body, the body of a loop, which then stands again, a scope, or a block
+  -- what a statement leads into: a callee's body; the body of a loop, which then comes again; a scope; or a block
   abbrev pub machine_inside : Stmt → Act-F Act Stmt → List Stmt → Machine → List Stmt → State Bool → Machine
   machine_inside st (act.Let x (right.Call at c)) left m inner s = calling (Some x) c left m inner s
   machine_inside st (act.Set x (right.Call at c)) left m inner s = calling (Some x) c left m inner s
@@ -229,7 +228,7 @@ module _ (plan : PlanView) where
     return_move m false = let r = return_run m in record { items = r.items; ending = reached (with_returning m) (λ inner s. m) r.ending }
     return_move m true = let r = value_run (function_at (functions_of plan) m.top.function) m in record { items = r.items; ending = gives m r.ending }
 
-    -- the end of the innermost scope: the sync there; and then what is left after it
+    -- at the end of the innermost scope: its sync; and then the way out
     abbrev pub level_move : Machine → Level → List Level → Bool → Run Effect Fault Reached
     level_move m l ls false =
         let how = handing plan (Spawned (length m.below) None) in
@@ -240,7 +239,7 @@ module _ (plan : PlanView) where
         let r = goes_out how plan (inside_of (present path m.below) ls) l.rank (state_of m) in
         record { items = r.items; ending = reached (out_of_level m l ls) (λ inner s. m) r.ending }
 
-    -- where no statement is left
+    -- with no statement left
     abbrev pub end_move : Machine → List Level → Run Effect Fault Reached
     end_move m [] = return_move m m.top.returning
     end_move m (l ∷ ls) = level_move m l ls m.top.leaving
@@ -253,7 +252,7 @@ module _ (plan : PlanView) where
     abbrev pub move : Machine → Run Effect Fault Reached
     move m = move_at m m.top.left
 
--- an instance before its first move, and the value of one whose function there isn't
+-- an instance before its first move, or its value where its function doesn't exist
 abbrev pub function_begun : PlanView → ℕ → List Value → Reached
 function_begun plan function args = from (function_at (functions_of plan) function)
   where

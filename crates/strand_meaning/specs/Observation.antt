@@ -1,4 +1,4 @@
--- What a task of an instance shows on its way to its next stop, tied to its node of the open tree.
+-- What an instance's task shows on its way to its next stop, as a part of its node of the open tree.
 use Rattle.std.specs.Prelude.{◌≡◌, ℕ, List, [], ◌∷◌, ◌++◌, Option, Some, None, Result, Ok, Err}
 use Rattle.serial_meaning.specs.Runs.{done, after_items, ◌then◌}
 use Rattle.serial_meaning.specs.Plan.{PlanView}
@@ -15,12 +15,12 @@ use Rattle.strand_meaning.specs.Strands.{fault_of_child}
 
 -- The node
 
--- an instance, and no loop
+-- an instance, and not a loop
 abbrev pub IsInstanceOrigin : Origin → Type 0
 IsInstanceOrigin (Instance function args path) = Unit {0}
 IsInstanceOrigin (Loop function rest first path range) = ⊥
 
--- What is left of the node of an instance's task: the open tree of what remains, with the children's evaluations as their answers.
+-- The rest of the node of an instance's task: the open tree of what remains, with the children's evaluations as their answers.
 abbrev pub remaining_node : PlanView → Origin → List AwaitedChild → Remaining → Node
 remaining_node plan o awaiting (Splits left) = done []
 remaining_node plan o awaiting (Runs stage) = rest_open plan (children_of plan o) (path_of o) awaiting stage then λ v. done (v ∷ [])
@@ -31,8 +31,8 @@ node_left t = remaining_node t.plan t.origin t.trace.handed t.remaining
 
 -- Observations
 
--- What is observed of a task: the items of the open tree that it showed, the instance's own fault, where that came, and the fault of a child by
--- which it ended, where it did.
+-- What is observed of a task: the items of the open tree that it showed, its own fault once it came to that, and the child's fault
+-- by which it ended.
 pub record Observation : Type 0 where
   pub items : List Item
   pub fault : Option Fault
@@ -45,7 +45,7 @@ abbrev pub newest : Option Fault → Option Fault → Option Fault
 newest old None = old
 newest old (Some f) = Some f
 
--- observations, and later ones
+-- observations, followed by later ones
 abbrev pub also : Observation → Observation → Observation
 also observation later = record { items = observation.items ++ later.items; fault = newest observation.fault later.fault; child_fault = newest observation.child_fault later.child_fault }
 
@@ -90,8 +90,8 @@ abbrev pub places_unless : Option Fault → List (List ℕ) → List (List ℕ)
 places_unless None js = js
 places_unless (Some f) js = without_last js
 
--- The pedigrees to which an instance with this path came by what is observed. While it waits for children it is already at the one after the
--- wait; where it ends by the fault of a child it never came there.
+-- The pedigrees that an instance with this path is observed to have come to. While it waits for children it is already at the one
+-- behind the wait; where it ends by a child's fault it never came there.
 abbrev pub places_observed : List ℕ → Observation → List (List ℕ)
 places_observed path observation = places_unless observation.child_fault ((path ++ 0 ∷ []) ∷ led_to (path ++ 0 ∷ []) observation.items)
 
@@ -114,7 +114,7 @@ remaining_fault (Splits left) = None
 remaining_fault (Runs stage) = stage_fault stage
 remaining_fault (Finished v gone_on) = None
 
--- All that a task of an instance showed since it began is observed: its node is that, and then the node of what is left.
+-- All that an instance's task showed since it began is observed: its node is that, followed by the node of what is left.
 pub record IsOnWay (observation : Observation) (t : Task) : Type 0 where
   pub node : node_of t.plan t.origin ≡ after_items observation.items (node_left t)
   pub fault : observation.fault ≡ remaining_fault t.remaining

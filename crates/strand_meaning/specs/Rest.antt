@@ -1,4 +1,4 @@
--- What remains of a task, as a run of the open tree, and what a task gives in the end.
+-- What remains of a task, as a run of the open tree, and what the task gives at its end.
 use Rattle.std.specs.Prelude.{ℕ, ◌-◌, Bool, true, false, List, [], ◌∷◌, ◌++◌, Option, Some, None, Result, Ok, Err, length}
 use Rattle.std.specs.Prelude.{pos}
 use Rattle.script_grammar.specs.declared.tree.Name.{Name}
@@ -42,23 +42,23 @@ GaveValues child (p ∷ ps) = GaveValue (child p.child).ending × GaveValues chi
 -- What remains of an instance, with its children's evaluations in place of their answers
 
 module _ (plan : PlanView) (child : Origin → Evaluation) (path : List ℕ) where
-  -- at the present path of a frame, outside of its scopes
+  -- at the present path of a frame, outside its scopes
   abbrev pub valued : List ℕ → Option Function → State (Option Fault) → Run Item NodeFault (Value × State (Option Fault))
   valued here (Some f) s = unless_fault (put_off_all plan child) plan here (value_of f.result s.env) s λ v. done (v, s)
   valued here None s = done (Int (pos 0), s)
 
-  -- a return, or what is left of it after its sync
+  -- a return, or its rest behind its sync
   abbrev pub closes : List ℕ → Bool → Option Function → State (Option Fault) → Run Item NodeFault (Value × State (Option Fault))
   closes here false f s =
       paid (put_off_all plan child) plan here s λ s. implied (put_off_all plan child) plan here (spawns_in f) s then valued here f
   closes here true f s = valued here f s
 
-  -- the end of a scope that stands at this rank: the sync in it, unless that is done, and out of it
+  -- the end of a scope that is at this rank: its sync, unless that is done, and the way out
   abbrev pub level_end : Bool → List ℕ → ℕ → State (Option Fault) → Run Item NodeFault (State (Option Fault))
   level_end false here rank s = leaves (put_off_all plan child) plan here rank s
   level_end true here rank s = goes_out (put_off_all plan child) plan here rank s
 
-  -- what is after the statements of the innermost of these open scopes: its end and the statements after it, and so on outwards
+  -- what follows the statements of the innermost of these open scopes: its end and the statements behind it, and so on outwards
   abbrev pub outwards : List ℕ → ℕ → Bool → List Level → State (Option Fault) → Run Item NodeFault (State (Option Fault))
   outwards here calls leaving [] s = done s
   outwards here calls leaving (l ∷ ls) s =
@@ -66,19 +66,19 @@ module _ (plan : PlanView) (child : Origin → Evaluation) (path : List ℕ) whe
       exec (put_off_all plan child) plan (inside_of here ls) calls l.left s then
       outwards here calls false ls
 
-  -- after the statements of a frame over these: the ends of its scopes and its return
+  -- behind the statements of a frame on top of these: the ends of its scopes and its return
   abbrev pub afterwards : Frame → List Frame → State (Option Fault) → Run Item NodeFault (Value × State (Option Fault))
   afterwards a below s =
       outwards (present path below) (length below) a.leaving a.levels s then closes (present path below) a.returning (function_at (functions_of plan) a.function)
 
-  -- a frame to its end: its statements left, and what is after them
+  -- a frame to its end: its statements left, and what follows them
   abbrev pub remains : Frame → List Frame → State (Option Fault) → Run Item NodeFault (Value × State (Option Fault))
   remains a below s = exec (put_off_all plan child) plan (inside_of (present path below) a.levels) (length below) a.left s then afterwards a below
 
   abbrev pub caller_state : Frame → Option Name → Value × State (Option Fault) → State (Option Fault)
   caller_state caller target r = record { env = with_scalar target r.0 caller.env; rank = r.1.rank; steps = r.1.steps; spawned = caller.faulted }
 
-  -- the frames below it, from the value on that goes to the first of them
+  -- the frames below it, from the value that the first of them gets
   abbrev pub remains_below : List Frame → Option Name → Value × State (Option Fault) → Run Item NodeFault Value
   remains_below [] target r = done r.0
   remains_below (caller ∷ below) target r = remains caller below (caller_state caller target r) then remains_below below caller.target
@@ -128,7 +128,7 @@ abbrev pub prefix_run : Trace → Run Event Fault (Unit {0})
 prefix_run trace = record { items = trace.prefix; ending = prefix_end trace.fault }
 
 module _ (child : Origin → Evaluation) where
-  -- the children's evaluations and the events after them, with the values of a loop's parts after those that were taken
+  -- the children's evaluations and the events behind them, with the values of a loop's parts behind those that were taken
   abbrev pub awaited_run : List AwaitedChild → List Value → Run Event Fault (List Value)
   awaited_run [] values = done values
   awaited_run (p ∷ ps) values = child p.child then λ vs. after_items p.after (awaited_run ps (more_values p.destination (Ok vs) values))
@@ -138,7 +138,7 @@ module _ (child : Origin → Evaluation) where
   iterations_left (Instance function args path) left = done []
   iterations_left (Loop function rest first path range) left = loop_evaluation child function rest first path left.lo (left.hi - left.lo)
 
--- an instance's value by itself, or after those of a loop's other iterations
+-- an instance's value alone, or behind those of a loop's other iterations
 abbrev pub all_with : Origin → List Value → Value → List Value
 all_with (Instance function args path) values v = v ∷ []
 all_with (Loop function rest first path range) values v = values ++ v ∷ []
@@ -151,6 +151,6 @@ remaining_run plan o awaiting (Runs stage) values =
     closed_run child (rest_open plan child (path_of (own_instance o)) awaiting stage) then λ v. done (all_with o values v)
 remaining_run plan o awaiting (Finished v gone_on) values = done (values ++ v ∷ [])
 
--- A trace with each child's evaluation in its place, and then what remains, up to the first fault.
+-- A trace with each child's evaluation in its place, followed by what remains, up to the first fault.
 abbrev pub finish : Task → Evaluation
 finish t = prefix_run t.trace then λ u. awaited_run (eval t.plan) t.trace.handed t.values then remaining_run t.plan t.origin t.trace.handed t.remaining

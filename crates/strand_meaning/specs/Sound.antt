@@ -1,4 +1,4 @@
--- What holds of a task at all times.
+-- The invariant of a task.
 use Rattle.std.specs.Prelude.{◌≡◌, ◌≤◌, ◌<◌, ℕ, ◌+◌, Bool, true, false, ◌||◌, ◌⊎◌, nat_eq, List, [], ◌∷◌, ◌++◌, Option, None, Ok, Err, Contains, length, if◌then◌else◌}
 use Rattle.loop_range.specs.Range.{Range}
 use Rattle.script_grammar.specs.declared.tree.Name.{Name}
@@ -24,7 +24,7 @@ use Rattle.strand_meaning.specs.Rest.{GaveValues, children_of, rest_open, finish
 
 -- Unfilled variables
 
--- the variables of the frame with so many below it into which the values of children are still to come
+-- the variables of the frame with this many below it that are still to get children's values
 abbrev pub unfilled_by : ℕ → Destination → Names
 unfilled_by height (Spawned owner target) = if nat_eq owner height then target_names target else []
 unfilled_by height (Looped target) = []
@@ -34,7 +34,7 @@ abbrev pub unfilled : ℕ → List AwaitedChild → Names
 unfilled height [] = []
 unfilled height (p ∷ ps) = unfilled_by height p.destination ++ unfilled height ps
 
--- whether the frame with so many below it spawned a child of these
+-- whether the frame with this many below it spawned one of these children
 abbrev pub is_by : ℕ → Destination → Bool
 is_by height (Spawned owner target) = nat_eq owner height
 is_by height (Looped target) = false
@@ -46,14 +46,14 @@ any_by height (p ∷ ps) = is_by height p.destination || any_by height ps
 
 -- Frames
 
--- After the end of a scope nothing is unfilled, and the statements left after it touch no variable that is pending before them. Where they spawn,
--- so does the function's text.
+-- Behind the end of a scope nothing is unfilled, and the statements left there touch no variable that is pending before them. Where
+-- they spawn, so does the function's text.
 abbrev pub AreSoundLevels : Type 0 → List Level → Type 0
 AreSoundLevels in_text [] = Unit {0}
 AreSoundLevels in_text (l ∷ ls) = ((ends : Names) × IsClear [] l.left ends) × (any_spawns l.left ≡ true → in_text) × AreSoundLevels in_text ls
 
--- The statements left touch no unfilled variable. A spawn since its own last sync, and a fault among the answers of these children, are
--- known of a frame. A sync comes before its value where it spawned.
+-- The statements left touch no unfilled variable. The frame knows of a spawn since its own last sync, and of a fault among these
+-- children's answers. Where it spawned, a sync precedes its value.
 pub record IsSound (plan : PlanView) (awaiting : List AwaitedChild) (height : ℕ) (a : Frame) : Type 0 where
   pub clear : (ends : Names) × IsClear (unfilled height awaiting) a.left ends
   pub levels : AreSoundLevels (spawns_in (function_at (functions_of plan) a.function) ≡ true) a.levels
@@ -64,7 +64,7 @@ pub record IsSound (plan : PlanView) (awaiting : List AwaitedChild) (height : �
   pub leaving : a.leaving ≡ true → (a.spawned ≡ false) × (a.left ≡ [])
   pub returning : a.returning ≡ true → (a.spawned ≡ false) × (a.left ≡ []) × (a.levels ≡ [])
 
--- the frames below the one whose value goes there
+-- the frames below the one whose value goes to this variable
 abbrev pub AreSound : PlanView → List AwaitedChild → Option Name → List Frame → Type 0
 AreSound plan awaiting target [] = Unit {0}
 AreSound plan awaiting target (caller ∷ below) =
@@ -72,7 +72,7 @@ AreSound plan awaiting target (caller ∷ below) =
 
 -- Stages
 
--- a child that was spawned by a frame that there is, or a part of a loop
+-- a child that was spawned by an existing frame, or a part of a loop
 abbrev pub IsDestination : ℕ → Destination → Type 0
 IsDestination height (Spawned owner target) = owner ≤ height
 IsDestination height (Looped target) = ⊥
@@ -91,7 +91,7 @@ abbrev pub AreHalves : List AwaitedChild → Type 0
 AreHalves [] = Unit {0}
 AreHalves (p ∷ ps) = IsHalf p.destination × AreHalves ps
 
--- A frame at a sync has nothing unfilled once it goes on, and knows of no fault.
+-- A frame at a sync has nothing unfilled once it continues, and knows of no fault.
 abbrev pub after_sync : Frame → Frame
 after_sync a = record a { faulted = None }
 
@@ -103,24 +103,25 @@ IsSoundStage plan awaiting (Ended (Ok v)) = AreHalves awaiting
 IsSoundStage plan awaiting (Ended (Err (Own f))) = (height : ℕ) × AreDestinations height awaiting
 IsSoundStage plan awaiting (Ended (Err (ChildFaulted f))) = awaiting ≡ []
 
--- What an instance passed in the open tree, and what remains of it.
+-- What an instance has passed in the open tree, and what remains of it.
 pub record IsSoFar (plan : PlanView) (o : Origin) (awaiting : List AwaitedChild) (stage : Stage) : Type 0 where
   pub front : List Item
   pub whole : node_of plan o ≡ after_items front (rest_open plan (children_of plan o) (path_of o) awaiting stage then λ v. done (v ∷ []))
 
 -- Pending variables
 
--- A frame that called stands at the call.
+-- A frame that called is still at the call.
 abbrev pub ArePendingBelow : PlanView → List AwaitedChild → List Frame → Type 0
 ArePendingBelow plan awaiting [] = Unit {0}
 ArePendingBelow plan awaiting (caller ∷ below) = ArePendingStill plan (unfilled (length below) awaiting) caller IsCall × ArePendingBelow plan awaiting below
 
--- One that waits at a sync stands at that statement; at the sync that the end of a scope or a return implies, at the end of the statements before it.
+-- One that waits at a sync is still at that statement; at the sync that the end of a scope or a return implies, at the end of the
+-- statements before it.
 abbrev pub ArePendingAtSync : PlanView → Names → Frame → Bool → Type 0
 ArePendingAtSync plan names a true = (a.left ≡ []) × ArePending plan names a []
 ArePendingAtSync plan names a false = ArePendingStill plan names a IsSync
 
--- The unfilled variables of each frame are in the set that validity has where it stands.
+-- The unfilled variables of each frame are in the set that validity has where the frame is.
 abbrev pub UnfilledArePending : PlanView → List AwaitedChild → Stage → Type 0
 UnfilledArePending plan awaiting (Running m) = ArePending plan (unfilled (length m.below) awaiting) m.top m.top.left × ArePendingBelow plan awaiting m.below
 UnfilledArePending plan awaiting (AtSync m) =
@@ -149,13 +150,13 @@ abbrev pub IsLongLoop : Origin → Type 0
 IsLongLoop (Instance function args path) = ⊥
 IsLongLoop (Loop function rest first path range) = range.lo + 1 < range.hi
 
--- parts of a loop come from one that is split
+-- parts of a loop come only from one that is split
 abbrev pub FitsOrigin : Origin → Destination → Type 0
 FitsOrigin o (Spawned owner target) = Unit {0}
 FitsOrigin o (Looped target) = Unit {0}
 FitsOrigin o Half = IsLongLoop o
 
--- A child is an origin of the plan. Where it is one of the instance under way, what the open tree takes of it is its evaluation.
+-- A child is an origin of the plan. If the task's own instance begins it, the open tree takes its evaluation.
 pub record IsSoundChild (plan : PlanView) (o : Origin) (p : AwaitedChild) : Type 0 where
   pub known : IsOriginOf plan p.child
   pub fits : FitsOrigin o p.destination
@@ -177,8 +178,8 @@ IsSoundRemaining plan o awaiting (Finished v false) = IsLoop o × AreHalves awai
 
 -- Children as they were handed out
 
--- A part of the task's loop, which begins with one of its iterations. Where the children before it give values, so does each iteration before it: a fault
--- by which the loop then ends stands at the part or after it.
+-- A part of the task's loop, from one of its iterations on. Where the children before it give values, so does each iteration before
+-- it: a fault by which the loop then ends is in the part or behind it.
 abbrev pub IsPartAfter : PlanView → Origin → List AwaitedChild → Origin → Type 0
 IsPartAfter plan (Instance function args path) front child = ⊥
 IsPartAfter plan (Loop function rest first path range) front child =
@@ -190,8 +191,8 @@ abbrev pub IsUndivided : Origin → Type 0
 IsUndivided (Instance function args path) = Unit {0}
 IsUndivided (Loop function rest first path range) = range.lo ≡ 0
 
--- The path of a child of the task's own instance is that of a strand of the instance, in a scope or outside of all, and stands among these
--- events as the one by which the child was spawned or begun.
+-- The path of a child of the task's own instance is that of a strand of the instance, in a scope or outside of all, and among these
+-- events is the one that spawned or began it.
 pub record IsBegunBy (o : Origin) (events : List Event) (child : Origin) : Type 0 where
   pub rank : ℕ
   pub more : List ℕ
@@ -204,13 +205,13 @@ IsShownAs (Spawned owner target) plan o front events child = IsBegunBy o events 
 IsShownAs (Looped target) plan o front events child = IsBegunBy o events child
 IsShownAs Half plan o front events child = IsPartAfter plan o front child
 
--- After these children, the first is shown by these events, and each other by those between it and the child before it.
+-- Behind these children, these events show the first, and those between it and the child before it show each other one.
 abbrev pub AreShownBy : PlanView → Origin → List AwaitedChild → List Event → List AwaitedChild → Type 0
 AreShownBy plan o front events [] = Unit {0}
 AreShownBy plan o front events (p ∷ ps) = IsShownAs p.destination plan o front events p.child × AreShownBy plan o (front ++ p ∷ []) p.after ps
 
--- The invariant: to finish a task gives the evaluation of its origin; what is unfilled of it is pending, where it stands; and the variables to
--- which its children's values go are found, where the plan's functions are.
+-- The invariant: finishing a task gives the evaluation of its origin; what is unfilled of it is pending where it is; and the
+-- variables that its children's values go to have slots, where the plan's functions have theirs.
 pub record IsTask (t : Task) : Type 0 where
   pub finishes : finish t ≡ eval t.plan t.origin
   pub known : IsOriginOf t.plan t.origin

@@ -26,7 +26,7 @@ pedigree_of (event.Spawn j) = j
 pedigree_of (event.Sync j) = j
 pedigree_of (event.Loop j) = j
 
--- those of one pedigree
+-- those with one pedigree
 abbrev pub events_at : List ℕ → List Event → List Event
 events_at j [] = []
 events_at j (e ∷ es) = if bytes_eq (pedigree_of e) j then e ∷ events_at j es else events_at j es
@@ -41,24 +41,24 @@ own_events (Child o ∷ items) = own_events items
 own_events (Opened j ∷ items) = own_events items
 own_events (Closed j ∷ items) = own_events items
 
--- the pedigree of the last event, where an instance ended that ended by the fault of a child
+-- the pedigree of the last event, of an instance that ended by a child's fault
 abbrev pub last_pedigree : List ℕ → List Event → List ℕ
 last_pedigree j [] = j
 last_pedigree j (e ∷ es) = last_pedigree (pedigree_of e) es
 
--- the fault of a child by which it ended
+-- the child's fault by which it ended
 abbrev pub fault_of_child : Result (List Value) NodeFault → Option Fault
 fault_of_child (Ok vs) = None
 fault_of_child (Err (Own f)) = None
 fault_of_child (Err (ChildFaulted f)) = Some f
 
--- its own fault, where that is at this pedigree
+-- its own fault, if that is at this pedigree
 abbrev pub own_fault_at : List ℕ → Result (List Value) NodeFault → Option Fault
 own_fault_at j (Ok vs) = None
 own_fault_at j (Err (Own f)) = if bytes_eq f.at j then Some f else None
 own_fault_at j (Err (ChildFaulted f)) = None
 
--- whether a pedigree begins with this path, and goes on
+-- whether this path is a proper prefix of a pedigree
 abbrev pub is_below : List ℕ → List ℕ → Bool
 is_below path j = nat_lt (length path) (length j) && bytes_eq (take (length path) j) path
 
@@ -76,7 +76,7 @@ child_on_way j (Closed k ∷ items) = child_on_way j items
 abbrev pub Strand : Type 0
 Strand = answer.Strand
 
--- what stands at a pedigree: a strand; none; or none is known, since an instance on the way ended by the fault of a child before
+-- what is at a pedigree: a strand; none; or it can't be told, since an instance on the way ended earlier by a child's fault
 pub data Found : Type 0 where
   FoundStrand : Strand → Found
   Missing : Found
@@ -86,16 +86,17 @@ abbrev pub is_one_of : List ℕ → List (List ℕ) → Bool
 is_one_of j [] = false
 is_one_of j (k ∷ ks) = bytes_eq k j || is_one_of j ks
 
--- the strand of a pedigree, where the instance reached it
+-- the strand of a pedigree, if the instance reached it
 abbrev pub strand_of : Origin → Node → List ℕ → Option Strand
 strand_of o n j =
     if is_one_of j (strand_pedigrees o n) then Some (record { events = events_at j (own_events n.items); fault = own_fault_at j n.ending }) else None
 
--- whether the instance, whose last event is at this pedigree, ended before it could come to another, which doesn't begin with that
+-- whether the instance, whose last event is at this pedigree, ended before it could come to another, which that one isn't a prefix
+-- of
 abbrev pub ended_before : List ℕ → List ℕ → Bool
 ended_before last j = is_lt (slice_cmp nat_cmp last j) && not (bytes_eq (take (length last) j) last)
 
--- the fault of a child by which an instance ended before a pedigree
+-- the child's fault by which an instance ended before a pedigree
 abbrev pub blocking_at : List ℕ → List ℕ → Result (List Value) NodeFault → Option Fault
 blocking_at last j (Ok vs) = None
 blocking_at last j (Err (Own f)) = None
@@ -104,19 +105,19 @@ blocking_at last j (Err (ChildFaulted f)) = if ended_before last j then Some f e
 abbrev pub blocking_fault : Node → List ℕ → Option Fault
 blocking_fault n j = blocking_at (last_pedigree [] (own_events n.items)) j n.ending
 
--- what stands at a pedigree in the last instance on the way to it
+-- what is at a pedigree in the last instance on the way to it
 abbrev pub last_step : Option Fault → Option Strand → Found
 last_step (Some f) strand = Blocked f
 last_step None (Some strand) = FoundStrand strand
 last_step None None = Missing
 
--- the iteration of a loop that a pedigree names after the loop's path, where ranks follow
+-- the iteration of a loop that a pedigree names behind the loop's path, if more ranks follow
 abbrev pub iteration_on_way : List ℕ → ℕ → List Value → ℤ → List ℕ → ℕ → Option ℕ → Option Origin
 iteration_on_way j function rest first path count None = None
 iteration_on_way j function rest first path count (Some k) =
     if nat_lt k count && nat_lt (length path + 1) (length j) then Some (iteration function rest first path k) else None
 
--- the instance that is entered of a child on the way, if there is one
+-- the instance to be entered of a child on the way, if there is one
 abbrev pub entered_child : List ℕ → Origin → Option Origin
 entered_child j (Instance function args path) = Some (Instance function args path)
 entered_child j (Loop function rest first path range) = iteration_on_way j function rest first path (range.hi - range.lo) (slice_get j (length path))
@@ -129,8 +130,8 @@ abbrev pub by_child : Option Origin → List ℕ → Found → (Origin → Found
 by_child None j here go = here
 by_child (Some o) j here go = next_step (entered_child j o) go
 
--- The walk down from an instance to a pedigree. Each child's path is longer than its parent's, so as many steps as the pedigree has ranks
--- are enough.
+-- The walk down from an instance to a pedigree. Each child's path is longer than its parent's, so the pedigree's length bounds the
+-- steps.
 abbrev pub walk_in : PlanView → ℕ → List ℕ → Origin → Found
 walk_in plan zero j o = Missing
 walk_in plan (suc steps) j o =
@@ -139,6 +140,6 @@ walk_in plan (suc steps) j o =
 abbrev pub walk : PlanView → List ℕ → Origin → Found
 walk plan j o = walk_in plan (length j) j o
 
--- what stands at a pedigree of the plan
+-- what is at a pedigree of the plan
 abbrev pub strand_at : PlanView → List ℕ → Found
 strand_at plan j = walk plan j (main_origin plan)

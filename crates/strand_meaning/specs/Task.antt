@@ -1,4 +1,4 @@
--- Tasks: what is done of an origin, and what remains.
+-- Tasks: what an origin has done, and what remains.
 use Rattle.std.specs.Prelude.{◌≡◌, ℕ, zero, suc, ◌-◌, Bool, true, false, nat_eq, List, [], ◌∷◌, ◌++◌, Option, Some, None, Result, Ok, Err, length, if◌then◌else◌}
 use Rattle.std.specs.Str.{bytes_eq}
 use Rattle.loop_range.specs.Range.{Range, lower_half, upper_half}
@@ -20,8 +20,8 @@ use Rattle.serial_meaning.specs.declared.answer.Outcome.TheVariants as outcome
 use Rattle.strand_meaning.specs.Machine.{Destination, Spawned, Looped, Half, Effect, Opens, Closes, Emitted, Handed, Syncs, Loops, Frame, Machine, Reached, Stands, Gives, function_begun, move}
 use Rattle.strand_meaning.specs.Trace.{AwaitedChild, Trace, no_trace, with_effects, add_child, merged_answers}
 
--- where an instance stands: it goes on; it waits after a sync, or after a loop; it has ended, by a value or as a node of the open
--- tree ends
+-- what an instance is at: it runs; it waits at a sync, or for a loop; or it has ended, with a value or as a node of the open tree
+-- ends
 pub data Stage : Type 0 where
   Running : Machine → Stage
   AtSync : Machine → Stage
@@ -29,14 +29,14 @@ pub data Stage : Type 0 where
   Ended : Result Value NodeFault → Stage
 
 -- What remains: iterations of a loop that nobody has begun; an instance, which is the task's own or the loop's last iteration; or
--- nothing of a loop whose last iteration gave this value, and whether the task has gone on from the wait at its end.
+-- nothing, of a loop whose last iteration gave this value, and whether the wait at its end is over.
 pub data Remaining : Type 0 where
   Splits : Range → Remaining
   Runs : Stage → Remaining
   Finished : Value → Bool → Remaining
 
--- Beside its trace and what remains: the values of those iterations of a loop whose answers were taken, in order; whether the task
--- stands in a wait; and whether it was advanced.
+-- Besides its trace and what remains: the values of those iterations of a loop whose answers were taken, in order; whether the task
+-- waits; and whether it has run.
 pub record Task : Type 0 where
   pub plan : PlanView
   pub origin : Origin
@@ -59,14 +59,14 @@ begun_remaining plan (Loop function rest first path range) = Splits range
 abbrev pub start : PlanView → Origin → Task
 start plan o = record { plan = plan; origin = o; trace = no_trace; values = []; remaining = begun_remaining plan o; waiting = false; advanced = false }
 
--- the instance that an origin's task runs itself: for a loop its last iteration
+-- the instance that an origin's task runs itself: of a loop the last iteration
 abbrev pub own_instance : Origin → Origin
 own_instance (Instance function args path) = Instance function args path
 own_instance (Loop function rest first path range) = iteration function rest first path (range.hi - 1)
 
 -- The next stop
 
--- a child to be begun, and the task after it; a wait; the end, with all events and how the origin ended
+-- a child to be begun, and the task behind it; a wait; or the end, with all events and the outcome
 pub data Stop : Type 0 where
   Spawn : Origin → Task → Stop
   Wait : Task → Stop
@@ -76,7 +76,7 @@ pub data MoveOrStop : Type 0 where
   Passes : Task → MoveOrStop
   Stops : Stop → MoveOrStop
 
--- a stage after a move that showed these
+-- a stage after a move with these effects
 abbrev pub stage_after : List Effect → Machine → Stage
 stage_after [] m = Running m
 stage_after (Opens j ∷ ts) m = stage_after ts m
@@ -110,7 +110,7 @@ step_result t effects (Err f) = Passes (passing t effects (Runs (Ended (Err (Own
 abbrev pub waits : Task → MoveOrStop
 waits t = Stops (Wait (record t { waiting = true; advanced = true }))
 
--- the end, where nothing that was handed out is left: by the fault in the trace, or else so
+-- the end, with no child's answer outstanding: by the fault in the trace, or else with this outcome
 abbrev pub ends_unless : Option Fault → Task → Outcome → MoveOrStop
 ends_unless (Some f) t ended = Stops (End t.trace.prefix (outcome.Fault f))
 ends_unless None t ended = Stops (End t.trace.prefix ended)
@@ -118,7 +118,7 @@ ends_unless None t ended = Stops (End t.trace.prefix ended)
 abbrev pub ends : Task → Outcome → MoveOrStop
 ends t ended = ends_unless t.trace.fault t ended
 
--- an own fault waits for the children handed out since the last wait
+-- an own fault waits for the children begun since the last wait
 abbrev pub faults_after : List AwaitedChild → Task → Fault → MoveOrStop
 faults_after [] t f = ends t (outcome.Fault f)
 faults_after (p ∷ ps) t f = waits t
@@ -136,7 +136,7 @@ stage_step t (Ended (Ok v)) = returned t t.origin v
 stage_step t (Ended (Err (Own f))) = faults_after t.trace.handed t f
 stage_step t (Ended (Err (ChildFaulted f))) = ends t (outcome.Fault f)
 
--- Of a loop, half of the iterations left is handed out while there are two. The last is run by the task itself.
+-- While two iterations of a loop are left, half of them is begun as a child. The task runs the last one itself.
 abbrev pub first_half : Origin → Range → Origin
 first_half (Instance function args path) left = Instance function args path
 first_half (Loop function rest first path range) left = Loop function rest first path (lower_half left)
@@ -150,7 +150,7 @@ split_step t left (suc zero) = Passes (record t { remaining = begins_last t.plan
 split_step t left (suc (suc n)) =
     let o = first_half t.origin left in Stops (Spawn o (record t { trace = add_child o Half t.trace; remaining = Splits (upper_half left); advanced = true }))
 
--- a loop of two iterations or more handed out a part
+-- a loop of two iterations or more has begun a part as a child
 abbrev pub over_step : Task → Value → Origin → MoveOrStop
 over_step t v (Instance function args path) = ends t (outcome.Values (t.values ++ v ∷ []))
 over_step t v (Loop function rest first path range) = by_size (range.hi - range.lo)
@@ -177,7 +177,7 @@ pub data IsNext : Task → Stop → Type 0 where
 
 -- Going on
 
--- the frame with so many below it, changed
+-- the frame with this many below it, changed
 abbrev pub changed_at : ℕ → (Frame → Frame) → List Frame → List Frame
 changed_at height change [] = []
 changed_at height change (a ∷ below) = if nat_eq height (length below) then change a ∷ below else a ∷ changed_at height change below
@@ -186,7 +186,7 @@ abbrev pub changed : ℕ → (Frame → Frame) → Machine → Machine
 changed height change m =
     if nat_eq height (length m.below) then record m { top = change m.top } else record m { below = changed_at height change m.below }
 
--- a variable's new value, where there is the variable
+-- a variable's new value, if the variable exists
 abbrev pub replaced : Env → List ℕ → Slot → Env
 replaced [] name slot = []
 replaced (v ∷ vs) name slot = if bytes_eq v.name name then record v { slot = slot } ∷ vs else v ∷ replaced vs name slot
@@ -219,7 +219,7 @@ abbrev pub pass_sync : Option Fault → Machine → Stage
 pass_sync None m = Running m
 pass_sync (Some f) m = Ended (Err (ChildFaulted f))
 
--- A wait is over: the instance ends at a sync where a child of this frame faulted, and else goes on.
+-- A wait is over: the instance ends at a sync where a child of this frame faulted, and else continues.
 abbrev pub resumed : Stage → Stage
 resumed (Running m) = Running m
 resumed (AtSync m) = pass_sync m.top.faulted m
@@ -247,7 +247,7 @@ all_values [] answers values = values
 all_values (p ∷ ps) [] values = values
 all_values (p ∷ ps) (answer ∷ answers) values = all_values ps answers (more_values p.destination answer.ending values)
 
--- The task once its wait is over, with the answers of the children that it handed out, in order.
+-- The task once its wait is over, with the answers of its children, in order.
 abbrev pub on : List Evaluation → Task → Task
 on answers t =
     let awaiting = t.trace.handed in record t {

@@ -7,14 +7,13 @@ use Rattle.serial_meaning.specs.declared.event.Event.{Event}
 use Rattle.serial_meaning.specs.declared.origin.Origin.{Origin}
 use Rattle.strand_meaning.specs.Machine.{Destination, Effect, Opens, Closes, Emitted, Handed, Syncs, Loops}
 
--- a child that was handed out and whose answer isn't taken, where its value goes, and the task's own events after it, up to the next
--- child
+-- a child whose answer isn't taken, where its value goes, and the task's own events behind it, up to the next child
 pub record AwaitedChild : Type 0 where
   pub child : Origin
   pub destination : Destination
   pub after : List Event
 
--- The events before the first child whose answer isn't taken, up to the first fault among these, and that fault, after which
+-- The events before the first child whose answer isn't taken, up to the first fault among these, and that fault, behind which
 -- nothing counts; and then the children.
 pub record Trace : Type 0 where
   pub prefix : List Event
@@ -41,11 +40,11 @@ emit_at (p ∷ ps) e trace = record trace { handed = after_last p ps e }
 abbrev pub emit : Event → Trace → Trace
 emit e trace = emit_at trace.handed e trace
 
--- a child more
+-- one child more
 abbrev pub add_child : Origin → Destination → Trace → Trace
 add_child o destination trace = record trace { handed = trace.handed ++ record { child = o; destination = destination; after = [] } ∷ [] }
 
--- what a move shows
+-- the effects of a move
 abbrev pub with_effects : List Effect → Trace → Trace
 with_effects [] trace = trace
 with_effects (Opens j ∷ ts) trace = with_effects ts trace
@@ -57,13 +56,13 @@ with_effects (Loops ∷ ts) trace = with_effects ts trace
 
 -- Answers
 
--- the answer's events, and where it is no fault then those after the child
+-- the answer's events, and if it is no fault then those behind the child
 abbrev pub merged_answer_unless : Option Fault → List Event → AwaitedChild → List Event → Result (List Value) Fault → Trace
 merged_answer_unless (Some f) prefix p events ending = record { prefix = prefix; fault = Some f; handed = [] }
 merged_answer_unless None prefix p events (Ok vs) = record { prefix = prefix ++ (events ++ p.after); fault = None; handed = [] }
 merged_answer_unless None prefix p events (Err f) = record { prefix = prefix ++ events; fault = Some f; handed = [] }
 
--- a trace without children, after which a child's answer was taken
+-- a trace without children, once a child's answer was taken
 abbrev pub merged_answer : AwaitedChild → Evaluation → Trace → Trace
 merged_answer p answer trace = merged_answer_unless trace.fault trace.prefix p answer.items answer.ending
 

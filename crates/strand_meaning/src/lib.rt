@@ -1,6 +1,6 @@
-//! What a task is: an instance or a loop that can stop, hand out children and go on, told in plain data.
+//! What a task is: an instance or a loop that can stop, begin children and continue, as plain data.
 //!
-//! The definitions stand in `specs/`, and docs/LANGUAGE.md says what they are of. The crate has no code that runs.
+//! The definitions are in `specs/`, and docs/LANGUAGE.md explains what they are of. The crate has no code that runs.
 #![tactic(auto)]
 
 mod examples;
