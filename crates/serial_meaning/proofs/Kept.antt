@@ -1,7 +1,11 @@
 -- What is kept of a list of events.
-use Rattle.std.proofs.Common.{◌≡◌, List, [], ◌∷◌, ◌++◌, Bool, true, false, refl, ap, ◌∙◌}
+use Rattle.std.proofs.Common.{◌≡◌, ℕ, List, [], ◌∷◌, ◌++◌, Bool, true, false, refl, ap, ◌∙◌}
 use Rattle.serial_meaning.specs.declared.event.Event.{Event}
+use Rattle.serial_meaning.specs.declared.event.EventKind.{EventKind}
+use Rattle.serial_meaning.specs.declared.event.EventKind.TheVariants as kind
+use Rattle.serial_meaning.specs.EventKinds.{event_at}
 use Rattle.serial_meaning.specs.Keeping.{kept_of, keep_if}
+use Rattle.serial_meaning.specs.Prints.{is_print}
 
 keep_before : (b : Bool) (x : Event) (xs ys : List Event) → keep_if b x (xs ++ ys) ≡ keep_if b x xs ++ ys
 keep_before true x xs ys = refl
@@ -23,3 +27,11 @@ kept_same kept (x ∷ es) e is = ap (keep_if (kept x) x) (kept_same kept es e is
 pub kept_all : (es : List Event) → kept_of (λ _. true) es ≡ es
 kept_all [] = refl
 kept_all (e ∷ es) = ap (λ l. e ∷ l) (kept_all es)
+
+-- no event of these kinds is a print
+pub kind_is_no_print : (j : List ℕ) (k : EventKind) → is_print (event_at j k) ≡ false
+kind_is_no_print j (kind.Draw word) = refl
+kind_is_no_print j kind.New = refl
+kind_is_no_print j kind.Spawn = refl
+kind_is_no_print j kind.Sync = refl
+kind_is_no_print j kind.Loop = refl

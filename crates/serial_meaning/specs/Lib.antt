@@ -2,6 +2,7 @@ pub mod Answer
 pub mod Columns
 pub mod Cuts
 pub mod Eval
+pub mod EventKinds
 pub mod Examples
 pub mod Exec
 pub mod Functions

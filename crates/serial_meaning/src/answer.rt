@@ -19,8 +19,9 @@ pub enum Outcome {
     /// The values of a loop's iterations, in order.
     Values(Items<Value>),
     Fault(Fault),
-    /// The origin wasn't run to its end, since a fault of the plan stands before its path and before those of the loops that it
-    /// belongs to. What it would have done comes after that fault in the serial elision, which so never comes to it.
+    /// The origin wasn't run to its end, since a fault of the plan stands before the first pedigree that it answers for: before an
+    /// instance's path, or before the path of a loop's first iteration. What it would have done comes after that fault in the serial
+    /// elision, which so never comes to it.
     Cut { by: Fault },
 }
 

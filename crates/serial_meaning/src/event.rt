@@ -20,6 +20,34 @@ pub enum Event {
     Loop(Pedigree),
 }
 
+/// What an event says that isn't a print, without its pedigree: enough to make it where it is kept.
+#[derive(Clone, Copy, Debug, PartialEq, Eq)]
+pub enum EventKind {
+    /// A random number.
+    Draw(u64),
+    New,
+    Spawn,
+    Sync,
+    Loop,
+}
+
+impl EventKind {
+    ghost use Rattle.serial_meaning.specs.EventKinds.{event_at};
+
+    /// The event of this kind at a pedigree.
+    pub fn at(self, pedigree: Pedigree) -> Event
+        ensures { result ≡ event_at pedigree self }
+    {
+        match self {
+            EventKind::Draw(word) => Event::Draw(pedigree, word),
+            EventKind::New => Event::New(pedigree),
+            EventKind::Spawn => Event::Spawn(pedigree),
+            EventKind::Sync => Event::Sync(pedigree),
+            EventKind::Loop => Event::Loop(pedigree),
+        }
+    }
+}
+
 /// Why a strand can't go on.
 #[derive(Clone, Copy, Debug, PartialEq, Eq)]
 pub enum FaultKind {

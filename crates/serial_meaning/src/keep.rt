@@ -1,8 +1,9 @@
-ghost use Rattle.std.specs.Prelude.{◌≡◌, Bool, true};
+ghost use Rattle.std.specs.Prelude.{◌≡◌, ℕ, List, Bool, true};
 ghost use Rattle.serial_meaning.specs.declared.event.Event.{Event};
+ghost use Rattle.serial_meaning.specs.EventKinds.{event_at};
 ghost use Rattle.serial_meaning.specs.Prints.{is_print};
 
-use crate::event::Event;
+use crate::event::{Event, EventKind};
 
 /// Which events a list keeps in memory. Contracts see all of them.
 pub trait Keep {
@@ -11,6 +12,10 @@ pub trait Keep {
 
     fn keeps(event: &Event) -> bool
         ensures { result ≡ kept event.now };
+
+    /// Whether events of this kind are kept, wherever they are.
+    fn keeps_kind(kind: EventKind) -> bool
+        ensures { (j : List ℕ) → result ≡ kept (event_at j kind) };
 }
 
 /// All events.
@@ -27,6 +32,12 @@ impl Keep for All {
         let _ = event;
         true
     }
+
+    #[inline(always)]
+    fn keeps_kind(kind: EventKind) -> bool {
+        let _ = kind;
+        true
+    }
 }
 
 impl Keep for Prints {
@@ -35,5 +46,11 @@ impl Keep for Prints {
     #[inline(always)]
     fn keeps(event: &Event) -> bool {
         matches!(event, Event::Print(_, _))
+    }
+
+    #[inline(always)]
+    fn keeps_kind(kind: EventKind) -> bool {
+        let _ = kind;
+        false
     }
 }

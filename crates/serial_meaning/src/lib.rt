@@ -26,7 +26,7 @@ pub use answer::{Answer, Outcome, Strand};
 pub use answer_key::AnswerKey;
 pub use chunk::Chunk;
 pub use environment::{Slot, Variable};
-pub use event::{Event, Fault, FaultKind};
+pub use event::{Event, EventKind, Fault, FaultKind};
 pub use keep::{All, Keep, Prints};
 pub use known::Known;
 pub use memory::Memory;

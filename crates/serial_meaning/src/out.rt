@@ -1,12 +1,15 @@
-ghost use Rattle.std.specs.Prelude.{◌≡◌, [], ◌∷◌, ◌++◌, length, OnOk, OnErr, slice_get, option_copied, IfSome, IfNone, IfErr};
+ghost use Rattle.std.specs.Prelude.{◌≡◌, ◌<◌, ◌^◌, [], ◌∷◌, ◌++◌, length, OnOk, OnErr, slice_get, option_copied, IfSome, IfNone, IfErr};
+ghost use Rattle.serial_meaning.specs.declared.event.Event.{Event};
 ghost use Rattle.serial_meaning.specs.Chunks.{joined};
+ghost use Rattle.serial_meaning.specs.EventKinds.{event_at};
 ghost use Rattle.serial_meaning.specs.Keeping.{keep_if, kept_of};
 
 use crate::chunk::{Chunk, put_first};
-use crate::event::Event;
+use crate::event::{Event, EventKind};
 use crate::keep::{All, Keep};
 use crate::memory::Memory;
 use meet_block::KnownList;
+use ped_path::{Ped, Pedigree};
 use std::alloc::Global;
 use std::marker::{Model, PhantomData};
 use std::{mem, slice};
@@ -69,6 +72,17 @@ fn taken(whole: &mut KnownList<Event>) -> KnownList<Event>
     mem::replace(whole, KnownList::none())
 }
 
+/// An event that is at hand for contracts alone.
+#[inline(always)]
+fn unmade(path: &Ped, rank: u64, kind: EventKind) -> KnownList<Event>
+    ghost event: { Event }
+    ensures { result.items ≡ event ∷ [] }
+{
+    let _ = path;
+    let _ = (rank, kind);
+    KnownList::one()
+}
+
 impl<K: Keep> Out<K> {
     /// No event.
     pub fn none() -> Out<K>
@@ -92,6 +106,31 @@ impl<K: Keep> Out<K> {
         let keeps = K::keeps(&event);
         let more = KnownList::none().with(&event);
         self.kept.push_if(keeps, alloc, event)?;
+        self.count = count;
+        self.whole = taken(&mut self.whole).followed_by(more);
+        Ok(())
+    }
+
+    /// Puts the event of this kind at the end whose pedigree is this rank on this path. It is made only where it is kept. It also answers
+    /// `Memory` where 2^64 - 1 events stand here.
+    #[inline(always)]
+    pub fn push_at(
+        &mut self,
+        alloc: Global,
+        path: &Ped,
+        rank: u64,
+        kind: EventKind,
+    ) -> Result<(), Memory>
+        requires { rank < 2 ^ 32 }
+        ensures ok { OnOk result (self.new ≡ self.old ++ event_at (path.now ++ rank ∷ []) kind ∷ []) }
+        ensures err { OnErr result (self.new ≡ self.old) }
+    {
+        if K::keeps_kind(kind) {
+            let path = path.share()?;
+            return self.push(alloc, kind.at(Pedigree { path, rank }));
+        }
+        let count = self.count.checked_add(1).ok_or(Memory)?;
+        let more = unmade(path, rank, kind);
         self.count = count;
         self.whole = taken(&mut self.whole).followed_by(more);
         Ok(())

@@ -1,4 +1,4 @@
--- What contracts see of a task's ties to its parent and its children.
+-- How contracts see a task's links to its parent and its children.
 use Rattle.std.specs.Prelude.{◌≡◌, ◌≤◌, ℕ, Bool, true, false, List, [], ◌∷◌, ◌++◌, ◌+◌, length, replicate}
 use Rattle.meet_block.specs.declared.join.Look.{Look}
 use Rattle.meet_block.specs.declared.join.Look.TheVariants.{Ready, NotYet}
@@ -6,8 +6,8 @@ use Rattle.serial_meaning.specs.Answer.{AnswerTag}
 use Rattle.serial_meaning.specs.Plan.{PlanView}
 use Rattle.serial_meaning.specs.declared.origin.Origin.{Origin}
 
--- The origins of all children handed out, in order, and of which of them the answer was taken; whether all were found to have answered; and
--- the numbers that looks have loaded.
+-- The origins of all children begun, in order, and whose answers were taken; whether all were seen to have answered; and the
+-- numbers that looks have loaded.
 pub record FamilyView : Type 0 where
   pub plan : PlanView
   pub origin : Origin
@@ -30,7 +30,7 @@ abbrev pub origins : List AnswerTag → List Origin
 origins [] = []
 origins (t ∷ ts) = t.origin ∷ origins ts
 
--- A look loads 0 wherever it passes, and else a number that isn't 0, at which it stops.
+-- A look loads zeros until it stops at another number.
 abbrev pub HasPassed : List ℕ → List ℕ → Type 0
 HasPassed before after = (passed : ℕ) × (after ≡ before ++ replicate passed 0)
 
@@ -41,11 +41,11 @@ abbrev pub FamilyLooks : FamilyView → FamilyView → Look → Type 0
 FamilyLooks before after Ready = HasPassed before.loads after.loads × (after ≡ record before { ready = true; loads = after.loads })
 FamilyLooks before after (NotYet n) = HasStopped before.loads after.loads × (after ≡ record before { ready = false; loads = after.loads })
 
--- one more child
+-- one child more
 abbrev pub family_with_child : FamilyView → Origin → FamilyView
 family_with_child family child = record family { children = family.children ++ child ∷ []; taken = family.taken ++ false ∷ []; ready = false }
 
--- so many of the last children have answers that weren't taken
+-- the last n children have answers that weren't taken
 pub record AwaitsCount (family : FamilyView) (n : ℕ) : Type 0 where
   pub within : n ≤ length family.children
   pub passed : List Bool

@@ -11,7 +11,7 @@ use std::alloc::Global;
 use std::marker::Model;
 use std::sync::Arc;
 
-/// What ties a task to others: its plan and origin, the give by which it answers its parent, and the join of its children.
+/// A task's links to others: its plan and origin, the give by which it answers its parent, and the join of its children.
 #[derive(Drop)]
 pub struct Family<K: Keep = All> {
     plan: Arc<Plan>,
@@ -50,7 +50,7 @@ impl<K: Keep> Family<K> {
     ghost use Rattle.serial_meaning.specs.Answer.{start_of};
     ghost use Rattle.strand_family.specs.Family.{FamilyView, childless};
 
-    /// A task's family before it has children. It takes no memory yet.
+    /// The links of a task without children. It takes no memory yet.
     pub fn new(
         alloc: Global,
         plan: Arc<Plan>,
@@ -60,7 +60,7 @@ impl<K: Keep> Family<K> {
         requires { give ≡ tag (arc_value plan) origin }
         ensures { IfOk result (λ family. family ≡ childless (arc_value plan) origin) }
     {
-        // Who runs a task for whose value nobody looks takes the values of its children by himself, too.
+        // Where nobody waits for a task's value, its runner takes the children's values itself too.
         let join = if give.is_alone() {
             Join::alone()
         } else {
@@ -88,14 +88,14 @@ impl<K: Keep> Family<K> {
         &self.plan
     }
 
-    /// One more handle of the task's plan.
+    /// Another handle of the task's plan.
     pub fn share_plan(&self) -> Result<Arc<Plan>, Memory>
         ensures { IfOk result (λ plan. arc_value plan ≡ self.now.plan) }
     {
         Ok(Arc::try_clone(&self.plan)?)
     }
 
-    /// The task's plan is reached by this handle from now on.
+    /// Replaces the handle of the task's plan.
     pub fn set_plan(&mut self, plan: Arc<Plan>)
         requires { arc_value plan ≡ self.old.plan }
         ensures { self.new ≡ self.old }
@@ -103,21 +103,21 @@ impl<K: Keep> Family<K> {
         self.plan = plan;
     }
 
-    /// Whether the fault stands before all that the origin answers for.
+    /// Whether the fault precedes all that the origin answers for.
     pub fn stands_after(&self, by: &Fault) -> bool
         ensures { IsTrue result ↔ IsBefore by.now.at (start_of self.now.origin) }
     {
         stands_before(&by.at, &self.origin)
     }
 
-    /// What the task was begun as.
+    /// What the task began as.
     pub fn origin(&self) -> &Origin
         ensures { result.now ≡ self.now.origin }
     {
         &self.origin
     }
 
-    /// The give of one more child, by a key of the task's plan.
+    /// The give for one more child, named by a key of the task's plan.
     #[tactic(auto, using(crate::proofs::Tags::origins_append, crate::proofs::Tags::hand_keeps))]
     pub fn hand(&mut self, alloc: Global, child: &AnswerKey) -> Result<Give<Answer<K>>, Memory>
         requires { child.now.plan ≡ self.old.plan }
@@ -127,7 +127,7 @@ impl<K: Keep> Family<K> {
         Ok(self.join.hand(alloc, child)?)
     }
 
-    /// How many children were handed out.
+    /// How many children were begun.
     #[tactic(auto, using(crate::proofs::Tags::length_origins))]
     pub fn count(&self) -> u64
         ensures { result ≡ length self.now.children }
@@ -142,7 +142,7 @@ impl<K: Keep> Family<K> {
         self.join.look()
     }
 
-    /// The answer of a child, by its number: the first child that was handed out has 0.
+    /// The answer of a child, by its number: the first child has 0.
     #[tactic(auto, using(crate::proofs::Tags::origin_at, crate::proofs::Tags::plan_at))]
     pub fn take(&mut self, i: u64) -> Answer<K>
         requires ready { self.old.ready ≡ true }
@@ -154,7 +154,7 @@ impl<K: Keep> Family<K> {
         self.join.take(i)
     }
 
-    /// What the task answers, and the give for it.
+    /// The task's answer, and the give for it.
     #[inline(always)]
     pub fn answer(self, out: Out<K>, outcome: Outcome) -> (Answer<K>, Give<Answer<K>>)
         requires { IsAnswer self.plan self.origin out outcome }

@@ -1,6 +1,6 @@
-//! What ties a task to others: its origin, its parent, and its children.
+//! A task's links to others: its origin, its parent, and its children.
 //!
-//! The moves of a task stand above it, in `strand_machine`.
+//! How a task runs is in `strand_machine`.
 #![tactic(auto)]
 
 mod family;

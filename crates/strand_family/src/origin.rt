@@ -12,7 +12,7 @@ use script_grammar::Items;
 use serial_meaning::{Origin, Value};
 use std::alloc::Global;
 
-/// The same values, over the same memory.
+/// The same values, sharing their memory.
 #[inline(always)]
 pub fn share_values(alloc: Global, values: &[Value]) -> Result<Items<Value>, Memory>
     ensures { IfOk result (λ shared. shared ≡ values.now) }
@@ -65,7 +65,8 @@ pub fn path(origin: &Origin) -> &Ped
     }
 }
 
-/// The arguments of iteration `k` of a loop, whose other arguments these are: its number, and then the others, over the same memory.
+/// The arguments of iteration `k` of a loop, whose other arguments these are: its number, and then the others, sharing their
+/// memory.
 pub fn iteration_args(
     alloc: Global,
     first: i64,
@@ -80,7 +81,7 @@ pub fn iteration_args(
     Ok(args)
 }
 
-/// A loop's origin with these of its iterations alone.
+/// A loop's origin with only these of its iterations.
 pub fn part_of(alloc: Global, origin: &Origin, range: IterRange) -> Result<Origin, Memory>
     ensures { IfOk result (λ part. part ≡ loop_part origin.now range) }
 {

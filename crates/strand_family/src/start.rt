@@ -1,4 +1,4 @@
-// Whether a pedigree stands before all that an origin answers for.
+// Whether a pedigree precedes all that an origin answers for.
 ghost use Rattle.std.specs.Prelude.{◌≡◌, ◌<◌, ◌≤◌, ◌↔◌, [], ◌∷◌, ◌++◌, IsTrue, length, slice_index};
 ghost use Rattle.std.specs.Cmp.Lexicographic.{slice_cmp};
 ghost use Rattle.std.specs.Ordering.{nat_cmp};
@@ -9,7 +9,7 @@ use ped_path::{Ped, Pedigree};
 use serial_meaning::Origin;
 use std::cmp::Ordering;
 
-/// Whether the pedigree stands before an instance's path, or before the path of a loop's first iteration.
+// Whether the pedigree precedes an instance's path, or that of a loop's first iteration.
 pub(crate) fn stands_before(at: &Pedigree, origin: &Origin) -> bool
     ensures { IsTrue result ↔ IsBefore at.now (start_of origin.now) }
 {
@@ -19,7 +19,7 @@ pub(crate) fn stands_before(at: &Pedigree, origin: &Origin) -> bool
     }
 }
 
-/// The order of the pedigree and the path of iteration `k`. That path is nowhere in memory.
+// Compares the pedigree with the path of iteration `k`, which is nowhere in memory.
 fn compare_iteration(at: &Pedigree, path: &Ped, k: u64) -> Ordering
     ensures { result ≡ slice_cmp nat_cmp at.now (path.now ++ k ∷ []) }
 {
@@ -43,7 +43,7 @@ fn first_rank(at: &Pedigree, i: u64) -> u64
     rank
 }
 
-/// The rank at this index of the path of iteration `k`.
+// The rank at this index of the path of iteration `k`.
 fn iteration_rank(path: &Ped, k: u64, i: u64) -> u64
     requires { i ≤ length path.now }
     ensures { result ≡ slice_index (path.now ++ k ∷ []) i }

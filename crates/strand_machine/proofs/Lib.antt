@@ -2,4 +2,6 @@ pub mod NextStops
 pub mod TakenAnswers
 pub mod Moves
 pub mod NodesObserved
+pub mod Meeting
+pub mod MeetsShown
 pub mod CodeLemmas

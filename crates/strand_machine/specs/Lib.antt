@@ -5,6 +5,7 @@ pub mod Faults
 pub mod Merge
 pub mod Made
 pub mod Observed
+pub mod Placed
 pub mod AwaitedChildren
 pub mod Effects
 pub mod Stops

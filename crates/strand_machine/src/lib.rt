@@ -13,6 +13,7 @@ mod merge;
 mod observe;
 mod origin;
 mod parts;
+mod placed;
 mod remaining;
 mod replace;
 mod resume;
@@ -28,6 +29,7 @@ pub use fault::is_fault;
 pub use memory::Memory;
 pub use observe::ObservedStop;
 pub use origin::share_origin;
+pub use placed::{PlacedFault, PlacedStop};
 pub use stop::{Paused, Resumed, Stop};
 pub use task::Task;
 

@@ -1,10 +1,12 @@
-ghost use Rattle.std.specs.Prelude.{◌≡◌, ◌∷◌, ◌++◌, [], None, IfOk, OnOk, IsTrue, ◌↔◌, length};
+ghost use Rattle.std.specs.Prelude.{◌≡◌, ◌<◌, ◌^◌, ◌∷◌, ◌++◌, [], None, IfOk, OnOk, IsTrue, ◌↔◌, length};
+ghost use Rattle.serial_meaning.specs.EventKinds.{event_at};
 ghost use Rattle.strand_meaning.specs.Trace.{emit, add_child, no_trace};
 
 use crate::destination::Destination;
 use crate::memory::Memory;
 use meet_block::KnownList;
-use serial_meaning::{Event, Fault, Keep, Origin, Out, Outcome};
+use ped_path::Ped;
+use serial_meaning::{Event, EventKind, Fault, Keep, Origin, Out, Outcome};
 use std::alloc::Global;
 use std::marker::Model;
 use std::mem;
@@ -74,6 +76,29 @@ impl<K: Keep> Trace<K> {
                     self.prefix.push(alloc, event)?;
                 } else {
                     drop(event);
+                }
+            }
+        }
+        Ok(())
+    }
+
+    /// One more event of the task's own, of this kind, whose pedigree is this rank on this path. It is made only where it is kept.
+    #[inline(always)]
+    pub fn emit_at(
+        &mut self,
+        alloc: Global,
+        path: &Ped,
+        rank: u64,
+        kind: EventKind,
+    ) -> Result<(), Memory>
+        requires { rank < 2 ^ 32 }
+        ensures { OnOk result (self.new ≡ emit (event_at (path.now ++ rank ∷ []) kind) self.old) }
+    {
+        match self.after.last_mut() {
+            Some(last) => last.events.push_at(alloc, path, rank, kind)?,
+            None => {
+                if self.fault.is_none() {
+                    self.prefix.push_at(alloc, path, rank, kind)?;
                 }
             }
         }
@@ -163,6 +188,20 @@ impl<K: Keep> EventSink for Trace<K> {
     #[inline(always)]
     fn emit(&mut self, alloc: Global, event: Event) -> Result<(), strand_moves::Memory> {
         match self.emit(alloc, event) {
+            Ok(()) => Ok(()),
+            Err(_) => Err(strand_moves::Memory),
+        }
+    }
+
+    #[inline(always)]
+    fn emit_at(
+        &mut self,
+        alloc: Global,
+        path: &Ped,
+        rank: u64,
+        kind: EventKind,
+    ) -> Result<(), strand_moves::Memory> {
+        match self.emit_at(alloc, path, rank, kind) {
             Ok(()) => Ok(()),
             Err(_) => Err(strand_moves::Memory),
         }

@@ -7,3 +7,4 @@ pub mod Quick
 pub mod Rows
 pub mod InstanceParts
 pub mod Spawns
+pub mod Standing

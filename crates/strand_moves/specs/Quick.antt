@@ -1,5 +1,5 @@
 -- Moves that show nothing, or an event alone.
-use Rattle.std.specs.Prelude.{◌≡◌, ◌+◌, ◌*◌, ◌<◌, ◌⊎◌, Bool, true, false, [], Option, Some, None, Result, Ok, Err, length}
+use Rattle.std.specs.Prelude.{◌≡◌, ◌+◌, ◌*◌, ◌<◌, ◌≤◌, ◌⊎◌, ℕ, Bool, true, false, List, [], Result, Ok, Err, length}
 use Rattle.script_grammar.specs.declared.tree.Expr.{Expr}
 use Rattle.script_grammar.specs.declared.tree.Name.{Name}
 use Rattle.script_grammar.specs.declared.tree.Right.{Right}
@@ -11,7 +11,9 @@ use Rattle.script_grammar.specs.declared.tree.Act.TheOpen.{Act-F}
 use Rattle.serial_meaning.specs.Runs.{Run}
 use Rattle.serial_meaning.specs.Plan.{PlanView}
 use Rattle.serial_meaning.specs.declared.event.Event.{Event}
+use Rattle.serial_meaning.specs.declared.event.Event.TheVariants as event
 use Rattle.serial_meaning.specs.declared.event.Fault.{Fault}
+use Rattle.serial_meaning.specs.declared.event.FaultKind.{FaultKind}
 use Rattle.strand_meaning.specs.Machine.{Effect, Reached, move}
 use Rattle.strand_values.specs.declared.halt.Halt as values
 use Rattle.strand_values.specs.declared.halt.Halt.TheVariants as halt
@@ -25,6 +27,7 @@ use Rattle.strand_moves.specs.Acts.{BeginsOne, Costs, Stays}
 use Rattle.strand_moves.specs.Cursors.{IsAfterStatement}
 use Rattle.strand_moves.specs.InstanceParts.{IsInstance, machine_of, path_of, present_of, statements_of}
 use Rattle.strand_moves.specs.Moves.{acted, run_of}
+use Rattle.strand_moves.specs.Rows.{QuietRow}
 
 -- what was done without showing anything, as a move
 abbrev pub quiet : Result (Unit {0}) values.Halt → Result MoveResult values.Halt
@@ -42,11 +45,11 @@ abbrev pub emitted : Result Event values.Halt → Result MoveResult values.Halt
 emitted (Ok e) = Ok (move_result.Went (effect.Emitted e))
 emitted (Err h) = Err h
 
--- what showed an event or nothing, as a move
-abbrev pub emitted_if_any : Result (Option Event) values.Halt → Result MoveResult values.Halt
-emitted_if_any (Ok None) = Ok (move_result.Went effect.Nothing)
-emitted_if_any (Ok (Some e)) = Ok (move_result.Went (effect.Emitted e))
-emitted_if_any (Err h) = Err h
+-- a return's step, as a move, with the sync at this pedigree, if it implies one
+abbrev pub synced_at : List ℕ → Result Bool FaultKind → Result MoveResult values.Halt
+synced_at j (Ok true) = Ok (move_result.Went (effect.Emitted (event.Sync j)))
+synced_at j (Ok false) = Ok (move_result.Went effect.Nothing)
+synced_at j (Err kind) = Err (halt.Fault kind)
 
 -- whether an event was shown, which the sink then took; want of memory is no answer
 abbrev pub IsEmittedTo : {S : Type 0} → (Event → S → S) → Result Event values.Halt → S → S → Bool → Type 0
@@ -167,9 +170,28 @@ IsSentMove after plan old from new to =
 abbrev pub Shortens : InstanceParts → InstanceParts → Type 0
 Shortens old new = 2 * new.steps + length new.below.items < 2 * old.steps + length old.below.items
 
--- A frame made a move of its end, after which the instance goes on. Or nothing changed.
+-- The value of a frame went to the one below, which showed nothing. Or nothing changed.
+pub record GivesBackIfAny (plan : PlanView) (old new : InstanceParts) : Type 0 where
+  pub row : QuietRow plan old new
+  pub path : path_of new ≡ path_of old
+  pub sound : IsInstance plan new
+  pub steps : new.steps ≡ old.steps
+  pub frames : length new.below.items ≤ length old.below.items
+
+-- A frame made a move of its end, and perhaps a second one that showed nothing. The instance goes on.
+pub record MakesEnd {S : Type 0} (after : Event → S → S) (plan : PlanView) (old : InstanceParts) (from : S) (new : InstanceParts) (to : S) : Type 0 where
+  pub between : InstanceParts
+  pub first : IsSentMove after plan old from between to
+  pub path_between : path_of between ≡ path_of old
+  pub sound_between : IsInstance plan between
+  pub row : QuietRow plan between new
+  pub path : path_of new ≡ path_of old
+  pub sound : IsInstance plan new
+  pub shorter : Shortens old new
+
+-- A frame made moves of its end, after which the instance goes on. Or nothing changed.
 abbrev pub EndsFrame : {S : Type 0} → (Event → S → S) → PlanView → InstanceParts → S → InstanceParts → S → Bool → Type 0
-EndsFrame after plan old from new to true = IsSentMove after plan old from new to × IsInstance plan new × (path_of new ≡ path_of old) × Shortens old new
+EndsFrame after plan old from new to true = MakesEnd after plan old from new to
 EndsFrame after plan old from new to false = (new ≡ old) × (to ≡ from)
 
 -- an `if` or a `while`

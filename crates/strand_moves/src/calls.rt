@@ -15,15 +15,15 @@ ghost use Rattle.strand_moves.specs.Found.{ArePlaces, FindsCallee, FindsTarget};
 ghost use Rattle.strand_moves.specs.Acts.{Acts, BeginsOne, Costs, IsCallee, StaysUnlessMemory, result_of};
 ghost use Rattle.strand_moves.specs.InstanceParts.{AreNamed, IsNamed, IsStrand, KeepsNames, machine_of, path_of, present_of};
 ghost use Rattle.strand_moves.specs.Moves.{Makes, MovesTrail, call_to, present_pedigree};
-ghost use Rattle.strand_moves.specs.Quick.{StaysThere, quiet, emitted_if_any};
+ghost use Rattle.strand_moves.specs.Quick.{StaysThere, quiet, synced_at};
 
 use crate::effects::{Effects, MoveResult};
 use crate::frame::{Frame, target_of};
 use crate::instance_parts::InstanceParts;
 use crate::memory::Memory;
-use crate::quick::{emitted_if_any, quiet};
+use crate::quick::quiet;
 use script_grammar::{CallText, Function, Name};
-use serial_meaning::{Event, FaultKind, Plan, Value};
+use serial_meaning::{FaultKind, Plan, Value};
 use std::alloc::Global;
 use std::mem;
 use strand_values::{Environment, Halt, Target};
@@ -140,14 +140,14 @@ impl InstanceParts {
         }
     }
 
-    /// The step of a return of a frame that spawned nothing since its last sync, and the event of the sync that it implies, if it does.
-    pub(crate) fn return_alone(&mut self, plan: &Plan) -> Result<Option<Event>, Halt>
+    /// The step of a return of a frame that spawned nothing since its last sync, and whether it implies a sync, which takes a rank.
+    pub(crate) fn return_alone(&mut self, plan: &Plan) -> Result<bool, FaultKind>
         requires strand { IsStrand plan.now self.old }
         requires here { here_of (path_of self.old) (machine_of plan.now self.old) ≡ present_of self.old }
         requires alone { self.old.top.spawned ≡ false }
         ensures shows { let m = machine_of plan.now self.old in
-            Makes (return_move plan.now (path_of self.old) m false) (present_pedigree (present_of self.old) m) (machine_of plan.now self.new) (emitted_if_any result) }
-        ensures same { (kind : FaultKind) → result ≡ Err (Fault kind) → self.new ≡ self.old }
+            Makes (return_move plan.now (path_of self.old) m false) (present_pedigree (present_of self.old) m) (machine_of plan.now self.new) (synced_at (present_pedigree (present_of self.old) m) result) }
+        ensures same { (kind : FaultKind) → result ≡ Err kind → self.new ≡ self.old }
         ensures paid { OnOk result (self.new.steps + 1 ≡ self.old.steps) }
         ensures rest { OnOk result (self.new ≡ record self.old { steps = self.new.steps; rank = self.new.rank; top = record self.old.top { returning = true } }) }
         ensures few { self.new.rank + self.new.steps ≤ self.old.rank + self.old.steps }
@@ -156,11 +156,10 @@ impl InstanceParts {
         self.pay()?;
         self.top.returning = true;
         if !self.has_spawns(plan) {
-            return Ok(None);
+            return Ok(false);
         }
-        let event = Event::Sync(self.pedigree()?);
         self.rank += 1;
-        Ok(Some(event))
+        Ok(true)
     }
 
     /// The step of a return and the sync that it implies.
@@ -174,9 +173,6 @@ impl InstanceParts {
         ensures few { self.new.rank + self.new.steps ≤ self.old.rank + self.old.steps }
         ensures named { KeepsNames plan.now self.old self.new }
     {
-        if !self.top.spawned {
-            return emitted_if_any(self.return_alone(plan));
-        }
         self.pay()?;
         self.top.returning = true;
         if self.has_spawns(plan) {

@@ -120,6 +120,7 @@ impl Cursor {
     }
 
     /// The same, and the condition of the loop whose body it is, if it is one.
+    #[inline(always)]
     pub(crate) fn loop_around<'a>(&self, body: &'a [Stmt]) -> (&'a [Stmt], Option<&'a Expr>)
         ensures block { result.0.now ≡ block_of body.now self.now.entered.items }
         ensures around { IsAround body.now self.now (option_copied result.1) }

@@ -1,10 +1,12 @@
 // Where events go.
 
-ghost use Rattle.std.specs.Prelude.{◌≡◌, OnOk};
+ghost use Rattle.std.specs.Prelude.{◌≡◌, ◌<◌, ◌^◌, ◌++◌, ◌∷◌, [], OnOk};
 ghost use Rattle.serial_meaning.specs.declared.event.Event.{Event};
+ghost use Rattle.serial_meaning.specs.EventKinds.{event_at};
 
 use crate::memory::Memory;
-use serial_meaning::Event;
+use ped_path::Ped;
+use serial_meaning::{Event, EventKind};
 use std::alloc::Global;
 
 /// Where the events of moves go, one by one.
@@ -15,4 +17,15 @@ pub trait EventSink {
     /// Takes one event more.
     fn emit(&mut self, alloc: Global, event: Event) -> Result<(), Memory>
         ensures { OnOk result (self.new ≡ after event self.old) };
+
+    /// Takes the event of this kind whose pedigree is this rank on this path, so that nobody makes it who doesn't keep it.
+    fn emit_at(
+        &mut self,
+        alloc: Global,
+        path: &Ped,
+        rank: u64,
+        kind: EventKind,
+    ) -> Result<(), Memory>
+        requires { rank < 2 ^ 32 }
+        ensures { OnOk result (self.new ≡ after (event_at (path.now ++ rank ∷ []) kind) self.old) };
 }

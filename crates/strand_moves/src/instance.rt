@@ -22,7 +22,7 @@ use strand_values::Target;
 /// An instance that is running. It stands in a box, since the tasks above are moved again and again.
 #[derive(Drop)]
 pub struct Instance {
-    parts: Box<InstanceParts>,
+    pub(crate) parts: Box<InstanceParts>,
 }
 
 impl Instance {

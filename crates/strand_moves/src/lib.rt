@@ -15,6 +15,7 @@ mod instance;
 mod instance_parts;
 mod memory;
 mod narrow;
+mod place;
 mod plain_row;
 mod quick;
 mod right;
@@ -25,6 +26,7 @@ pub use effects::{Child, Effects, LoopedChild, MoveResult, SpawnedChild, Spawnin
 pub use event_sink::EventSink;
 pub use instance::Instance;
 pub use memory::Memory;
+pub use place::Place;
 
 fn is_shared<T: Send + Sync>() {}
 

@@ -110,7 +110,7 @@ impl InstanceParts {
         let Some(given) = assignment(statement) else {
             return false;
         };
-        match self.top.env.plain(places, given.1) {
+        match self.top.env.plain_in_place(places, given.1) {
             Some(number) => {
                 self.top.env.set_number(places, given.0, number);
                 self.top.cursor.next += 1;
@@ -130,7 +130,7 @@ impl InstanceParts {
         ensures { (plan : PlanView) → IsInstance plan self.old → IsInLoop (statements_of plan self.old.top) self.old.top.cursor condition.now →
             length (block_of (statements_of plan self.old.top) self.old.top.cursor.entered.items) ≤ self.old.top.cursor.next → IsMoveInBlock plan self.old self.new result }
     {
-        match self.top.env.plain(places, condition) {
+        match self.top.env.plain_in_place(places, condition) {
             Some(number) => {
                 if number == 0 {
                     return false;

@@ -1,6 +1,6 @@
 // Moves in a row that show nothing, or an event alone: most moves are of this kind.
 
-ghost use Rattle.std.specs.Prelude.{◌≡◌, ◌<◌, ◌+◌, ◌^◌, [], false, IfOk};
+ghost use Rattle.std.specs.Prelude.{◌≡◌, ◌<◌, ◌+◌, ◌^◌, [], false, true, IfOk};
 ghost use Rattle.std.specs.Option.{option_copied};
 ghost use Rattle.script_grammar.specs.declared.tree.Act.{out-Act};
 ghost use Rattle.script_grammar.specs.declared.tree.Act.TheOpen as act;
@@ -11,7 +11,7 @@ ghost use Rattle.strand_moves.specs.Found.{ArePlaces, FindsRight, FindsRightVari
 ghost use Rattle.strand_moves.specs.Acts.{Costs, Stays};
 ghost use Rattle.strand_moves.specs.Cursors.{statements_left};
 ghost use Rattle.strand_moves.specs.InstanceParts.{IsInstance, IsStrand, KeepsNames, statements_of};
-ghost use Rattle.strand_moves.specs.Quick.{HasCalled, HasEmitted, EndsFrame, HasGone, IsDone, IsQuiet, IsEmittedTo, IsWent, StaysThere, emitted, is_fork, quiet, emitted_if_any};
+ghost use Rattle.strand_moves.specs.Quick.{HasCalled, HasEmitted, EndsFrame, GivesBackIfAny, HasGone, IsDone, IsQuiet, IsEmittedTo, IsWent, StaysThere, emitted, is_fork, quiet};
 ghost use Rattle.strand_moves.specs.Rows.{ComesToStatement};
 
 use crate::cursor::is_fork;
@@ -20,7 +20,7 @@ use crate::event_sink::EventSink;
 use crate::instance_parts::InstanceParts;
 use crate::memory::Memory;
 use script_grammar::{Act, Expr, Name, Right, Stmt};
-use serial_meaning::{Event, Plan};
+use serial_meaning::{Event, EventKind, Plan};
 use std::alloc::Global;
 use strand_values::Halt;
 
@@ -74,17 +74,6 @@ fn sent<S: EventSink>(
     }
 }
 
-/// What showed an event or nothing, as a move.
-pub(crate) fn emitted_if_any(done: Result<Option<Event>, Halt>) -> Result<MoveResult, Halt>
-    ensures { result ≡ emitted_if_any done }
-{
-    match done {
-        Ok(Some(event)) => Ok(MoveResult::Went(Effects::Emitted(event))),
-        Ok(None) => Ok(MoveResult::Went(Effects::Nothing)),
-        Err(halt) => Err(halt),
-    }
-}
-
 /// By which call a statement that isn't plain is done in a row, if by any.
 #[derive(Clone, Copy, Debug, PartialEq, Eq)]
 pub(crate) enum Form {
@@ -131,18 +120,22 @@ impl InstanceParts {
     {
         let places = plan.places();
         let mut text = self.top.statements(plan);
-        let mut block = self.top.cursor.block(text);
+        let innermost = self.top.cursor.loop_around(text);
+        let mut block = innermost.0;
         // the condition of the loop whose body the block is, where it is known
-        let mut around: Option<&'a Expr> = None;
+        let mut around = innermost.1;
         loop {
             around = self.loop_in_place(plan, block, around);
+            // whether the next statement stands in a block around this one
+            let left = self.top.cursor.next >= block.len();
             let Some(passed) = self.top.cursor.pass_in(text, block) else {
                 if !self.frame_end(alloc, plan, sink)? {
                     return Ok(None);
                 }
-                around = None;
                 text = self.top.statements(plan);
-                block = self.top.cursor.block(text);
+                let below = self.top.cursor.loop_around(text);
+                block = below.0;
+                around = below.1;
                 continue;
             };
             let statement = passed.0;
@@ -151,7 +144,7 @@ impl InstanceParts {
             }
             self.steps -= 1;
             if self.quiet_statement(alloc, places, statement)? {
-                if is_fork(statement) {
+                if is_fork(statement) || left {
                     let inside = self.top.cursor.loop_around(text);
                     block = inside.0;
                     around = inside.1;
@@ -163,9 +156,10 @@ impl InstanceParts {
             match self.other_statement(alloc, plan, places, statement, sink)? {
                 Form::Emitting => block = passed.1,
                 Form::Calling => {
-                    around = None;
                     text = self.top.statements(plan);
-                    block = self.top.cursor.block(text);
+                    let called = self.top.cursor.loop_around(text);
+                    block = called.0;
+                    around = called.1;
                 }
                 Form::Other => return Ok(Some(statement)),
             }
@@ -204,8 +198,8 @@ impl InstanceParts {
         Ok(Form::Other)
     }
 
-    /// What comes where no statement of a frame is left: the step of its return, where no sync follows at which it waits, or its value for the
-    /// frame below. Otherwise nothing changes, and the answer is no.
+    /// What comes where no statement of a frame is left: the step of its return, where no sync follows at which it waits, and its value for the
+    /// frame below. Where neither comes nothing changes, and the answer is no.
     fn frame_end<S: EventSink>(
         &mut self,
         alloc: Global,
@@ -228,15 +222,37 @@ impl InstanceParts {
         if self.top.spawned {
             return Ok(false);
         }
-        match self.return_alone(plan) {
-            Ok(Some(event)) => sent(alloc, Ok(event), sink),
-            Ok(None) => Ok(true),
-            Err(Halt::Fault(_)) => Ok(false),
-            Err(Halt::Memory) => Err(Memory),
+        let rank = self.rank;
+        let Ok(syncs) = self.return_alone(plan) else {
+            return Ok(false);
+        };
+        if !syncs {
+            self.give_back_if_any(plan)?;
+            return Ok(true);
         }
+        sink.emit_at(alloc, &self.trail.path, rank, EventKind::Sync)?;
+        Ok(true)
+    }
+
+    /// The value of a frame whose return is paid goes to the frame below, where there is one and no fault is met.
+    #[inline(always)]
+    fn give_back_if_any(&mut self, plan: &Plan) -> Result<(), Memory>
+        requires instance { IsInstance plan.now self.old }
+        requires goes_on { self.old.leaving ≡ false }
+        requires none { statements_left (statements_of plan.now self.old.top) self.old.top.cursor ≡ [] }
+        requires outside { self.old.top.levels.items ≡ [] }
+        requires returning { self.old.top.returning ≡ true }
+        ensures { IfOk result (λ _. GivesBackIfAny plan.now self.old self.new) }
+    {
+        if self.below.is_empty() {
+            return Ok(());
+        }
+        went(self.give_back(plan))?;
+        Ok(())
     }
 
     /// What a statement does that shows nothing, after its step. Otherwise nothing changes, and the answer is no.
+    #[inline(always)]
     fn quiet_statement(
         &mut self,
         alloc: Global,
@@ -333,13 +349,24 @@ impl InstanceParts {
         ensures named { (plan : PlanView) → KeepsNames plan self.old self.new }
     {
         match r {
-            Right::Draw(_) => sent(alloc, self.draw(plan, places, x), sink),
-            Right::New(_) => sent(alloc, self.make_object(places, x), sink),
+            Right::Draw(_) => {
+                let rank = self.rank;
+                let word = self.draw(plan, places, x);
+                sink.emit_at(alloc, &self.trail.path, rank, EventKind::Draw(word))?;
+                Ok(true)
+            }
+            Right::New(_) => {
+                let rank = self.rank;
+                self.make_object(places, x)?;
+                sink.emit_at(alloc, &self.trail.path, rank, EventKind::New)?;
+                Ok(true)
+            }
             _ => Ok(false),
         }
     }
 
     /// What a call does, which shows nothing. Otherwise nothing changes, and the answer is no.
+    #[inline(always)]
     fn calling_statement(
         &mut self,
         alloc: Global,
@@ -363,6 +390,7 @@ impl InstanceParts {
     }
 
     /// The same of `let x = R` or `x = R`.
+    #[inline(always)]
     fn calling_right(
         &mut self,
         alloc: Global,

@@ -67,6 +67,7 @@ impl InstanceParts {
         }
     }
 
+    #[inline(never)]
     pub(crate) fn array(
         &mut self,
         alloc: Global,
@@ -87,6 +88,7 @@ impl InstanceParts {
         Ok(())
     }
 
+    #[inline(never)]
     pub(crate) fn store(&mut self, places: &[u16], x: &Name, i: &Expr, e: &Expr) -> Result<(), Halt>
         requires name { FindsName places.now self.old.top.env x.now }
         requires index { FindsExpression places.now self.old.top.env i.now }

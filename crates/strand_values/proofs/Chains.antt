@@ -1,11 +1,12 @@
 -- Chains of operators, one operand after another.
-use Rattle.std.proofs.Common.{◌≡◌, ℕ, zero, suc, ◌<◌, Bool, List, [], ◌∷◌, map, length, get_or, drop, Result, Ok, Err, refl, sym, ap, subst, ◌∙◌, arith, rules}
+use Rattle.std.proofs.Common.{◌≡◌, ℕ, zero, suc, ◌<◌, Bool, List, [], ◌∷◌, map, length, get_or, drop, Some, IfSome, Result, Ok, Err, refl, sym, ap, subst, ◌∙◌, arith, rules}
 use Rattle.std.proofs.Common.{ℤ}
-use Rattle.script_grammar.specs.declared.tree.Expr.{the_lemmas}
+use Rattle.script_grammar.specs.declared.tree.Expr.{Expr, the_lemmas}
+use Rattle.script_grammar.specs.declared.tree.Expr.TheVariants as variant
 use Rattle.script_grammar.specs.declared.tree.ProductPart.{ProductPart}
 use Rattle.script_grammar.specs.declared.tree.ProductSign.{ProductSign}
 use Rattle.script_grammar.specs.declared.tree.SumPart.{SumPart}
-use Rattle.std.specs.Result.{IsErrAnd}
+use Rattle.std.specs.Result.{IsErrAnd, result_ok}
 use Rattle.serial_meaning.specs.Runs.{◌>>=◌}
 use Rattle.serial_meaning.specs.Values.{Val, Env, Meaning, as_integer, added, product, sums, products, sum_part, product_part, value_of}
 use Rattle.serial_meaning.specs.declared.value.Value.{Value}
@@ -13,6 +14,7 @@ use Rattle.serial_meaning.specs.declared.value.Value.TheVariants.{Int}
 use Rattle.serial_meaning.specs.declared.event.FaultKind.{FaultKind}
 use Rattle.strand_values.specs.Gives.{Calculates, integer_result, integral}
 use Rattle.strand_values.specs.declared.halt.Halt.{Halt}
+use Rattle.strand_values.proofs.NumberLemmas.{product_counts, sum_is, value_of_product, value_of_sum}
 use Rattle.strand_values.specs.declared.halt.Halt.TheVariants as halt
 
 summand : (p : SumPart) → sum_part p ≡ (p.minus, value_of p.operand)
@@ -64,6 +66,28 @@ module _ (env : Env) where
   pub next_product : (rest : List ProductPart) (i : ℕ) (p : ProductPart) (n : ℤ) (d : Val) (m s : ℤ) → i < length rest → p ≡ get_or rest i p → integer_result (value_of p.operand env) ≡ Ok m → product p.sign n m ≡ Ok (Int s) →
       d ≡ products env (Int n) (map product_part (drop i rest)) → d ≡ products env (Int s) (map product_part (drop (suc i) rest))
   next_product rest i p n d m s h e w k so = so ∙ at_product rest i p (Int n) h e ∙ goes (product p.sign n) (λ z. products env z (map product_part (drop (suc i) rest))) (value_of p.operand env) m s w k
+
+  -- two operands
+  pub two_added : (first : Expr) (rest : List SumPart) (p : SumPart) (n m s : ℤ) → length rest ≡ 1 → p ≡ get_or rest 0 p → integer_result (value_of first env) ≡ Ok n → integer_result (value_of p.operand env) ≡ Ok m → added p.minus n m ≡ Ok (Int s) →
+      value_of (variant.Sum first rest) env ≡ Ok (Int s)
+  two_added first [] p n m s one is left right adds = absurd (omega (arith, one))
+  two_added first (q ∷ []) p n m s one is left right adds =
+      value_of_sum env first (q ∷ [])
+      ∙ sum_is env (value_of first env) n (q ∷ []) (Some s) refl left (next_sum (q ∷ []) 0 p n (sums env (Int n) (map sum_part (q ∷ []))) m s (omega arith) is right adds refl)
+  two_added first (q ∷ r ∷ rs) p n m s one is left right adds = absurd (omega (arith, one))
+
+  two_multiplied : (first : Expr) (rest : List ProductPart) (p : ProductPart) (n m s : ℤ) → length rest ≡ 1 → p ≡ get_or rest 0 p → integer_result (value_of first env) ≡ Ok n → integer_result (value_of p.operand env) ≡ Ok m → product p.sign n m ≡ Ok (Int s) →
+      integer_result (value_of (variant.Product first rest) env) ≡ Ok s
+  two_multiplied first [] p n m s one is left right multiplies = absurd (omega (arith, one))
+  two_multiplied first (q ∷ []) p n m s one is left right multiplies =
+      ap integer_result (value_of_product env first (q ∷ []))
+      ∙ product_counts env (value_of first env) n (map product_part (q ∷ [])) (Some s) left (next_product (q ∷ []) 0 p n (products env (Int n) (map product_part (q ∷ []))) m s (omega arith) is right multiplies refl)
+  two_multiplied first (q ∷ r ∷ rs) p n m s one is left right multiplies = absurd (omega (arith, one))
+
+  pub product_if_any : (first : Expr) (rest : List ProductPart) (p : ProductPart) (n m : ℤ) (r : Result ℤ FaultKind) → length rest ≡ 1 → p ≡ get_or rest 0 p → integer_result (value_of first env) ≡ Ok n → integer_result (value_of p.operand env) ≡ Ok m → integral r ≡ product p.sign n m →
+      IfSome (result_ok r) (λ s. integer_result (value_of (variant.Product first rest) env) ≡ Ok s)
+  product_if_any first rest p n m (Ok s) one is left right gives = two_multiplied first rest p n m s one is left right (sym gives)
+  product_if_any first rest p n m (Err kind) one is left right gives = tt
 
   -- an operand without one ends it
   pub sum_ends : (rest : List SumPart) (i : ℕ) (p : SumPart) (n : ℤ) (d : Val) (h : Halt) (r : Result ℤ Halt) → i < length rest → p ≡ get_or rest i p →

@@ -131,6 +131,15 @@ impl Environment {
         plain::plain(self, places, e)
     }
 
+    /// The same, for a loop over statements: it takes more room in the program, and fewer calls.
+    #[inline(always)]
+    pub fn plain_in_place(&self, places: &[u16], e: &Expr) -> Option<i64>
+        requires { FindsExpression places.now self.now e.now }
+        ensures { IfSome result (λ n. value_of e.now self.now.variables ≡ Ok (Int n)) }
+    {
+        plain::plain_in_place(self, places, e)
+    }
+
     /// Whether a condition holds: its value isn't 0.
     pub fn holds(&self, places: &[u16], e: &Expr) -> Result<bool, Halt>
         requires { FindsExpression places.now self.now e.now }

@@ -28,9 +28,80 @@ pub(crate) fn plain(env: &Environment, places: &[u16], e: &Expr) -> Option<i64>
     }
 }
 
+/// The same, for a loop over statements: a short calculation takes no call either.
+#[inline(always)]
+pub(crate) fn plain_in_place(env: &Environment, places: &[u16], e: &Expr) -> Option<i64>
+    requires { FindsExpression places.now env.now e.now }
+    ensures { IfSome result (λ n. value_of e.now env.now.variables ≡ Ok (Int n)) }
+{
+    match e {
+        Expr::Number(number) => Some(number.value),
+        Expr::Var(name) => env.integer_of(places, name),
+        _ => match short(env, places, e) {
+            Some(number) => Some(number),
+            None => longer(env, places, e),
+        },
+    }
+}
+
 /// The same of a calculation of plain operands.
 #[inline(never)]
 fn calculated(env: &Environment, places: &[u16], e: &Expr) -> Option<i64>
+    requires { FindsExpression places.now env.now e.now }
+    ensures { IfSome result (λ n. value_of e.now env.now.variables ≡ Ok (Int n)) }
+{
+    match short(env, places, e) {
+        Some(number) => Some(number),
+        None => longer(env, places, e),
+    }
+}
+
+/// The same of a comparison of two leaves, and of a sum of two operands of which the second is a leaf. It takes no call.
+#[inline(always)]
+fn short(env: &Environment, places: &[u16], e: &Expr) -> Option<i64>
+    requires { FindsExpression places.now env.now e.now }
+    ensures { IfSome result (λ n. value_of e.now env.now.variables ≡ Ok (Int n)) }
+{
+    match e {
+        Expr::Sum(first, rest) => {
+            let [part] = rest.as_slice() else {
+                return None;
+            };
+            let right = leaf(env, places, &part.operand)?;
+            let left = short_operand(env, places, first.get())?;
+            Some(sum(part.minus, left, right))
+        }
+        Expr::Compare(left, how, right) => {
+            let left = leaf(env, places, left.get())?;
+            let right = leaf(env, places, right.get())?;
+            Some(truth(compare(*how, left, right)))
+        }
+        _ => None,
+    }
+}
+
+/// The number that a leaf or a product of two leaves counts as.
+#[inline(always)]
+fn short_operand(env: &Environment, places: &[u16], e: &Expr) -> Option<i64>
+    requires { FindsExpression places.now env.now e.now }
+    ensures { IfSome result (λ n. integer_result (value_of e.now env.now.variables) ≡ Ok n) }
+{
+    match e {
+        Expr::Product(first, rest) => {
+            let [part] = rest.as_slice() else {
+                return None;
+            };
+            let left = leaf(env, places, first.get())?;
+            let right = leaf(env, places, &part.operand)?;
+            product(part.sign, left, right).ok()
+        }
+        _ => leaf(env, places, e),
+    }
+}
+
+/// The same of any calculation of plain operands.
+#[inline(never)]
+fn longer(env: &Environment, places: &[u16], e: &Expr) -> Option<i64>
     requires { FindsExpression places.now env.now e.now }
     ensures { IfSome result (λ n. value_of e.now env.now.variables ≡ Ok (Int n)) }
 {

@@ -15,7 +15,7 @@ use Rattle.serial_meaning.specs.declared.origin.Origin.{Origin}
 use Rattle.serial_meaning.specs.declared.origin.Origin.TheVariants as origin
 
 module _ (plan : PlanView) where
-  abbrev IsTrueDraw : Event → Type 0
+  abbrev pub IsTrueDraw : Event → Type 0
   IsTrueDraw (event.Print j v) = Unit {0}
   IsTrueDraw (event.Draw j n) = n ≡ drawn plan j
   IsTrueDraw (event.New j) = Unit {0}

@@ -144,7 +144,9 @@ module _ {S : Type 0} (after : Event → S → S) (plan : PlanView) (first : Ins
 
   -- a move of its end
   pub row-ended : (new : InstanceParts) (heard : S) → EndsFrame after plan (passed_by plan i cursor) sent new heard true → RowOn after plan first start i new heard
-  row-ended new heard h = ended-on new heard h.0 h.1 h.2
+  row-ended new heard h =
+      let one = ended-on h.between heard h.first h.sound_between h.path_between in
+      record { row = row-quietly after plan first start h.between heard one.row new h.row; sound = h.sound; path = h.path }
 
   -- and where the row ends there
   pub comes-ended : path_of i ≡ path_of first → (last : InstanceParts) (heard : S) → EndsFrame after plan (passed_by plan i cursor) sent last heard false → ComesToStatement after plan first start last heard None

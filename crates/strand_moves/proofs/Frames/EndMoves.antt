@@ -1,5 +1,5 @@
 -- Ends of frames after which the instance goes on, as moves.
-use Rattle.std.proofs.Common.{◌≡◌, ◌+◌, ◌<◌, ◌≤◌, Bool, true, false, inl, inr, List, [], Option, Some, None, Result, Ok, Err, IfOk, length, reverse, refl, sym, ap, subst, ◌∙◌, arith}
+use Rattle.std.proofs.Common.{◌≡◌, ◌+◌, ◌<◌, ◌≤◌, Bool, true, false, inl, inr, List, [], Result, Ok, Err, IfOk, length, reverse, refl, sym, ap, subst, ◌∙◌, arith}
 use Rattle.std.specs.Prelude.{OnOk}
 use Rattle.script_grammar.specs.declared.tree.Stmt.{Stmt}
 use Rattle.serial_meaning.specs.Plan.{PlanView}
@@ -15,7 +15,8 @@ use Rattle.strand_moves.specs.declared.effects.MoveResult.TheVariants as move_re
 use Rattle.strand_moves.specs.Acts.{StaysUnlessMemory, Stays}
 use Rattle.strand_moves.specs.Cursors.{statements_left}
 use Rattle.strand_moves.specs.Moves.{Makes, present_pedigree, run_of}
-use Rattle.strand_moves.specs.Quick.{EndsFrame, IsEmittedTo, IsSentMove, IsWent, Shortens, quiet, emitted_if_any}
+use Rattle.strand_moves.specs.Quick.{EndsFrame, GivesBackIfAny, IsSentMove, IsWent, MakesEnd, Shortens, quiet}
+use Rattle.strand_moves.specs.Rows.{Here, QuietRow, Then}
 use Rattle.strand_moves.specs.InstanceParts.{IsInstance, KeepsNames, body_of, levels_of, machine_of, open_scopes, path_of, present_of, statements_of}
 use Rattle.strand_moves.proofs.OpenScopes.Keeping.{same-path, stays-instance}
 
@@ -27,13 +28,6 @@ pub returning-stays : (old new : InstanceParts) → IsReturning old new → Stay
 returning-stays old new is =
     record { trail = ap (λ (x : InstanceParts). x.trail) is; scopes = ap (λ (x : InstanceParts). open_scopes x) is; leaving = ap (λ (x : InstanceParts). x.leaving) is }
 
--- what a return keeps, by what it told
-pub emitted_if_any-stands : (old new : InstanceParts) (done : Result (Option Event) values.Halt) → OnOk done (IsReturning old new) → ((kind : FaultKind) → done ≡ Err (halt.Fault kind) → new ≡ old) → StaysUnlessMemory old new (emitted_if_any done)
-emitted_if_any-stands old new (Ok None) is same = returning-stays old new is
-emitted_if_any-stands old new (Ok (Some e)) is same = returning-stays old new is
-emitted_if_any-stands old new (Err (halt.Fault kind)) is same = subst (λ (x : InstanceParts). Stays old x) (sym (same kind refl)) (record { trail = refl; scopes = refl; leaving = refl })
-emitted_if_any-stands old new (Err halt.Memory) is same = tt
-
 -- by what the call at a frame's end answered
 module _ {S : Type 0} (after : Event → S → S) (plan : PlanView) (old new : InstanceParts) (from to : S) where
   pub did-end : (did : Bool) → did ≡ true → EndsFrame after plan old from new to did → EndsFrame after plan old from new to true
@@ -41,6 +35,27 @@ module _ {S : Type 0} (after : Event → S → S) (plan : PlanView) (old new : I
 
   pub did-not-end : (did : Bool) → did ≡ false → EndsFrame after plan old from new to did → EndsFrame after plan old from new to false
   did-not-end did e h = subst (EndsFrame after plan old from new to) e h
+
+pub gives-nothing : (plan : PlanView) (i : InstanceParts) → IsInstance plan i → GivesBackIfAny plan i i
+gives-nothing plan i sound = record { row = Here i refl; path = refl; sound = sound; steps = refl; frames = omega arith }
+
+-- one row of quiet moves after another
+more-quiet : (plan : PlanView) (first between new : InstanceParts) → QuietRow plan first between → QuietRow plan between new → QuietRow plan first new
+more-quiet plan first between new h (Here _ e) = subst (QuietRow plan first) (sym e) h
+more-quiet plan first between new h (Then before _ k m) = Then before new (more-quiet plan first between before h k) m
+
+pub ends-twice : {S : Type 0} (after : Event → S → S) (plan : PlanView) (old between new : InstanceParts) (from to : S) → MakesEnd after plan old from between to → GivesBackIfAny plan between new → MakesEnd after plan old from new to
+ends-twice after plan old between new from to h g =
+    record {
+      between = h.between;
+      first = h.first;
+      path_between = h.path_between;
+      sound_between = h.sound_between;
+      row = more-quiet plan h.between between new h.row g.row;
+      path = g.path ∙ h.path;
+      sound = g.sound;
+      shorter = let before = h.shorter in omega (arith, before, g.steps, g.frames);
+    }
 
 -- where no statement and no scope of a frame is left
 module _ (plan : PlanView) (i : InstanceParts) (h : IsInstance plan i) (on : i.leaving ≡ false) (none : statements_left (statements_of plan i.top) i.top.cursor ≡ []) (outside : i.top.levels.items ≡ []) where
@@ -51,9 +66,24 @@ module _ (plan : PlanView) (i : InstanceParts) (h : IsInstance plan i) (on : i.l
       ∙ ap (λ (ls : List Level). end_move plan (path_of i) m (levels_of (body_of plan i.top.function) (reverse ls))) outside
       ∙ ap (λ (b : Bool). return_move plan (path_of i) m b) is
 
+  -- its value went to the frame below, or nothing changed
+  module _ (new : InstanceParts) (kept : KeepsNames plan i new) (less : new.rank + new.steps ≤ i.rank + i.steps) where
+    pub given-back : (done : Result (Unit {0}) values.Halt) (went : Bool) → IsWent done went → i.top.returning ≡ true →
+        Makes (return_move plan (path_of i) (machine_of plan i) true) (present_pedigree (present_of i) (machine_of plan i)) (machine_of plan new) (quiet done) →
+        ((kind : FaultKind) → done ≡ Err (halt.Fault kind) → new ≡ i) → StaysUnlessMemory i new (quiet done) → new.steps ≡ i.steps → OnOk done (length new.below.items < length i.below.items) → GivesBackIfAny plan i new
+    given-back (Ok u) went w returning makes same stays steps fewer =
+        let path = same-path i new stays in
+        let sound = stays-instance plan i new h on stays kept less in
+        record { row = Then i new (Here i refl) (record { moves = ends-by true returning ∙ makes; path = path; sound = sound }); path = path; sound = sound; steps = steps; frames = omega (arith, fewer) }
+    given-back (Err (halt.Fault kind)) went w returning makes same stays steps fewer = subst (GivesBackIfAny plan i) (sym (same kind refl)) (gives-nothing plan i h)
+    given-back (Err halt.Memory) went w returning makes same stays steps fewer = absurd w
+
   module _ {S : Type 0} (after : Event → S → S) (from to : S) (new : InstanceParts) (kept : KeepsNames plan i new) (less : new.rank + new.steps ≤ i.rank + i.steps) where
     ends : Stays i new → IsSentMove after plan i from new to → Shortens i new → EndsFrame after plan i from new to true
-    ends stays sent shorter = (sent, stays-instance plan i new h on stays kept less, same-path i new stays, shorter)
+    ends stays sent shorter =
+        let path = same-path i new stays in
+        let sound = stays-instance plan i new h on stays kept less in
+        record { between = new; first = sent; path_between = path; sound_between = sound; row = Here new refl; path = path; sound = sound; shorter = shorter }
 
     -- its value went to the frame below
     pub gave-back : {E : Type 0} (done : Result (Unit {0}) values.Halt) (went : Result Bool E) → IfOk went (IsWent done) → i.top.returning ≡ true →
@@ -74,7 +104,5 @@ module _ (plan : PlanView) (i : InstanceParts) (h : IsInstance plan i) (on : i.l
       pub returned-alone : return_move plan (path_of i) (machine_of plan i) false ≡ run_of (move_result.Went effect.Nothing) (machine_of plan new) → to ≡ from → EndsFrame after plan i from new to true
       returned-alone moves still = ends (returning-stays i new is) (inl (ends-by false off ∙ moves, still)) shorter
 
-      pub returned-sent : {E : Type 0} (e : Event) (sent : Result Bool E) → return_move plan (path_of i) (machine_of plan i) false ≡ run_of (move_result.Went (effect.Emitted e)) (machine_of plan new) → IfOk sent (IsEmittedTo after (Ok e) from to) →
-          IfOk sent (EndsFrame after plan i from new to)
-      returned-sent e (Ok sent) moves w = subst (EndsFrame after plan i from new to) (sym w.0) (ends (returning-stays i new is) (inr (e, ends-by false off ∙ moves, w.1)) shorter)
-      returned-sent e (Err x) moves w = tt
+      pub returned-sent : (e : Event) → return_move plan (path_of i) (machine_of plan i) false ≡ run_of (move_result.Went (effect.Emitted e)) (machine_of plan new) → to ≡ after e from → EndsFrame after plan i from new to true
+      returned-sent e moves sent = ends (returning-stays i new is) (inr (e, ends-by false off ∙ moves, sent)) shorter

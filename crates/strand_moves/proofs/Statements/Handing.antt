@@ -1,24 +1,16 @@
--- What is told of spawns, and of events that may be none, as moves.
-use Rattle.std.proofs.Common.{inl, inr, Option, Some, None, Result, Ok, Err, IfOk, sym, subst}
+-- What is told of spawns, as moves.
+use Rattle.std.proofs.Common.{inl, inr, Result, Ok, Err, IfOk, sym, subst}
 use Rattle.script_grammar.specs.declared.tree.Stmt.{Stmt}
 use Rattle.script_grammar.specs.declared.tree.Act.{Act}
 use Rattle.script_grammar.specs.declared.tree.Act.TheOpen.{Act-F}
 use Rattle.serial_meaning.specs.Plan.{PlanView}
-use Rattle.serial_meaning.specs.declared.event.Event.{Event}
 use Rattle.strand_values.specs.declared.halt.Halt as values
 use Rattle.strand_moves.specs.declared.instance_parts.InstanceParts.{InstanceParts}
 use Rattle.strand_moves.specs.declared.effects.MoveResult.{MoveResult}
 use Rattle.strand_moves.specs.declared.effects.Spawning.{Spawning}
 use Rattle.strand_moves.specs.Acts.{Acts}
 use Rattle.strand_moves.specs.Moves.{IsTrailOf, MovesTrail}
-use Rattle.strand_moves.specs.Quick.{emitted_if_any}
 use Rattle.strand_moves.specs.Spawns.{IsHanded, spawn_as_move}
-
--- an event, or nothing, is no child
-pub emitted_if_any-child : (plan : PlanView) (done : Result (Option Event) values.Halt) → IfOk (emitted_if_any done) (MovesTrail plan)
-emitted_if_any-child plan (Ok None) = tt
-emitted_if_any-child plan (Ok (Some e)) = tt
-emitted_if_any-child plan (Err h) = tt
 
 -- a spawn does as a move what it does
 pub handed-acts : (plan : PlanView) (st : Stmt) (a : Act-F Act Stmt) (old new : InstanceParts) (done : Result Spawning values.Halt) (r : Result MoveResult values.Halt) → IsHanded done r → Acts plan st a old new (spawn_as_move done) → Acts plan st a old new r

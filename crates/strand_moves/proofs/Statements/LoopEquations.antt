@@ -17,7 +17,7 @@ use Rattle.serial_meaning.specs.declared.event.FaultKind.TheVariants.{Index, Dep
 use Rattle.serial_meaning.specs.declared.event.Event.TheVariants as event
 use Rattle.serial_meaning.specs.declared.origin.Origin.{Origin}
 use Rattle.serial_meaning.specs.declared.origin.Origin.TheVariants as origin
-use Rattle.strand_meaning.specs.Machine.{handing, Looped, Emitted, Handed, Loops, Machine, loop_effects}
+use Rattle.strand_meaning.specs.Machine.{Looped, Emitted, Handed, Loops, Machine, loop_effects}
 use Rattle.strand_moves.specs.Acts.{loop_begins}
 use Rattle.strand_moves.specs.Moves.{acted}
 use Rattle.strand_moves.proofs.Statements.Equations.{went, faults}

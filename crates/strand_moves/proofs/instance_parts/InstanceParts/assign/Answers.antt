@@ -4,17 +4,17 @@ use Rattle.strand_moves.specs.InstanceParts.{machine_of, present_of}
 use Rattle.strand_moves.proofs.Statements.FoundParts.{in_called, in_spawned, in_value}
 use Rattle.strand_moves.proofs.Statements.Paying.{call-at, spawn-at}
 use Rattle.strand_moves.proofs.Statements.Handing.{handed-acts, handed-child}
-use Rattle.strand_moves.proofs.Statements.QuickLemmas.{emitted-child, quiet-child}
+use Rattle.strand_moves.proofs.Statements.QuickLemmas.{quiet-child}
 use Rattle.strand_moves.proofs.instance_parts.InstanceParts.assign.Goals as goal
 
 pub returns-in-Value-clause-shows : goal.returns-in-Value-clause-shows
 returns-in-Value-clause-shows c = λ st. rw (c.in-Value.is, c.quiet.ensures) (c.set_value.ensures.shows c.args.plan.now st)
 
-pub returns-in-Draw-clause-shows : goal.returns-in-Draw-clause-shows
-returns-in-Draw-clause-shows c = λ st. rw (c.in-Draw.is, c.emitted.ensures) (c.draw.ensures.shows st c.in-Draw.field-0)
+pub returns-in_ok-at-in-Draw-clause-shows : goal.returns-in_ok-at-in-Draw-clause-shows
+returns-in_ok-at-in-Draw-clause-shows c = λ st. rw (c.in-Draw.is, c.in_ok-at-in-Draw.ensures) (c.draw-word.ensures.shows st c.in-Draw.field-0)
 
-pub returns-in-New-clause-shows : goal.returns-in-New-clause-shows
-returns-in-New-clause-shows c = λ st. rw (c.in-New.is, c.emitted-in-New.ensures) (c.make_object.ensures.shows c.args.plan.now st c.in-New.field-0)
+pub returns-in_ok-make_object-in-New-clause-shows : goal.returns-in_ok-make_object-in-New-clause-shows
+returns-in_ok-make_object-in-New-clause-shows c = λ st. rw (c.in-New.is, c.in_ok-at-in-New.ensures) (c.in_ok-make_object-in-New.ensures.shows c.args.plan.now st c.in-New.field-0)
 
 pub returns-in-Call-clause-shows : goal.returns-in-Call-clause-shows
 returns-in-Call-clause-shows c = λ st.
@@ -31,12 +31,6 @@ returns-in-Spawn-clause-shows c = λ st.
 
 pub returns-in-Value-clause-child : goal.returns-in-Value-clause-child
 returns-in-Value-clause-child c = rw c.quiet.ensures (quiet-child c.args.plan.now c.set_value.result)
-
-pub returns-in-Draw-clause-child : goal.returns-in-Draw-clause-child
-returns-in-Draw-clause-child c = rw c.emitted.ensures (emitted-child c.args.plan.now c.draw.result)
-
-pub returns-in-New-clause-child : goal.returns-in-New-clause-child
-returns-in-New-clause-child c = rw c.emitted-in-New.ensures (emitted-child c.args.plan.now c.make_object.result)
 
 pub returns-in-Call-clause-child : goal.returns-in-Call-clause-child
 returns-in-Call-clause-child c = rw c.quiet-in-Call.ensures (quiet-child c.args.plan.now c.call.result)
@@ -62,11 +56,14 @@ call-requires-clause-target c = c.requires.name
 pub returns-in-Value-clause-named : goal.returns-in-Value-clause-named
 returns-in-Value-clause-named c = c.set_value.ensures.named c.args.plan.now
 
-pub returns-in-Draw-clause-named : goal.returns-in-Draw-clause-named
-returns-in-Draw-clause-named c = c.draw.ensures.named c.args.plan.now
+pub returns-in_ok-at-in-Draw-clause-named : goal.returns-in_ok-at-in-Draw-clause-named
+returns-in_ok-at-in-Draw-clause-named c = c.draw-word.ensures.named c.args.plan.now
 
-pub returns-in-New-clause-named : goal.returns-in-New-clause-named
-returns-in-New-clause-named c = c.make_object.ensures.named c.args.plan.now
+pub returns-in_ok-make_object-in-New-clause-named : goal.returns-in_ok-make_object-in-New-clause-named
+returns-in_ok-make_object-in-New-clause-named c = c.make_object.ensures.named c.args.plan.now
+
+pub returns-in_err-make_object-in-New-clause-named : goal.returns-in_err-make_object-in-New-clause-named
+returns-in_err-make_object-in-New-clause-named c = c.make_object.ensures.named c.args.plan.now
 
 pub returns-in-Call-clause-named : goal.returns-in-Call-clause-named
 returns-in-Call-clause-named c = c.call.ensures.named

@@ -13,8 +13,7 @@ returns-clause-shows c = λ st at.
     let word = c.draw-word.ensures ∙ ap (λ (p : PlanView). drawn p (present_of i ++ i.rank ∷ [])) c.plan.view_is in
     let fits : SFits w64 c.cast_signed.result = search rules in
     let set = rw (to_z-of_z w64 c.cast_signed.result fits, c.cast_signed.ensures) at c.set_number.ensures in
-    rw c.in_ok-at.ensures
-    (set-draw c.args.plan.now (present_of i) (machine_of c.args.plan.now i) st c.args.x.now at c.draw-word.result c.set_number.new.self.variables word (variables-are c.set_number.new.self i.top.env _ set))
+    set-draw c.args.plan.now (present_of i) (machine_of c.args.plan.now i) st c.args.x.now at c.draw-word.result c.set_number.new.self.variables word (variables-are c.set_number.new.self i.top.env _ set)
 
 pub returns-clause-there : goal.returns-clause-there
 returns-clause-there c =

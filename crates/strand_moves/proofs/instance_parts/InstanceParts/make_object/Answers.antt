@@ -9,7 +9,7 @@ pub returns-clause-shows : goal.returns-clause-shows
 returns-clause-shows c = λ plan st at.
     let i = c.args.self.now in
     let set = rw c.in_ok-object.ensures at c.set_scalar.ensures in
-    rw c.in_ok-at.ensures (set-new plan (present_of i) (machine_of plan i) st c.args.x.now at c.set_scalar.new.self.variables (variables-are c.set_scalar.new.self i.top.env _ set))
+    set-new plan (present_of i) (machine_of plan i) st c.args.x.now at c.set_scalar.new.self.variables (variables-are c.set_scalar.new.self i.top.env _ set)
 
 pub returns-clause-there : goal.returns-clause-there
 returns-clause-there c =
@@ -19,14 +19,4 @@ pub returns-clause-named : goal.returns-clause-named
 returns-clause-named c = λ plan.
     let i = c.args.self.now in
     let new : InstanceParts = record i { rank = i.rank + 1; top = record i.top { env = c.set_scalar.new.self } } in
-    top-named plan i new refl refl refl (names-stay c.set_scalar.new.self i.top.env _ c.set_scalar.ensures)
-
-pub returns-in_err-at-clause-there : goal.returns-in_err-at-clause-there
-returns-in_err-at-clause-there c =
-    record { below = refl; function = refl; levels = refl; target = refl; names = names-stay c.set_scalar.new.self c.args.self.now.top.env _ c.set_scalar.ensures; steps = refl }
-
-pub returns-in_err-at-clause-named : goal.returns-in_err-at-clause-named
-returns-in_err-at-clause-named c = λ plan.
-    let i = c.args.self.now in
-    let new : InstanceParts = record i { top = record i.top { env = c.set_scalar.new.self } } in
     top-named plan i new refl refl refl (names-stay c.set_scalar.new.self i.top.env _ c.set_scalar.ensures)

@@ -25,17 +25,10 @@ returns-clause-shows c =
     let spawns = ap (λ (x : InstanceParts). spawns_in (function_at (functions_of plan) x.top.function)) pays.ok in
     return-synced plan i c.requires.here paid paid.steps pays.ok pays.paid new (sym spawns ∙ sym c.has_spawns.ensures ∙ c.if-not-has_spawns.false) is
     ∙ ap (λ (b : Bool). went (Emitted (event.Sync (present_of paid ++ paid.rank ∷ [])) ∷ sync_effects b) (machine_of plan new)) alone
-    ∙ ap (λ (j : List ℕ). went (Emitted (event.Sync j) ∷ []) (machine_of plan new)) (sym c.in_ok-pedigree.ensures)
+    ∙ ap (λ (x : InstanceParts). went (Emitted (event.Sync (present_of x ++ x.rank ∷ [])) ∷ []) (machine_of plan new)) pays.ok
 
 pub returns-then-not-has_spawns-clause-named : goal.returns-then-not-has_spawns-clause-named
 returns-then-not-has_spawns-clause-named c =
-    let paid = c.pay.new.self in
-    let ok = c.in_ok-pay.ensures.ok in
-    let new : InstanceParts = record paid { top = record paid.top { returning = true } } in
-    top-named c.args.plan.now c.args.self.now new (ap (λ (x : InstanceParts). x.below.items) ok) (ap (λ (x : InstanceParts). x.top.function) ok) (ap (λ (x : InstanceParts). x.top.target) ok) (ap (λ (x : InstanceParts). x.top.env.names) ok)
-
-pub returns-in_err-pedigree-clause-named : goal.returns-in_err-pedigree-clause-named
-returns-in_err-pedigree-clause-named c =
     let paid = c.pay.new.self in
     let ok = c.in_ok-pay.ensures.ok in
     let new : InstanceParts = record paid { top = record paid.top { returning = true } } in

@@ -6,23 +6,11 @@ use Rattle.strand_meaning.specs.Machine.{return_move}
 use Rattle.strand_moves.specs.declared.instance_parts.InstanceParts.{InstanceParts}
 use Rattle.strand_moves.specs.InstanceParts.{machine_of, path_of, present_of}
 use Rattle.strand_moves.specs.Moves.{present_pedigree}
-use Rattle.strand_moves.proofs.Frames.EndMoves.{emitted_if_any-stands}
 use Rattle.strand_moves.proofs.Frames.Ending.{return-synced}
 use Rattle.strand_moves.proofs.OpenScopes.Exits.{shows-made}
-use Rattle.strand_moves.proofs.Statements.Handing.{emitted_if_any-child}
 use Rattle.strand_moves.proofs.Frames.Names.{still-named}
 use Rattle.strand_moves.proofs.Statements.Naming.{top-named}
 use Rattle.strand_moves.proofs.instance_parts.InstanceParts.return_step.Goals as goal
-
-pub returns-then-not-self-clause-shows : goal.returns-then-not-self-clause-shows
-returns-then-not-self-clause-shows c = rw c.emitted_if_any.ensures c.return_alone.ensures.shows
-
-pub returns-then-not-self-clause-child : goal.returns-then-not-self-clause-child
-returns-then-not-self-clause-child c = rw c.emitted_if_any.ensures (emitted_if_any-child c.args.plan.now c.return_alone.result)
-
-pub returns-then-not-self-clause-stays : goal.returns-then-not-self-clause-stays
-returns-then-not-self-clause-stays c =
-    rw c.emitted_if_any.ensures (emitted_if_any-stands c.args.self.now c.return_alone.new.self c.return_alone.result c.return_alone.ensures.rest c.return_alone.ensures.same)
 
 pub returns-then-has_spawns-clause-shows : goal.returns-then-has_spawns-clause-shows
 returns-then-has_spawns-clause-shows c =

@@ -20,7 +20,7 @@ use Rattle.strand_moves.proofs.Statements.QuickLemmas.{did-nothing, did-quiet, p
 use Rattle.strand_moves.proofs.instance_parts.InstanceParts.row.Goals as goal
 
 pub loop-passed-init : goal.loop-passed-init
-loop-passed-init g c = record { row = Still c.args.self.now c.args.sink.now refl refl; sound = c.requires; path = refl; text = c.statements-text.ensures; block = c.block-block.ensures; around = tt }
+loop-passed-init g c = record { row = Still c.args.self.now c.args.sink.now refl refl; sound = c.requires; path = refl; text = c.statements-text.ensures; block = c.loop_around-innermost.ensures.block; around = c.loop_around-innermost.ensures.around }
 
 -- by each arm: a step is paid, and a call's frame counts less
 
@@ -65,7 +65,7 @@ loop-passed-smaller-in_default g c =
     let before = c.loop_in_place-around.ensures.went.stays in
     let frames_before = ap (λ (bs : List Frame). length bs) before.below in
     let ended = did-end g.S.EventSink.after c.args.plan.now _ c.frame_end.new.self c.loop-passed.sink c.frame_end.new.sink _ c.if-not-branch.false c.in_ok-frame_end.ensures.did in
-    let shorter = ended.3 in
+    let shorter = ended.shorter in
     omega (arith, before.few, frames_before, shorter)
 
 pub loop-passed-preserved-then-is_fork : goal.loop-passed-preserved-then-is_fork
@@ -168,7 +168,7 @@ loop-passed-preserved g c =
     let did = gone.0 in
     let less : i.steps - 1 + 1 ≡ i.steps = omega arith in
     let went = row-called g.S.EventSink.after plan c.args.self.now c.args.sink.now i l.sink was.row was.sound st c.pass_in.new.self (i.steps - 1) passes less q.new.self left.0 o.new.self o.new.sink gone.1 did.0 o.ensures.named did.1 gone.2 in
-    record { row = went.row; sound = went.sound; path = went.path ∙ was.path; text = c.statements-text-in-Calling.ensures; block = c.block-block-in-Calling.ensures; around = tt }
+    record { row = went.row; sound = went.sound; path = went.path ∙ was.path; text = c.statements-text-in-Calling.ensures; block = c.loop_around-called.ensures.block; around = c.loop_around-called.ensures.around }
 
 pub other_statement-requires-clause-strand : goal.other_statement-requires-clause-strand
 other_statement-requires-clause-strand g c =
@@ -205,7 +205,7 @@ loop-passed-preserved-in_default g c =
     let none = rw was.text at c.in_default.ensures.passes in
     let ended = did-end g.S.EventSink.after plan _ e.new.self l.sink e.new.sink _ c.if-not-branch.false c.in_ok-frame_end.ensures.did in
     let went = row-ended g.S.EventSink.after plan c.args.self.now c.args.sink.now c.loop_in_place-around.new.self l.sink was.row was.sound c.pass_in.new.self none e.new.self e.new.sink ended in
-    record { row = went.row; sound = went.sound; path = went.path ∙ was.path; text = c.statements-text-in_default.ensures; block = c.block-block-in_default.ensures; around = tt }
+    record { row = went.row; sound = went.sound; path = went.path ∙ was.path; text = c.statements-text-in_default.ensures; block = c.loop_around-below.ensures.block; around = c.loop_around-below.ensures.around }
 
 pub returns-then-not-branch : goal.returns-then-not-branch
 returns-then-not-branch g c =

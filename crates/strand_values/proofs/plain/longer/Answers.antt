@@ -4,7 +4,7 @@ use Rattle.script_check.specs.Places.{has_place}
 use Rattle.serial_meaning.specs.Values.{value_of}
 use Rattle.strand_values.proofs.FoundOperands.{in_comparison, in_product, in_sum}
 use Rattle.strand_values.proofs.NumberLemmas.{sum_is, product_is, value_of_sum, value_of_product}
-use Rattle.strand_values.proofs.plain.calculated.Goals as goal
+use Rattle.strand_values.proofs.plain.longer.Goals as goal
 
 pub first_operand-requires : goal.first_operand-requires
 first_operand-requires c =

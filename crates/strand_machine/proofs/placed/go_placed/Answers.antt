@@ -1,0 +1,15 @@
+use Rattle.strand_machine.proofs.Moves.Moving.{went-sound, returned-sound, faulted-sound}
+use Rattle.strand_machine.proofs.placed.go_placed.Goals as goal
+
+pub apply_effects-requires : goal.apply_effects-requires
+apply_effects-requires c =
+    let m = c.in-Ok.ensures in
+    went-sound c.args.parts.now.state c.args.instance c.make_placed_move.new.self _ _ c.plan.ensures m.moves c.requires c.steps_are_sound.ensures c.in-Went.effects c.in-Went.is m.path m.sound m.child
+
+pub pass-requires : goal.pass-requires
+pass-requires c =
+    returned-sound c.args.parts.now.state c.args.instance c.make_placed_move.new.self _ _ c.plan.ensures c.in-Ok.ensures.moves c.requires c.steps_are_sound.ensures c.in-Returned.value c.in-Returned.is
+
+pub pass-requires-in-Faulted : goal.pass-requires-in-Faulted
+pass-requires-in-Faulted c =
+    faulted-sound c.args.parts.now.state c.args.instance c.make_placed_move.new.self _ _ c.plan.ensures c.in-Ok.ensures.moves c.requires c.steps_are_sound.ensures c.in-Faulted.fault c.in-Faulted.is

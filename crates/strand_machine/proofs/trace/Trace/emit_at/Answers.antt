@@ -1,0 +1,13 @@
+use Rattle.std.proofs.Common.{rules, ◌≡◌, ◌+◌, ◌-◌, ◌<◌, ◌++◌, ◌∷◌, [], length, arith}
+use Rattle.serial_meaning.specs.EventKinds.{event_at}
+use Rattle.strand_machine.proofs.Moves.Handed.{prefix-last}
+use Rattle.strand_machine.proofs.trace.Trace.emit_at.Goals as goal
+
+pub returns-in_ok-push_at-in-Some : goal.returns-in_ok-push_at-in-Some
+returns-in_ok-push_at-in-Some g c =
+    let inside = c.self.inside in
+    let some : 0 < inside.after.len = search rules in
+    let at : (inside.after.len - 1) + 1 ≡ length inside.after.items = omega (arith, inside.after.ok.0) in
+    rw (← c.self.view_is)
+    (prefix-last inside.prefix inside.fault inside.awaited.items inside.after.items (inside.after.len - 1) c.in-Some.last.now (event_at (c.args.path.now ++ c.args.rank ∷ []) c.args.kind) c.push_at.new.self c.self.invariant at c.in-Some.ensures.value
+    c.in_ok-push_at-in-Some.ensures.ok)
