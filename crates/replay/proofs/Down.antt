@@ -78,6 +78,17 @@ module _ (plan : PlanView) (o : Origin) (j : List ℕ) (on : IsOnWayTo plan j o)
   pub is_reached : m.child ≡ None → m.child_fault ≡ None → (s : Strand) → m.strand ≡ Some s → seen_from plan o j ≡ FoundStrand s
   is_reached e h s g = found-none e ∙ ap (λ (f : Option Fault). last_step f m.strand) h ∙ ap (last_step None) g
 
+  shown-strand : (c : Option Origin) (s : Option Strand) (f : Option Fault) → (node_by c s f).child ≡ None → (node_by c s f).strand ≡ s
+  shown-strand None s f e = refl
+  shown-strand (Some c) s f e = absurd (cc)
+
+  -- the strand is one of the instance's own
+  pub is_own : m.child ≡ None → (s : Strand) → m.strand ≡ Some s → strand_of o (node_of plan o) j ≡ Some s
+  is_own e s g =
+      sym (shown-strand (child_on_way j (node_of plan o).items) (strand_of o (node_of plan o) j) (blocking_fault (node_of plan o) j) (sym (ap (λ (n : Node). n.child) is) ∙ e))
+      ∙ sym (ap (λ (n : Node). n.strand) is)
+      ∙ g
+
   pub is_missing : m.child ≡ None → m.child_fault ≡ None → m.strand ≡ None → seen_from plan o j ≡ Missing
   is_missing e h g = found-none e ∙ ap (λ (f : Option Fault). last_step f m.strand) h ∙ ap (last_step None) g
 

@@ -1,11 +1,12 @@
 -- One node of the walk down to a strand.
-use Rattle.std.specs.Prelude.{◌≡◌, ◌<◌, ℕ, ◌-◌, List, Result, Ok, Err, length}
+use Rattle.std.specs.Prelude.{◌≡◌, ◌<◌, ℕ, ◌-◌, List, Result, Ok, Err, Some, length}
 use Rattle.serial_meaning.specs.Eval.{path_of}
 use Rattle.serial_meaning.specs.Laws.{IsOriginOf}
+use Rattle.serial_meaning.specs.Open.{node_of}
 use Rattle.serial_meaning.specs.Plan.{PlanView}
 use Rattle.serial_meaning.specs.declared.origin.Origin.{Origin}
 use Rattle.strand_meaning.specs.Observation.{IsInstanceOrigin}
-use Rattle.strand_meaning.specs.Strands.{Found, FoundStrand, Missing, Blocked, walk_in}
+use Rattle.strand_meaning.specs.Strands.{Found, FoundStrand, Missing, Blocked, strand_of, walk_in}
 use Rattle.serial_runner.specs.Nodes.{IsBelow}
 use Rattle.replay.specs.declared.descent.Way.{Way}
 use Rattle.replay.specs.declared.descent.Way.TheVariants as way
@@ -25,7 +26,7 @@ pub record IsOnWayTo (plan : PlanView) (j : List ℕ) (o : Origin) : Type 0 wher
 
 -- The way leads further down, to where the same stands; or what stands there is known.
 abbrev pub LeadsDown : PlanView → Origin → List ℕ → Result Way ReplayError → Type 0
-LeadsDown plan o j (Ok (way.Found strand)) = seen_from plan o j ≡ FoundStrand strand
+LeadsDown plan o j (Ok (way.Found strand)) = (seen_from plan o j ≡ FoundStrand strand) × (strand_of o (node_of plan o) j ≡ Some strand)
 LeadsDown plan o j (Ok (way.Down next)) = IsOnWayTo plan j next × (length (path_of o) < length (path_of next)) × (seen_from plan next j ≡ seen_from plan o j)
 LeadsDown plan o j (Err error.NoStrand) = seen_from plan o j ≡ Missing
 LeadsDown plan o j (Err (error.Blocked f)) = seen_from plan o j ≡ Blocked f

@@ -1,2 +1,3 @@
 pub mod Descents
+pub mod FaultPlaces
 pub mod Replays

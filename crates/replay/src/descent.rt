@@ -59,7 +59,7 @@ fn enter(alloc: Global, child: Origin, at: &Pedigree) -> Result<Option<Origin>, 
 }
 
 /// One node of the walk.
-fn descend(
+pub(crate) fn descend(
     alloc: Global,
     plan: &Arc<Plan>,
     origin: Origin,

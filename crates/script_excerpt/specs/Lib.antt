@@ -1,4 +1,4 @@
--- What a fault's place is for a person, what word would do there, and what stands around it.
+-- A fault's position as a person reads it, the word that fits there, and what surrounds it.
 pub mod Excerpts
 pub mod Followers
 pub mod Places

@@ -9,7 +9,7 @@ is_feed byte = byte == 10
 abbrev pub line_of : List ℕ → ℕ → ℕ
 line_of text at = length (filter is_feed (take at text)) + 1
 
--- The line of byte `at` begins here: after the last line feed before it, or with the text.
+-- The line of byte `at` begins here: behind the last line feed before it, or at the start of the text.
 pub record IsLineStart (text : List ℕ) (at start : ℕ) : Type 0 where
   pub before : start ≤ at
   pub begins : IsAfterLastMatch is_feed (take at text) start

@@ -1,4 +1,4 @@
--- What stands around a place of a text, as a habit of another language leaves it there.
+-- What surrounds an offset of a text, for recognizing a habit of another language.
 use Rattle.std.specs.Prelude.{◌≡◌, ◌≤◌, ◌-◌, ◌&&◌, ◌||◌, ◌==◌, ℕ, List, Bool, [], ◌∷◌, drop, false, length, nat_eq, not, take, true}
 use Rattle.std.specs.List.{IsAfterLastMatch, ends_with, starts_with}
 use Rattle.script_tokens.specs.Word.{is_name_byte}
@@ -7,7 +7,7 @@ use Rattle.script_tokens.specs.Word.{is_name_byte}
 abbrev pub is_blank : ℕ → Bool
 is_blank byte = byte == 32 || byte == 9 || byte == 13 || byte == 10
 
--- without the blanks at their end the bytes are so many
+-- the length of the bytes without the blanks at their end
 abbrev pub IsTrimmed : List ℕ → ℕ → Type 0
 IsTrimmed bytes end = (end ≤ length bytes) × IsAfterLastMatch (λ byte. not (is_blank byte)) bytes end
 
@@ -15,31 +15,31 @@ IsTrimmed bytes end = (end ≤ length bytes) × IsAfterLastMatch (λ byte. not (
 abbrev pub IsNameStart : List ℕ → ℕ → Type 0
 IsNameStart bytes start = (start ≤ length bytes) × IsAfterLastMatch (λ byte. not (is_name_byte byte)) bytes start
 
--- what stands before a place, without the blanks at its end
+-- what is before an offset, without the blanks at its end
 abbrev pub IsFront : List ℕ → ℕ → List ℕ → Type 0
 IsFront text at front = (end : ℕ) × IsTrimmed (take at text) end × (front ≡ take end (take at text))
 
--- what stands before the name at the end of the bytes, without the blanks at its end
+-- what is before the name at the end of the bytes, without the blanks at its end
 abbrev pub IsWithoutName : List ℕ → List ℕ → Type 0
 IsWithoutName bytes rest = (start : ℕ) × IsNameStart bytes start × IsFront bytes start rest
 
--- the first byte is one of a name
+-- the first byte belongs to a name
 abbrev pub begins_in_name : List ℕ → Bool
 begins_in_name [] = false
 begins_in_name (byte ∷ _) = is_name_byte byte
 
--- the last byte is one of a name
+-- the last byte belongs to a name
 abbrev pub ends_in_name : List ℕ → Bool
 ends_in_name bytes = begins_in_name (drop (length bytes - 1) bytes)
 
--- no name goes on from the first bytes into the others
+-- no name reaches from the first bytes into the others
 abbrev pub is_split : List ℕ → List ℕ → Bool
 is_split front rest = not (ends_in_name front && begins_in_name rest)
 
--- the bytes end by this word
+-- the bytes end with this word
 abbrev pub ends_by : List ℕ → List ℕ → Bool
 ends_by front word = ends_with nat_eq front word && is_split (take (length front - length word) front) word
 
--- the bytes begin by this word
+-- the bytes begin with this word
 abbrev pub begins_by : List ℕ → List ℕ → Bool
 begins_by rest word = starts_with nat_eq rest word && is_split word (drop (length word) rest)

@@ -1,4 +1,4 @@
-// Which word would do at a fault of a text.
+// Which word fits at a fault of a text.
 
 ghost use Rattle.std.specs.Prelude.{◌≡◌, ◌≤◌, ◌+◌, IfOk, IfSome, IsFalse, IsTrue, length, string_bytes, true, false};
 ghost use Rattle.script_excerpt.specs.Followers.{GoesOn, with_word};
@@ -7,22 +7,22 @@ use crate::bytes::extended;
 use script_text::{MAX_BYTES, SyntaxError, Version, parse};
 use std::alloc::{AllocError, Global};
 
-/// The longest text that is looked at: each word is tried by a parse of the text.
+// The longest text that is tried: each word takes a parse of the text.
 const LONGEST_ADVISED: usize = 65536;
 
-/// The words that stand for themselves, `scope` in version 2 alone.
+// The words to try, `scope` in version 2 only.
 static WORDS: [&str; 41] = [
     "fn", "id", "let", "spawn", "call", "sync", "print", "if", "else", "while", "pfor", "in",
     "into", "draw", "new", "return", "same", "older", "(", ")", "{", "}", "[", "]", ",", ";", "=",
     "+", "-", "*", "/", "%", "==", "!=", "<", "<=", ">", ">=", "->", "..", "scope",
 ];
 
-// Whether the word stands for itself in a text of this version.
+// Whether the word is to be tried in a text of this version.
 fn is_word(version: Version, word: &str) -> bool {
     version == Version::Two || word != "scope"
 }
 
-// The text with a word before its byte `at`.
+// The text with a word inserted before its byte `at`.
 fn with_word(alloc: Global, text: &[u8], at: usize, word: &str) -> Result<Vec<u8>, AllocError>
     requires { at ≤ length text.now }
     ensures mended { IfOk result (λ mended. mended.items ≡ with_word text.now at word.now) }
@@ -35,7 +35,7 @@ fn with_word(alloc: Global, text: &[u8], at: usize, word: &str) -> Result<Vec<u8
     extended(mended, &text[at..])
 }
 
-// Whether the text goes on past its token at `at`, or is a script, where this word stands before that token.
+// Whether with this word inserted the text is a script, or is read past its token at `at`.
 fn would_do(alloc: Global, text: &[u8], at: usize, word: &str) -> Result<bool, AllocError>
     requires within { at ≤ length text.now }
     requires text { length text.now ≤ 65536 }
@@ -55,8 +55,8 @@ fn would_do(alloc: Global, text: &[u8], at: usize, word: &str) -> Result<bool, A
     }
 }
 
-/// The one word that would do before the token at `at`, where a parser stops: with it the text is a script, or its first fault stands
-/// after that token. `None` where no word would do, or more than one, the text is a script as it stands, or it has more than 65536 bytes.
+/// The only word that fits before the token at `at`, where a parser stops: with it the text is a script, or its first fault is
+/// behind that token. `None` where no word fits, or more than one, the text is a script already, or it has more than 65536 bytes.
 pub fn follower(alloc: Global, text: &[u8], at: usize) -> Result<Option<&'static str>, AllocError>
     requires { at ≤ length text.now }
     ensures { IfOk result (λ found. IfSome found (λ word. GoesOn text.now at word.now)) }

@@ -4,7 +4,7 @@ ghost use Rattle.std.specs.Prelude.{◌≡◌, ◌++◌, IfOk};
 
 use std::alloc::AllocError;
 
-/// The bytes with more after them. Where memory is out they are dropped.
+// The bytes with more behind them. Where memory runs out they are dropped.
 pub(crate) fn extended(bytes: Vec<u8>, more: &[u8]) -> Result<Vec<u8>, AllocError>
     ensures { IfOk result (λ longer. longer.items ≡ bytes.items ++ more.now) }
 {

@@ -1,7 +1,7 @@
 // The lines that show a fault of a text.
 
 ghost use Rattle.std.specs.Prelude.{◌≡◌, ◌≤◌, ◌++◌, IfOk, OnOk, codes, length, map};
-ghost use Rattle.script_excerpt.specs.Excerpts.{IsAdvice, IsEnd, IsExcerpt, IsWindow, caret_line, is_unfit, is_at_version, is_misplaced_return, is_misplaced_version, place_line, blank_for, shown, text_lines, word_advice};
+ghost use Rattle.script_excerpt.specs.Excerpts.{IsAdvice, IsEnd, IsExcerpt, IsPlaceExcerpt, IsWindow, caret_line, is_unfit, is_at_version, is_misplaced_return, is_misplaced_version, place_line, blank_for, shown, text_lines, word_advice};
 
 use crate::advice::follower;
 use crate::bytes::extended;
@@ -9,10 +9,10 @@ use crate::position::{Position, line_start, position_of};
 use crate::slips::reason;
 use std::alloc::{AllocError, Global};
 
-/// How many bytes of the line are shown before the caret at most, and from it on.
+// The most bytes of the line that are shown before the caret, and from it on.
 const MOST_SHOWN: usize = 72;
 
-// Which part of the line of byte `at` is shown: from where to where.
+// Which part of the line of byte `at` is shown: from where up to where.
 fn window(text: &[u8], at: usize) -> (usize, usize)
     requires { at ≤ length text.now }
     ensures { IsWindow text.now at result.0 result.1 }
@@ -24,7 +24,7 @@ fn window(text: &[u8], at: usize) -> (usize, usize)
     (line_start(text, at).max(at.saturating_sub(MOST_SHOWN)), end)
 }
 
-// What a terminal gets for a byte, which might else be taken for a command.
+// A byte as a terminal gets it; others might be taken for a command.
 fn shown(byte: u8) -> u8
     ensures { result ≡ shown byte }
 {
@@ -34,7 +34,7 @@ fn shown(byte: u8) -> u8
     }
 }
 
-// What takes as much room on a terminal.
+// What takes the same room on a terminal.
 fn blank_for(byte: u8) -> u8
     ensures { result ≡ blank_for byte }
 {
@@ -44,7 +44,7 @@ fn blank_for(byte: u8) -> u8
     }
 }
 
-/// Adds the bytes as a terminal may get them: one that isn't printable as `?`.
+/// Appends the bytes for a terminal: one that isn't printable as `?`.
 pub fn add_shown(lines: &mut Vec<u8>, bytes: &[u8]) -> Result<(), AllocError>
     ensures { OnOk result (lines.new.items ≡ lines.old.items ++ map shown bytes.now) }
 {
@@ -54,7 +54,7 @@ pub fn add_shown(lines: &mut Vec<u8>, bytes: &[u8]) -> Result<(), AllocError>
     Ok(())
 }
 
-// Adds as much room as the bytes take.
+// Appends blanks for the bytes.
 fn add_room(lines: &mut Vec<u8>, bytes: &[u8]) -> Result<(), AllocError>
     ensures { OnOk result (lines.new.items ≡ lines.old.items ++ map blank_for bytes.now) }
 {
@@ -64,7 +64,7 @@ fn add_room(lines: &mut Vec<u8>, bytes: &[u8]) -> Result<(), AllocError>
     Ok(())
 }
 
-// The line that names a place.
+// The line that names a position.
 fn place_line(alloc: Global, place: Position) -> Result<Vec<u8>, AllocError>
     ensures { IfOk result (λ line. line.items ≡ place_line place.line place.column) }
 {
@@ -72,7 +72,7 @@ fn place_line(alloc: Global, place: Position) -> Result<Vec<u8>, AllocError>
     Ok(line.into_bytes())
 }
 
-// Some lines, then the text from one byte to another, and below it room up to byte `at`.
+// Some lines, then the text from one byte to another, and below it blanks up to byte `at`.
 fn with_text_lines(
     lines: Vec<u8>,
     text: &[u8],
@@ -91,15 +91,15 @@ fn with_text_lines(
     Ok(lines)
 }
 
-// Whether byte `at` begins the words `version 2`, with which a text of version 2 begins, and the line goes on after them, so that the text
-// is of version 1.
+// Whether the words `version 2`, with which a text of version 2 begins, are at byte `at` and the line goes on after them, so that
+// the text is of version 1.
 fn is_at_version(text: &[u8], at: usize) -> bool
     ensures { result ≡ is_at_version text.now at }
 {
     at == 0 && text.starts_with(b"version 2") && !text.starts_with(b"version 2\n")
 }
 
-// Whether a `return` stands at `at`, and the word that would do before it closes its block.
+// Whether a `return` is at `at`, and the word that fits before it closes its block.
 fn is_misplaced_return(text: &[u8], at: usize, word: &str) -> bool
     requires { at ≤ length text.now }
     ensures { result ≡ is_misplaced_return text.now at word.now }
@@ -107,7 +107,7 @@ fn is_misplaced_return(text: &[u8], at: usize, word: &str) -> bool
     word == "}" && text[at..].starts_with(b"return")
 }
 
-// Whether the word that would do makes a function of a version's line at `at`.
+// Whether the word that fits makes a function of a version line at `at`.
 fn is_misplaced_version(text: &[u8], at: usize, word: &str) -> bool
     requires { at ≤ length text.now }
     ensures { result ≡ is_misplaced_version text.now at word.now }
@@ -115,7 +115,7 @@ fn is_misplaced_version(text: &[u8], at: usize, word: &str) -> bool
     word == "fn" && text[at..].starts_with(b"version ") && !text[at..].starts_with(b"version (")
 }
 
-// Whether the word says more than a mark does, and isn't meant by what stands at `at`: with it the script would be another one.
+// Whether the word is no mere punctuation, and not what was begun at `at`: with it the script would be another one.
 fn is_unfit(text: &[u8], at: usize, word: &str) -> bool
     requires { at ≤ length text.now }
     ensures { result ≡ is_unfit text.now at word.now }
@@ -124,7 +124,7 @@ fn is_unfit(text: &[u8], at: usize, word: &str) -> bool
         || (word == "fn" && !text[at..].starts_with(b"f"))
 }
 
-// What is said of the word that would do.
+// The advice to put this word there.
 fn word_advice(alloc: Global, text: &[u8], at: usize, word: &str) -> Result<Vec<u8>, AllocError>
     requires { at ≤ length text.now }
     ensures { IfOk result (λ advice. advice.items ≡ word_advice text.now at word.now) }
@@ -143,7 +143,7 @@ fn word_advice(alloc: Global, text: &[u8], at: usize, word: &str) -> Result<Vec<
     extended(advice, b" would do")
 }
 
-// What is said beside the message: what is wrong with the version's line, or else of the word that would do, where one alone would.
+// The advice next to the message: about the version line, or else about the word that fits, where only one does.
 fn advice(alloc: Global, text: &[u8], at: usize) -> Result<Vec<u8>, AllocError>
     requires { at ≤ length text.now }
     ensures { IfOk result (λ advice. IsAdvice text.now at advice.items) }
@@ -175,7 +175,7 @@ fn with_line(lines: Vec<u8>, line: &str) -> Result<Vec<u8>, AllocError>
     extended(lines, b"\n")
 }
 
-// The lines from the caret on: with what is said of a habit, or else of a word that would do.
+// The lines from the caret's on, with a remark about a habit, or else about a word that fits.
 fn end_lines(alloc: Global, text: &[u8], at: usize, message: &str) -> Result<Vec<u8>, AllocError>
     requires { at ≤ length text.now }
     ensures { IfOk result (λ end. IsEnd text.now at message.now end.items) }
@@ -192,14 +192,15 @@ fn end_lines(alloc: Global, text: &[u8], at: usize, message: &str) -> Result<Vec
     }
 }
 
-/// Three lines on a fault at byte `at` of a text: its line and column, that line, and a caret under the byte with the message and with the
-/// word that would do there, where one alone would (`follower`). Where that word would close the block of a `return`, or make a function of
-/// a version's line, it says in place of it where such a one stands, and at a line `version 2` that goes on after the 2 it says that alone.
+/// Three lines about a fault at byte `at` of a text: its line and column, that line, and a caret under the byte with the message
+/// and the word that fits there, where only one does (`follower`). Where that word would close the block of a `return`, or make a
+/// function of a version line, the message says instead where such a one belongs, and for a line `version 2` that goes on after the
+/// 2 only that.
 ///
-/// Where what stands there is a habit of another language (`reason`), a fourth line says how it is written here, and nothing of a word. The
-/// words `sync` and `fn` are said only where what stands there begins as they do, since with them the script would be another one.
+/// Where it is a habit of another language (`reason`), a fourth line says how it is written here, and no word is named. The words
+/// `sync` and `fn` are named only where what is there begins like them, since they make another script.
 ///
-/// Of a long line the 72 bytes before the byte are shown and 72 from it on. A byte that isn't printable is shown as `?`.
+/// Of a long line the 72 bytes before the byte and 72 from it on are shown. A byte that isn't printable is shown as `?`.
 pub fn excerpt(alloc: Global, text: &[u8], at: usize, message: &str) -> Result<Vec<u8>, AllocError>
     requires { at ≤ length text.now }
     ensures { IfOk result (λ lines. IsExcerpt text.now at message.now lines.items) }
@@ -210,4 +211,23 @@ pub fn excerpt(alloc: Global, text: &[u8], at: usize, message: &str) -> Result<V
     let lines = with_text_lines(lines, text, from, at, to)?;
     let end = end_lines(alloc, text, at, message)?;
     extended(lines, &end)
+}
+
+/// Three lines on byte `at` of a text, as those of `excerpt`: its line and column, that line, and a caret under the byte with the message. No
+/// advice follows.
+pub fn place_excerpt(
+    alloc: Global,
+    text: &[u8],
+    at: usize,
+    message: &str,
+) -> Result<Vec<u8>, AllocError>
+    requires { at ≤ length text.now }
+    ensures { IfOk result (λ lines. IsPlaceExcerpt text.now at message.now lines.items) }
+{
+    let place = position_of(text, at);
+    let (from, to) = window(text, at);
+    let lines = place_line(alloc, place)?;
+    let lines = with_text_lines(lines, text, from, at, to)?;
+    let caret = caret_line(alloc, message, b"")?;
+    extended(lines, &caret)
 }

@@ -1,16 +1,16 @@
-// Where a byte of a text stands.
+// Lines and columns.
 
 ghost use Rattle.std.specs.Prelude.{◌≡◌, ◌≤◌, length};
 ghost use Rattle.script_excerpt.specs.Places.{IsColumn, IsLineStart, line_of};
 
-/// Where a byte stands, as editors count: lines and columns from 1 on, a column for each byte.
+/// A position as editors count: lines and columns from 1 on, a column for each byte.
 #[derive(Clone, Copy, Debug, PartialEq, Eq)]
 pub struct Position {
     pub line: usize,
     pub column: usize,
 }
 
-/// Where the line begins that byte `at` of a text stands on.
+/// Where the line of byte `at` begins.
 pub fn line_start(text: &[u8], at: usize) -> usize
     requires { at ≤ length text.now }
     ensures { IsLineStart text.now at result }
@@ -22,7 +22,7 @@ pub fn line_start(text: &[u8], at: usize) -> usize
     start
 }
 
-// The number of the line that byte `at` of a text stands on.
+// The number of the line of byte `at`.
 fn line_number(text: &[u8], at: usize) -> usize
     requires { at ≤ length text.now }
     ensures { result ≡ line_of text.now at }
@@ -37,7 +37,7 @@ fn line_number(text: &[u8], at: usize) -> usize
     line
 }
 
-/// The place of byte `at` of a text, or of its end. A line ends with its line feed.
+/// The position of byte `at` of a text, or of its end. A line ends with its line feed.
 pub fn position_of(text: &[u8], at: usize) -> Position
     requires { at ≤ length text.now }
     ensures line { result.line ≡ line_of text.now at }

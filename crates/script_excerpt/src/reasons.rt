@@ -1,6 +1,6 @@
-// How it is written here: tables of what stands around a place at which a text stops, where that is a habit of other languages.
+// Tables of habits of other languages, by what surrounds the offset at which a text stops, with how it is written here.
 
-// At an unexpected token: the word before it, the word that begins there, and what is said. An empty word stands anywhere.
+// At an unexpected token: the word before it, the word that begins there, and the remark. An empty word fits anything.
 pub(crate) static TOKENS: [(&str, &str, &str); 93] = [
     (
         "/",
@@ -277,7 +277,7 @@ pub(crate) static TOKENS: [(&str, &str, &str); 93] = [
     ),
 ];
 
-// The same where a name stands between the two words.
+// The same where a name is between the two words.
 pub(crate) static TOKENS_AFTER_NAMES: [(&str, &str, &str); 6] = [
     ("if", "=", "equality is =="),
     ("while", "=", "equality is =="),
@@ -299,7 +299,7 @@ pub(crate) static TOKENS_AFTER_NAMES: [(&str, &str, &str); 6] = [
     ("let", ";", "a variable begins with a value: let x = 0;"),
 ];
 
-// At other faults: the message, the word that begins there, and what is said.
+// At other faults: the message, the word that begins there, and the remark.
 pub(crate) static OTHERS: [(&str, &str, &str); 16] = [
     ("unknown variable", "true", "true is 1, and false is 0"),
     ("unknown variable", "True", "true is 1, and false is 0"),

@@ -33,28 +33,28 @@ fn ends_in_name(bytes: &[u8]) -> bool
     begins_in_name(&bytes[bytes.len().saturating_sub(1)..])
 }
 
-// Whether no name goes on from the first bytes into the others.
+// Whether no name reaches from the first bytes into the others.
 fn is_split(front: &[u8], rest: &[u8]) -> bool
     ensures { result ≡ is_split front.now rest.now }
 {
     !(ends_in_name(front) && begins_in_name(rest))
 }
 
-// Whether the bytes end by this word.
+// Whether the bytes end with this word.
 fn ends_by(front: &[u8], word: &[u8]) -> bool
     ensures { result ≡ ends_by front.now word.now }
 {
     front.ends_with(word) && is_split(&front[..front.len() - word.len()], word)
 }
 
-// Whether the bytes begin by this word.
+// Whether the bytes begin with this word.
 fn begins_by(rest: &[u8], word: &[u8]) -> bool
     ensures { result ≡ begins_by rest.now word.now }
 {
     rest.starts_with(word) && is_split(word, &rest[word.len()..])
 }
 
-// How many the bytes are without the blanks at their end.
+// The length of the bytes without the blanks at their end.
 fn trimmed(bytes: &[u8]) -> usize
     ensures { IsTrimmed bytes.now result }
 {
@@ -76,7 +76,7 @@ fn name_start(bytes: &[u8]) -> usize
     start
 }
 
-// What stands before a byte, without the blanks at its end.
+// What is before a byte, without the blanks at its end.
 fn front(text: &[u8], at: usize) -> &[u8]
     requires { at ≤ length text.now }
     ensures { IsFront text.now at result.now }
@@ -85,7 +85,7 @@ fn front(text: &[u8], at: usize) -> &[u8]
     &before[..trimmed(before)]
 }
 
-// What stands before the name at the end of the bytes, if one stands there.
+// What is before the name at the end of the bytes, if there is one.
 fn without_name(bytes: &[u8]) -> Option<&[u8]>
     ensures { IfSome result (λ rest. IsWithoutName bytes.now rest.now) }
 {
@@ -96,7 +96,7 @@ fn without_name(bytes: &[u8]) -> Option<&[u8]>
     Some(&before[..trimmed(before)])
 }
 
-// What the first row says whose words stand before and after a place.
+// The remark of the first row that fits what is before and behind an offset.
 fn said(
     rows: &[(&'static str, &'static str, &'static str)],
     front: &[u8],
@@ -110,7 +110,7 @@ fn said(
     None
 }
 
-// The bytes from the first one on that is no blank.
+// The bytes without the blanks that they begin with.
 fn without_blanks(bytes: &[u8]) -> &[u8] {
     let mut from = 0;
     while from < bytes.len() && is_blank(bytes[from]) {
@@ -119,7 +119,7 @@ fn without_blanks(bytes: &[u8]) -> &[u8] {
     &bytes[from..]
 }
 
-// The statement that the bytes end by, which has no block.
+// The statement that the bytes end with, which has no block.
 fn statement(front: &[u8]) -> Option<&[u8]> {
     let (&last, before) = front.split_last()?;
     if last != b';' {
@@ -132,7 +132,7 @@ fn statement(front: &[u8]) -> Option<&[u8]> {
     Some(without_blanks(&before[from..]))
 }
 
-// Whether a name goes on from a number.
+// Whether a name follows a number without a gap.
 fn goes_on(text: &[u8], at: usize) -> bool
     requires { at ≤ length text.now }
 {
@@ -142,7 +142,7 @@ fn goes_on(text: &[u8], at: usize) -> bool
     }
 }
 
-// What is said at an unexpected token.
+// The remark at an unexpected token.
 fn token_reason(text: &[u8], at: usize) -> Option<&'static str>
     requires { at ≤ length text.now }
 {
@@ -162,8 +162,8 @@ fn token_reason(text: &[u8], at: usize) -> Option<&'static str>
     }
 }
 
-/// How what stands at byte `at` of a text is written here, where it is a habit of another language for which the text stops there with this
-/// message, and one of those that are known here.
+/// How it is written here what is at byte `at` of a text, where a known habit of another language made the parser stop there with
+/// this message.
 pub fn reason(text: &[u8], at: usize, message: &str) -> Option<&'static str>
     requires { at ≤ length text.now }
 {

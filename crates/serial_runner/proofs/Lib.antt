@@ -1,6 +1,8 @@
 pub mod Advancing
 pub mod Answered
 pub mod Below
+pub mod FaultEnds
+pub mod FaultWalking
 pub mod Handed
 pub mod Measure
 pub mod ObservedStops

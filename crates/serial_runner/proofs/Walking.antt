@@ -41,7 +41,7 @@ use Rattle.serial_runner.proofs.Advancing.{none-heard, went_whole}
 use Rattle.serial_runner.proofs.Handed.{HandsStop, handed, stops_hand}
 
 -- Each child that a task awaits is an origin of its plan.
-parts-known : (plan : PlanView) (o : Origin) (ps : List AwaitedChild) → AreSoundChildren plan o ps → AreOriginsOf plan (awaited ps)
+pub parts-known : (plan : PlanView) (o : Origin) (ps : List AwaitedChild) → AreSoundChildren plan o ps → AreOriginsOf plan (awaited ps)
 parts-known plan o [] h c there = absurd (omega (arith, there.1))
 parts-known plan o (p ∷ ps) h c there = from (cons-contained p.child c (awaited ps) there) (parts-known plan o ps h.1 c)
   where

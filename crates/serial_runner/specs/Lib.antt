@@ -1,4 +1,5 @@
 pub mod Beside
+pub mod FaultWalks
 pub mod Nodes
 pub mod Observed
 pub mod Stacks

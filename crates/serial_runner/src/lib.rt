@@ -1,11 +1,13 @@
 //! One worker by itself.
 //!
 //! It runs tasks of `strand_machine` on the calling thread, each child to its end before the rest of its parent: `run_serial` answers any
-//! origin of a plan. By the same runs `walk_node` says what one instance shows on the way down to a strand.
+//! origin of a plan. By the same runs `walk_node` says what one instance shows on the way down to a strand, and
+//! `meet_fault` where an instance stood that ended by a fault of its own.
 #![tactic(auto)]
 
 mod advance;
 mod beside;
+mod fault_walk;
 mod node;
 mod observed;
 mod open_tasks;
@@ -13,6 +15,7 @@ mod serial;
 mod stack;
 mod walk;
 
+pub use fault_walk::meet_fault;
 pub use node::{Node, walk_node};
 pub use serial::{run_serial, run_serial_keeping};
-pub use strand_machine::Memory;
+pub use strand_machine::{Memory, PlacedFault};

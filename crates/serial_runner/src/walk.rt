@@ -41,7 +41,11 @@ pub(crate) enum Walked {
 }
 
 /// The answers of these origins of the plan, in order.
-fn answers_of(alloc: Global, plan: &Arc<Plan>, origins: &[Origin]) -> Result<Items<Answer>, Memory>
+pub(crate) fn answers_of(
+    alloc: Global,
+    plan: &Arc<Plan>,
+    origins: &[Origin],
+) -> Result<Items<Answer>, Memory>
     requires { AreOriginsOf (arc_value plan.now) origins.now }
     ensures tags { IfOk result (λ answers. answer_tags answers ≡ tags (arc_value plan.now) origins.now) }
     ensures whole { IfOk result (λ answers. any_cut answers ≡ false) }
