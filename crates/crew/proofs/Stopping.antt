@@ -1,7 +1,7 @@
 -- Where a task stops at a wait, it stands in it; what it gives at its end is its give's; and a fault by which it ends is one of its plan's.
-use Rattle.std.proofs.Common.{◌≡◌, inl, ℕ, zero, suc, ◌-◌, true, false, List, [], ◌∷◌, Option, Some, None, Result, Ok, Err, IfOk, refl, sym, ap, ◌∙◌, subst}
+use Rattle.std.proofs.Common.{◌≡◌, inl, inr, ℕ, zero, suc, ◌-◌, true, false, List, [], ◌∷◌, ◌++◌, Option, Some, None, Result, Ok, Err, IfOk, OnErr, refl, sym, ap, ◌∙◌, subst}
 use Rattle.loop_range.specs.Range.{Range}
-use Rattle.serial_meaning.specs.Answer.{AnswerView, AnswerTag}
+use Rattle.serial_meaning.specs.Answer.{AnswerView, AnswerTag, IsCut}
 use Rattle.serial_meaning.specs.Eval.{path_of}
 use Rattle.serial_meaning.specs.Open.{Own, ChildFaulted}
 use Rattle.serial_meaning.specs.Plan.{PlanView}
@@ -25,7 +25,7 @@ use Rattle.strand_machine.specs.declared.stop.Paused.TheVariants as paused
 use Rattle.strand_machine.specs.declared.stop.Stop.TheVariants as stop
 use Rattle.strand_machine.specs.declared.stop.Resumed.TheVariants as resumed
 use Rattle.strand_machine.proofs.NextStops.Pausing.{ends-so}
-use Rattle.crew.specs.Hands.{HandView, HasPut, TurnAnswers, AdvancesCurrent}
+use Rattle.crew.specs.Hands.{HandView, EndsBy, EndsTask, HasPut, MayBeCutBy, PutsItsEnd, TurnAnswers, AdvancesCurrent, cut_answer}
 use Rattle.crew.specs.declared.hand.Turn.{Turn}
 use Rattle.crew.specs.declared.hand.Turn.TheVariants.{Ran, Answered, Ended as EndedRoot, Popped, Resumed, Waiting, Stole, Idle}
 
@@ -143,35 +143,74 @@ ends_by_its_plans t answer give at = let g = gives t answer give at in subst (λ
 
 -- What was put
 
-pub has_put : {K : Type 0} (t : TaskView) (answer : AnswerView) (give : AnswerTag) (turn : Turn K) → Advances {K = K} t (stop.Done answer give) → TurnAnswers give turn → HasPut t turn
-has_put t answer give turn at put = ((answer, give, at), subst (λ (g : AnswerTag). TurnAnswers g turn) (gives t answer give at).given put)
+pub answers_own : {K : Type 0} (t : TaskView) (answer : AnswerView) (give : AnswerTag) (turn : Turn K) → Advances {K = K} t (stop.Done answer give) → TurnAnswers give turn →
+    TurnAnswers (tag t.task.plan t.task.origin) turn
+answers_own t answer give turn at put = subst (λ (g : AnswerTag). TurnAnswers g turn) (gives t answer give at).given put
+
+pub has_put : {K : Type 0} (t : TaskView) (answer : AnswerView) (give : AnswerTag) (before after : List AnswerView) → Advances {K = K} t (stop.Done answer give) → after ≡ before ++ answer ∷ [] →
+    HasPut K t before after
+has_put t answer give before after at put = record { answer = answer; by = (give, at); put = put }
 
 -- what is left of a task that has ended answers for it
-put-for : {K : Type 0} (t rest : TaskView) (turn : Turn K) → t.cut ≡ None → Pauses {K = K} t (paused.Ended rest) → HasPut rest turn → HasPut t turn
-put-for t rest turn goes h put =
-    let a = put.0 in (
-      (a.0, a.1, ends-so t (paused.Ended rest) h rest (stop.Done a.0 a.1) goes refl a.2),
-      subst (λ (o : Origin). TurnAnswers (tag t.task.plan o) turn) h.stop.keeps.1 (subst (λ (p : PlanView). TurnAnswers (tag p rest.task.origin) turn) h.stop.keeps.0 put.1),
-    )
+ends-for : (K : Type 0) (t rest : TaskView) (answer : AnswerView) → t.cut ≡ None → Pauses {K = K} t (paused.Ended rest) → EndsBy K rest answer → EndsBy K t answer
+ends-for K t rest answer goes h (give, at) = (give, ends-so t (paused.Ended rest) h rest (stop.Done answer give) goes refl at)
 
-module _ (t : TaskView) (old new : HandView) (none : old.current ≡ None) (same : new ≡ old) where
-  still : new ≡ record old { current = None }
-  still = same ∙ ap (λ (o : Option TaskView). record old { current = o }) none
+pub put-for : (K : Type 0) (t rest : TaskView) (before after : List AnswerView) → t.cut ≡ None → Pauses {K = K} t (paused.Ended rest) → HasPut K rest before after → HasPut K t before after
+put-for K t rest before after goes h p = record { answer = p.answer; by = ends-for K t rest p.answer goes h p.by; put = p.put }
 
-  advances-by : {K : Type 0} (turn : Turn K) → HasPut t turn → AdvancesCurrent t old turn new
-  advances-by Ran put = absurd put.1
-  advances-by (Answered arrived) put = (inl put.0, put.1, still)
-  advances-by (EndedRoot arrived) put = (inl put.0, put.1, still)
-  advances-by Popped put = absurd put.1
-  advances-by Resumed put = absurd put.1
-  advances-by Waiting put = absurd put.1
-  advances-by Stole put = absurd put.1
-  advances-by Idle put = absurd put.1
+pub put_on_err : {K E : Type 0} (r : Result (Turn K) E) (t : TaskView) (before after : List AnswerView) → HasPut K t before after → OnErr r (PutsItsEnd K t before after)
+put_on_err (Ok turn) t before after p = tt
+put_on_err (Err e) t before after p = inl p
 
-  pub put_advances : {K E : Type 0} (r : Result (Turn K) E) → IfOk r (HasPut t) → IfOk r (λ turn. AdvancesCurrent t old turn new)
-  put_advances (Ok turn) put = advances-by turn put
-  put_advances (Err e) put = tt
+pub puts_none : (K : Type 0) (t : TaskView) (before after : List AnswerView) → t.cut ≡ None → after ≡ before → PutsItsEnd K t before after
+puts_none K t before after goes same = inr (goes, same)
 
-  pub end_advances : {K E : Type 0} (rest : TaskView) (r : Result (Turn K) E) → t.cut ≡ None → Pauses {K = K} t (paused.Ended rest) → IfOk r (HasPut rest) → IfOk r (λ turn. AdvancesCurrent t old turn new)
-  end_advances rest (Ok turn) goes h put = advances-by turn (put-for t rest turn goes h put)
-  end_advances rest (Err e) goes h put = tt
+tag-for : {K : Type 0} (t rest : TaskView) → Pauses {K = K} t (paused.Ended rest) → tag rest.task.plan rest.task.origin ≡ tag t.task.plan t.task.origin
+tag-for t rest h = ap (λ (p : PlanView). tag p rest.task.origin) h.stop.keeps.0 ∙ ap (tag t.task.plan) h.stop.keeps.1
+
+module _ (t : TaskView) (old new : HandView) (none : old.current ≡ None) (same : new ≡ record old { answered = new.answered }) where
+  with-put : (answer : AnswerView) → new.answered ≡ old.answered ++ answer ∷ [] → new ≡ record old { current = None; answered = old.answered ++ answer ∷ [] }
+  with-put answer put =
+      same
+      ∙ ap (λ (l : List AnswerView). record old { answered = l }) put
+      ∙ ap (λ (o : Option TaskView). record old { current = o; answered = old.answered ++ answer ∷ [] }) none
+
+  ends-by : {K : Type 0} (turn : Turn K) → TurnAnswers (tag t.task.plan t.task.origin) turn → HasPut K t old.answered new.answered → EndsTask t old turn new
+  ends-by turn answers p = (p.answer, inl p.by, answers, with-put p.answer p.put)
+
+  advances-by : {K : Type 0} (turn : Turn K) → TurnAnswers (tag t.task.plan t.task.origin) turn → HasPut K t old.answered new.answered → AdvancesCurrent t old turn new
+  advances-by Ran answers put = absurd answers
+  advances-by (Answered arrived) answers put = ends-by (Answered arrived) answers put
+  advances-by (EndedRoot arrived) answers put = ends-by (EndedRoot arrived) answers put
+  advances-by Popped answers put = absurd answers
+  advances-by Resumed answers put = absurd answers
+  advances-by Waiting answers put = absurd answers
+  advances-by Stole answers put = absurd answers
+  advances-by Idle answers put = absurd answers
+
+  pub put_advances : {K E : Type 0} (r : Result (Turn K) E) → IfOk r (TurnAnswers (tag t.task.plan t.task.origin)) → HasPut K t old.answered new.answered →
+      IfOk r (λ turn. AdvancesCurrent t old turn new)
+  put_advances (Ok turn) answers put = advances-by turn answers put
+  put_advances (Err e) answers put = tt
+
+  pub end_advances : {K E : Type 0} (rest : TaskView) (r : Result (Turn K) E) → t.cut ≡ None → Pauses {K = K} t (paused.Ended rest) → IfOk r (TurnAnswers (tag rest.task.plan rest.task.origin)) →
+      HasPut K rest old.answered new.answered → IfOk r (λ turn. AdvancesCurrent t old turn new)
+  end_advances {K} rest (Ok turn) goes h answers put =
+      advances-by turn (subst (λ (g : AnswerTag). TurnAnswers g turn) (tag-for {K = K} t rest h) answers) (put-for K t rest old.answered new.answered goes h put)
+  end_advances rest (Err e) goes h answers put = tt
+
+  -- or its answer was a cut
+  cut-by : {K : Type 0} (turn : Turn K) (by : Fault) → MayBeCutBy t by → TurnAnswers (tag t.task.plan t.task.origin) turn → new.answered ≡ old.answered ++ cut_answer t by ∷ [] →
+      EndsTask t old turn new
+  cut-by turn by may answers put = (cut_answer t by, inr (by, may, refl), answers, with-put (cut_answer t by) put)
+
+  pub cut_advances : {K : Type 0} (turn : Turn K) (by : Fault) → t.task.advanced ≡ false → IsCut t.task.plan t.task.origin by → TurnAnswers (tag t.task.plan t.task.origin) turn →
+      new.answered ≡ old.answered ++ cut_answer t by ∷ [] → AdvancesCurrent t old turn new
+  cut_advances Ran by fresh stands answers put = absurd answers
+  cut_advances (Answered arrived) by fresh stands answers put = cut-by (Answered arrived) by (fresh, stands) answers put
+  cut_advances (EndedRoot arrived) by fresh stands answers put = cut-by (EndedRoot arrived) by (fresh, stands) answers put
+  cut_advances Popped by fresh stands answers put = absurd answers
+  cut_advances Resumed by fresh stands answers put = absurd answers
+  cut_advances Waiting by fresh stands answers put = absurd answers
+  cut_advances Stole by fresh stands answers put = absurd answers
+  cut_advances Idle by fresh stands answers put = absurd answers

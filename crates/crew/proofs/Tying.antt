@@ -107,8 +107,9 @@ module _ (t : TaskView) (old new : HandView) (now : old.current ≡ Some t) wher
     ),
   )
 
-  ran-to-end : {K : Type 0} (answer : AnswerView) (give : AnswerTag) → IsStop {K = K} t (stop.Done answer give) → new ≡ record old { current = None } → RunsTo IsEnd old new
-  ran-to-end answer give at h = (
+  ran-to-end : {K : Type 0} (answer : AnswerView) (give : AnswerTag) (put : List AnswerView) → IsStop {K = K} t (stop.Done answer give) → new ≡ record old { current = None; answered = put } →
+      RunsTo IsEnd old new
+  ran-to-end answer give put at h = (
     t.task,
     End answer.out answer.outcome,
     tt,
@@ -125,6 +126,9 @@ module _ (t : TaskView) (old new : HandView) (now : old.current ≡ Some t) wher
     ),
   )
 
+  by-cut : (put : List AnswerView) → new ≡ record old { current = None; answered = put } → new ≡ record old { current = None; answered = new.answered }
+  by-cut put h = h ∙ ap (λ (l : List AnswerView). record old { current = None; answered = l }) (sym (ap (λ (x : HandView). x.answered) h))
+
   -- Only its end comes of a task that took a cut.
   ran : {K : Type 0} (c : Option Outcome) (s : Stops K) → advances c t s → RunsOnward s old new → RunsTo IsNoEnd old new
   ran None (stop.Spawn child rest) at h = ran-to-spawn child rest at h
@@ -134,24 +138,25 @@ module _ (t : TaskView) (old new : HandView) (now : old.current ≡ Some t) wher
   ran (Some ended) (stop.Wait rest) at h = absurd (let e = at.is in (cc))
   ran (Some ended) (stop.Done answer give) at h = absurd h
 
-  ended : (K : Type 0) (c : Option Outcome) → t.cut ≡ c → (answer : AnswerView) (give : AnswerTag) → advances {K = K} c t (stop.Done answer give) → new ≡ record old { current = None } →
-      RunsTo IsEnd old new ⊎ EndsByCut old new
-  ended K None e answer give at h = inl (ran-to-end answer give at h)
-  ended K (Some o) e answer give at h = inr (t, now, inr (o, e), h)
+  ended : (K : Type 0) (c : Option Outcome) → t.cut ≡ c → (answer : AnswerView) (give : AnswerTag) (put : List AnswerView) → advances {K = K} c t (stop.Done answer give) →
+      new ≡ record old { current = None; answered = put } → RunsTo IsEnd old new ⊎ EndsByCut old new
+  ended K None e answer give put at h = inl (ran-to-end answer give put at h)
+  ended K (Some o) e answer give put at h = inr (t, now, inr (o, e), by-cut put h)
 
   put : {K : Type 0} (turn : Turn K) → EndsTask t old turn new → RunsTo IsEnd old new ⊎ EndsByCut old new
-  put {K} turn (inl (answer, give, at), arrived, h) = ended K t.cut refl answer give (advances-at {K = K} t (stop.Done answer give) at t.cut refl) h
-  put {K} turn (inr cut, arrived, h) = inr (t, now, inl cut, h)
+  put {K} turn (answer, inl (give, at), arrived, h) =
+      ended K t.cut refl answer give (old.answered ++ answer ∷ []) (advances-at {K = K} t (stop.Done answer give) at t.cut refl) h
+  put {K} turn (answer, inr (by, may, is), arrived, h) = inr (t, now, inl (by, may), by-cut (old.answered ++ answer ∷ []) h)
 
   advanced : {K : Type 0} (turn : Turn K) → AdvancesCurrent t old turn new → IsTied old turn new
   advanced Ran (s, at, h) = ran t.cut s (advances-at t s at t.cut refl) h
   advanced (Answered a) h = put (Answered a) h
   advanced (Ended a) h = put (Ended a) h
-  advanced Popped h = absurd h.1
-  advanced Resumed h = absurd h.1
-  advanced Waiting h = absurd h.1
-  advanced Stole h = absurd h.1
-  advanced Idle h = absurd h.1
+  advanced Popped h = absurd h.2
+  advanced Resumed h = absurd h.2
+  advanced Waiting h = absurd h.2
+  advanced Stole h = absurd h.2
+  advanced Idle h = absurd h.2
 
 -- Turns without a current task
 

@@ -24,7 +24,7 @@ root_task plan = fresh plan (main_origin plan)
 
 -- a hand that has nothing, and no thieves
 abbrev pub new_hand : DeckId → HandView
-new_hand deck = record { current = None; overflow = []; deck = new_owner deck; stalled = []; thieves = [] }
+new_hand deck = record { current = None; overflow = []; deck = new_owner deck; stalled = []; thieves = []; answered = [] }
 
 -- so many of them
 abbrev pub AreNew : ℕ → List HandView → Type 0
@@ -46,6 +46,7 @@ idle_hand deck others = record {
   deck = record (new_owner deck) { made = length others };
   stalled = [];
   thieves = map new_thief others;
+  answered = [];
 }
 
 -- The hands with these decks, which stand after those with the decks `before`. Each has its thieves from the next hand upwards and round.

@@ -4,6 +4,7 @@ use Rattle.serial_meaning.specs.Answer.{AnswerView, AnswerTag, IsCut}
 use Rattle.serial_meaning.specs.Eval.{main_origin}
 use Rattle.serial_meaning.specs.declared.event.Fault.{Fault}
 use Rattle.serial_meaning.specs.declared.keep.All.{All}
+use Rattle.serial_meaning.specs.declared.answer.Outcome.TheVariants as outcome
 use Rattle.steal_deck.specs.Ends.{OwnerEnd, ThiefEnd, risen, Pushes, Pops, FindsNone, Steals}
 use Rattle.strand_machine.specs.Family.{tag}
 use Rattle.strand_machine.specs.Stops.{IsResumed, Advances as AdvancesTo}
@@ -19,17 +20,18 @@ use Rattle.crew.specs.declared.hand.Looked.TheVariants as looked
 use Rattle.crew.specs.declared.hand.Turn.{Turn}
 use Rattle.crew.specs.declared.hand.Turn.TheVariants.{Ran, Answered, Ended, Popped, Resumed as ResumedOne, Waiting, Stole, Idle}
 
--- A hand's tasks: the current one; its deck, by the owner's end, with the private list after it; those that are stalled, since they wait; and its ends of
--- the other hands' decks.
+-- A hand's tasks: the current one; its deck, by the owner's end, with the private list after it; those that are stalled, since they wait; its ends of
+-- the other hands' decks; and the answers that it has put.
 pub record HandView : Type 0 where
   pub current : Option TaskView
   pub overflow : List TaskView
   pub deck : OwnerEnd TaskView
   pub stalled : List TaskView
   pub thieves : List (ThiefEnd TaskView)
+  pub answered : List AnswerView
 
 abbrev pub view_of : {K : Type 0} → Held K → HandView
-view_of h = record { current = h.current; overflow = h.overflow.items; deck = h.deck; stalled = h.stalled.items; thieves = h.thieves.items }
+view_of h = record { current = h.current; overflow = h.overflow; deck = h.deck; stalled = h.stalled.items; thieves = h.thieves.items; answered = h.answered }
 
 -- The steps of a turn
 
@@ -64,25 +66,48 @@ TurnAnswers asked (Answered arrived) = (arrived ≡ asked) × (IsRoots asked →
 TurnAnswers asked (Ended arrived) = (arrived ≡ asked) × IsRoots asked
 TurnAnswers asked _ = ⊥
 
--- The task came to its end.
-abbrev pub ComesToEnd : (K : Type 0) → TaskView → Type 0
-ComesToEnd K t = (answer : AnswerView) × (give : AnswerTag) × AdvancesTo {K = K} t (stop.Done answer give)
+-- The task comes to its end, and this is its answer: a cut only where it took one.
+abbrev pub EndsBy : (K : Type 0) → TaskView → AnswerView → Type 0
+EndsBy K t answer = (give : AnswerTag) × AdvancesTo {K = K} t (stop.Done answer give)
 
--- It did, and its answer was put.
-abbrev pub HasPut : {K : Type 0} → TaskView → Turn K → Type 0
-HasPut {K} t turn = ComesToEnd K t × TurnAnswers (tag t.task.plan t.task.origin) turn
+-- It does, and its answer was put.
+pub record HasPut (K : Type 0) (t : TaskView) (before after : List AnswerView) : Type 0 where
+  pub answer : AnswerView
+  pub by : EndsBy K t answer
+  pub put : after ≡ before ++ answer ∷ []
 
--- The task is cut, and nothing of it was done: a fault of its plan stands before all that its origin answers for.
+-- The task is cut by this fault, and nothing of it was done: a fault of its plan that stands before all that its origin answers for.
+abbrev pub MayBeCutBy : TaskView → Fault → Type 0
+MayBeCutBy t by = (t.task.advanced ≡ false) × IsCut t.task.plan t.task.origin by
+
 abbrev pub MayBeCut : TaskView → Type 0
-MayBeCut t = (by : Fault) × (t.task.advanced ≡ false) × IsCut t.task.plan t.task.origin by
+MayBeCut t = (by : Fault) × MayBeCutBy t by
 
+-- what a task answers that is cut
+abbrev pub cut_answer : TaskView → Fault → AnswerView
+cut_answer t by = record { plan = t.task.plan; origin = t.task.origin; out = []; outcome = outcome.Cut by }
+
+abbrev pub IsCutTo : TaskView → AnswerView → Type 0
+IsCutTo t answer = (by : Fault) × MayBeCutBy t by × (answer ≡ cut_answer t by)
+
+-- The task came to its end or was cut. Its answer was put, and no other.
 abbrev pub EndsTask : {K : Type 0} → TaskView → HandView → Turn K → HandView → Type 0
-EndsTask {K} t old turn new = (ComesToEnd K t ⊎ MayBeCut t) × TurnAnswers (tag t.task.plan t.task.origin) turn × (new ≡ record old { current = None })
+EndsTask {K} t old turn new =
+    (answer : AnswerView) × (EndsBy K t answer ⊎ IsCutTo t answer) × TurnAnswers (tag t.task.plan t.task.origin) turn
+    × (new ≡ record old { current = None; answered = old.answered ++ answer ∷ [] })
 
 -- What a turn does with the current task. One that took a cut for an answer comes to no other stop than its end.
 abbrev pub AdvancesCurrent : {K : Type 0} → TaskView → HandView → Turn K → HandView → Type 0
 AdvancesCurrent {K} t old Ran new = (stop : Stop K) × AdvancesTo t stop × RunsOnward stop old new
 AdvancesCurrent {K} t old turn new = EndsTask t old turn new
+
+-- What holds also where there was no memory: a task that had ended or took a cut was answered; any other was, by its own end, or no answer was put.
+abbrev pub PutsItsEnd : (K : Type 0) → TaskView → List AnswerView → List AnswerView → Type 0
+PutsItsEnd K t before after = HasPut K t before after ⊎ ((t.cut ≡ None) × (after ≡ before))
+
+abbrev pub PutsEndOf : (K : Type 0) → Option TaskView → List AnswerView → List AnswerView → Type 0
+PutsEndOf K None before after = after ≡ before
+PutsEndOf K (Some t) before after = PutsItsEnd K t before after
 
 -- The task is the last of the private list, or else the newest of the deck.
 abbrev pub IsNewest : TaskView → List TaskView → OwnerEnd TaskView → List TaskView → OwnerEnd TaskView → Type 0

@@ -46,10 +46,11 @@ RunsTo Kind old new =
     (t : Task) × (stop : Stop) × Kind stop
     × ((left : List TaskView) → (after : List TaskView) × OwnerLeaves old.deck left new.deck after × WorkerRuns t stop (worker_of left old) (worker_of after new))
 
--- The current task was cut, or had taken a cut for an answer. It is gone, and all else stays. The machine has no such event.
+-- The current task was cut, or had taken a cut for an answer. It was answered and is gone, and all else stays. The machine has no such event.
 abbrev pub EndsByCut : HandView → HandView → Type 0
 EndsByCut old new =
-    (t : TaskView) × (old.current ≡ Some t) × (MayBeCut t ⊎ ((ended : Outcome) × (t.cut ≡ Some ended))) × (new ≡ record old { current = None })
+    (t : TaskView) × (old.current ≡ Some t) × (MayBeCut t ⊎ ((ended : Outcome) × (t.cut ≡ Some ended)))
+    × (new ≡ record old { current = None; answered = new.answered })
 
 -- The last of the hand's own tasks becomes the current one, whatever is left after it in the deque.
 abbrev pub TakesLast : HandView → HandView → Type 0

@@ -1,7 +1,9 @@
+use crate::answered::Answered;
 use crate::faults::Faults;
 use crate::gate::Gate;
 use crate::held::Held;
 use crate::memory::Memory;
+use crate::overflow::Overflow;
 use crate::steps;
 use crossbeam_utils::CachePadded;
 use meet_block::Arrived;
@@ -77,7 +79,7 @@ impl<K: Keep> Hand<K> {
     ghost use Rattle.std.specs.Prelude.{◌≡◌, [], IfOk, OnOk, OnErr, Some, None, length};
     ghost use Rattle.steal_deck.specs.Ends.{new_thief};
     ghost use Rattle.crew.specs.Crews.{new_hand, with_thief, IsDealt};
-    ghost use Rattle.crew.specs.Hands.{IsTurn, LooksNewest, IsLate};
+    ghost use Rattle.crew.specs.Hands.{IsTurn, LooksNewest, IsLate, PutsEndOf};
     ghost use Rattle.crew.specs.Ties.{IsTied, IsTiedLook};
 
     /// A hand without a task. It has no thieves yet.
@@ -91,12 +93,13 @@ impl<K: Keep> Hand<K> {
         Ok(Hand {
             held: CachePadded::new(Held {
                 current: None,
-                overflow: Vec::new(alloc),
+                overflow: Overflow::none(alloc),
                 deck,
                 stalled: VecDeque::new(alloc),
                 thieves: Vec::new(alloc),
                 answers: None,
                 faults,
+                answered: Answered::none(),
             }),
         })
     }
@@ -167,6 +170,7 @@ impl<K: Keep> Hand<K> {
         ensures tied { IfOk result (λ turn. IsTied self.old turn self.new) }
         ensures late { IsLate self.new.overflow self.new.deck }
         ensures err { OnErr result (self.new.current ≡ None) }
+        ensures put { OnErr result (PutsEndOf K self.old.current self.old.answered self.new.answered) }
     {
         let held: &mut Held<K> = &mut self.held;
         steps::turn(held, alloc, gate)
@@ -182,6 +186,7 @@ impl<K: Keep> Hand<K> {
         ensures ok { IfOk result (λ looked. LooksNewest self.old looked self.new) }
         ensures tied { IfOk result (λ looked. IsTiedLook self.old looked self.new) }
         ensures err { OnErr result (self.new.current ≡ None) }
+        ensures answered { self.new.answered ≡ self.old.answered }
     {
         let held: &mut Held<K> = &mut self.held;
         steps::look_newest(held, alloc)

@@ -1,4 +1,6 @@
+use crate::answered::Answered;
 use crate::faults::Faults;
+use crate::overflow::Overflow;
 use crate::stalled::Stalled;
 use script_grammar::Items;
 use serial_meaning::{Answer, Keep};
@@ -11,7 +13,7 @@ use strand_machine::Task;
 pub(crate) struct Held<K: Keep> {
     pub current: Option<Task<K>>,
     /// What the deck refused, and what came after it. It is the back part of the deck.
-    pub overflow: Vec<Task<K>>,
+    pub overflow: Overflow<K>,
     pub deck: Deck<Task<K>>,
     pub stalled: VecDeque<Stalled<K>>,
     /// Those of the other hands' decks, from the next number upwards and round.
@@ -20,4 +22,5 @@ pub(crate) struct Held<K: Keep> {
     pub answers: Option<Items<Answer<K>>>,
     /// What it knows of the faults that the hands of its crew met.
     pub faults: Faults,
+    pub answered: Answered<K>,
 }

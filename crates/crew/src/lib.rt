@@ -6,14 +6,20 @@
 //! run main under many plans at once (`Crew::many`, `run_roots`).
 #![tactic(auto)]
 
+mod answered;
 mod any_hand;
+mod event_count;
 mod faults;
 mod gate;
 mod hand;
 mod heap;
 mod held;
 mod hiring;
+mod known_faults;
 mod memory;
+mod naps;
+mod overflow;
+mod parents;
 mod root;
 mod run;
 mod signals;

@@ -15,8 +15,10 @@ use crate::hand::{Hand, Hands, Looked, Turn};
 use crate::heap::Heap;
 use crate::hiring::Crew;
 use crate::memory::Memory;
+use crate::naps::Naps;
+use crate::parents::Parents;
 use crate::root::{Root, Roots};
-use crate::signals::{Naps, Signals};
+use crate::signals::Signals;
 use crate::threads::at_each;
 use crossbeam_utils::Backoff;
 use meet_block::Look;
@@ -45,14 +47,30 @@ fn keep_turning<R: Wait, K: Keep>(
     rt: &R,
     alloc: Global,
     naps: &mut Naps,
+    parents: &mut Parents,
     signals: &Signals,
     hand: &mut Hand<K>,
     cuts: bool,
 ) {
     match look_newest_on(alloc, signals, hand) {
-        Some(Looked::Waits) if cuts => naps.nap_stalled(rt, signals, 0),
-        Some(Looked::Nothing) if !cuts => signals.wake_one(),
+        Some(Looked::Waits) if cuts => naps.nap_cutting(rt, signals),
+        Some(Looked::Nothing) => {
+            parents.pushed();
+            if !cuts {
+                signals.wake_one();
+            }
+        }
         _ => {}
+    }
+}
+
+/// After a turn that put an answer.
+#[inline(always)]
+fn go_on<K: Keep>(alloc: Global, parents: &mut Parents, signals: &Signals, hand: &mut Hand<K>) {
+    if let Some(Looked::Resumes) = look_newest_on(alloc, signals, hand) {
+        parents.took(signals);
+    } else {
+        parents.ended(signals);
     }
 }
 
@@ -64,34 +82,41 @@ fn keep_turning<R: Wait, K: Keep>(
 fn take_turns<R: Wait, G: Gate, K: Keep>(
     rt: &R,
     alloc: Global,
-    mut naps: Naps,
     signals: &Signals,
     hand: &mut Hand<K>,
     gate: &G,
 ) {
     let mut heap = Heap::new(alloc);
+    let mut naps = Naps::new();
+    let mut parents = Parents::new();
     for _ in rt.forever() {
         if signals.is_stopped() {
             break;
         }
         let turn = hand.turn(alloc, gate);
         let cuts = hand.cuts();
-        if !cuts && !matches!(turn, Ok(Turn::Waiting | Turn::Idle)) {
-            naps.reset(signals);
+        match turn {
+            Ok(Turn::Waiting | Turn::Idle) => {}
+            _ if cuts => naps.cut(signals),
+            _ => naps.end(signals),
         }
         match turn {
             Ok(Turn::Ran) => {
                 heap.count_turn();
-                keep_turning(rt, alloc, &mut naps, signals, hand, cuts);
+                keep_turning(rt, alloc, &mut naps, &mut parents, signals, hand, cuts);
             }
-            Ok(Turn::Answered(_)) => {
-                look_newest_on(alloc, signals, hand);
+            Ok(Turn::Answered(_)) => go_on(alloc, &mut parents, signals, hand),
+            Ok(Turn::Popped) => parents.popped(),
+            Ok(Turn::Resumed | Turn::Stole) => parents.took(signals),
+            Ok(Turn::Waiting) => {
+                parents.found_none(signals);
+                naps.nap_stalled(rt, signals, hand.stalled_count());
             }
-            Ok(Turn::Waiting) => naps.nap_stalled(rt, signals, hand.stalled_count()),
-            Ok(Turn::Idle) => naps.nap_idle(rt, signals),
-            Ok(Turn::Stole) if !cuts => signals.wake_one(),
+            Ok(Turn::Idle) => {
+                parents.found_none(signals);
+                naps.nap_idle(rt, signals);
+            }
             Ok(Turn::Ended(_)) => signals.root_ended(),
-            Ok(_) => {}
             Err(_) => signals.end_turns(),
         }
     }
@@ -101,14 +126,13 @@ fn take_turns<R: Wait, G: Gate, K: Keep>(
 fn take_any_turns<R: Wait, G: Gate>(
     rt: &R,
     alloc: Global,
-    naps: Naps,
     signals: &Signals,
     hand: &mut AnyHand,
     gate: &G,
 ) {
     match hand {
-        AnyHand::All(hand) => take_turns(rt, alloc, naps, signals, hand, gate),
-        AnyHand::Prints(hand) => take_turns(rt, alloc, naps, signals, hand, gate),
+        AnyHand::All(hand) => take_turns(rt, alloc, signals, hand, gate),
+        AnyHand::Prints(hand) => take_turns(rt, alloc, signals, hand, gate),
     }
 }
 
@@ -172,12 +196,11 @@ fn run_hands<R: Threads + Wait + Sync, G: Gate + Sync>(
 ) -> Result<(), Memory> {
     let signals = Signals::new(roots);
     let shared = &signals;
-    let workers = hands.len() as u64;
     at_each(
         rt,
         alloc,
         hands,
-        &|hand| { take_any_turns(rt, alloc, Naps::new(workers), shared, hand, gate) },
+        &|hand| { take_any_turns(rt, alloc, shared, hand, gate) },
     );
     let is_ended = signals.is_ended();
     drop(signals);

@@ -1,31 +1,36 @@
-// What the hands of a crew tell one another, and how one that finds nothing to do sleeps.
-use crossbeam_utils::{Backoff, CachePadded};
-use std::mem;
+// What the hands of a crew tell one another.
+use crate::event_count::EventCount;
+use crossbeam_utils::CachePadded;
 use std::sync::Wait;
 use std::sync::atomic::{AtomicU64, Ordering};
-use std::time::Duration;
 
-/// How long a hand sleeps at first, in microseconds.
-const SHORTEST_NAP: u64 = 50;
-
-/// How long a hand without a task sleeps at most, for each worker of the crew: all of them together look for work about this often.
-const LONGEST_IDLE: u64 = 100;
-
-/// How long a hand sleeps at most whose tasks wait for children, and never more than half as long as one without a task. Nobody else can
-/// take them up once the children have answered.
-const LONGEST_WAIT: u64 = 500;
+/// What a hand waits for that found nothing to do.
+#[derive(Clone, Copy, Drop)]
+pub(crate) enum Awaited {
+    /// It has no task, and any to steal will do.
+    Task,
+    /// Its tasks wait for children.
+    Answer,
+}
 
 /// What the hands tell one another.
+///
+/// A push calls a hand that sleeps, unless one looks for a task already, which so owes the same call once it has found one. A hand that was
+/// called counts as one that looks, even before it runs, so that the next push calls no other.
 #[derive(Drop)]
 pub(crate) struct Signals {
-    /// 0 as long as the hands take turns, and then 1. A hand that finds nothing to do sleeps on it.
+    /// 0 as long as the hands take turns, and then 1.
     stop: CachePadded<AtomicU64>,
     /// The answers of so many roots were put.
     ended: CachePadded<AtomicU64>,
     /// So many hands look for a task, or cut all that they begin, and don't sleep.
     seeking: CachePadded<AtomicU64>,
-    /// So many hands sleep.
-    asleep: CachePadded<AtomicU64>,
+    /// 1 where a hand was called and none has taken the call yet, else 0.
+    called: CachePadded<AtomicU64>,
+    /// Where hands wait that have no task.
+    idle: EventCount,
+    /// Where hands wait whose tasks wait for children.
+    stalled: EventCount,
     /// How many roots there are.
     roots: u64,
 }
@@ -37,7 +42,9 @@ impl Signals {
             stop: CachePadded::new(AtomicU64::new(0)),
             ended: CachePadded::new(AtomicU64::new(0)),
             seeking: CachePadded::new(AtomicU64::new(0)),
-            asleep: CachePadded::new(AtomicU64::new(0)),
+            called: CachePadded::new(AtomicU64::new(0)),
+            idle: EventCount::new(),
+            stalled: EventCount::new(),
             roots,
         }
     }
@@ -46,7 +53,8 @@ impl Signals {
     pub fn end_turns(&self) {
         let stop: &AtomicU64 = &self.stop;
         stop.store(1, Ordering::SeqCst);
-        stop.wake_all();
+        self.idle.notify_all();
+        self.stalled.notify_all();
     }
 
     pub fn is_stopped(&self) -> bool {
@@ -69,110 +77,98 @@ impl Signals {
         ended.load(Ordering::SeqCst) >= self.roots
     }
 
+    /// How many hands look for a task.
+    pub fn seeking(&self) -> u64 {
+        let seeking: &AtomicU64 = &self.seeking;
+        seeking.load(Ordering::SeqCst)
+    }
+
     /// One more hand looks for a task.
-    fn begin_seek(&self) {
+    pub fn begin_seek(&self) {
         let seeking: &AtomicU64 = &self.seeking;
         seeking.fetch_add(1, Ordering::SeqCst);
     }
 
-    /// A hand that looked for a task has one, or sleeps.
-    fn end_seek(&self) {
+    /// A hand that looked for a task no longer does.
+    pub fn end_seek(&self) {
         let seeking: &AtomicU64 = &self.seeking;
         seeking.fetch_sub(1, Ordering::SeqCst);
     }
 
-    /// Sleeps for so many microseconds, or until it is woken.
-    fn sleep<R: Wait>(&self, rt: &R, micros: u64) {
-        let stop: &AtomicU64 = &self.stop;
-        let asleep: &AtomicU64 = &self.asleep;
-        self.end_seek();
-        asleep.fetch_add(1, Ordering::SeqCst);
-        stop.park_timeout(rt, 0, Duration::from_micros(micros));
-        asleep.fetch_sub(1, Ordering::SeqCst);
-        self.begin_seek();
+    fn waiting_for(&self, awaited: Awaited) -> &EventCount {
+        match awaited {
+            Awaited::Task => &self.idle,
+            Awaited::Answer => &self.stalled,
+        }
+    }
+
+    /// Takes the call, if there is one. Who takes it counts as one that looks for a task.
+    fn take_call(&self) -> bool {
+        let called: &AtomicU64 = &self.called;
+        called.load(Ordering::SeqCst) != 0 && called.swap(0, Ordering::SeqCst) != 0
+    }
+
+    /// A hand will wait, and has to look once more before it does. The number is for `wait`.
+    pub fn prepare(&self, awaited: Awaited) -> u64 {
+        let since = self.waiting_for(awaited).prepare();
+        // The look that is left answers a call that nobody else took.
+        if self.take_call() {
+            self.end_seek();
+        }
+        since
+    }
+
+    /// Sleeps until it is called, and for so many microseconds at most. True where it was called: then it no longer waits, and counts as one
+    /// that looks for a task.
+    pub fn wait<R: Wait>(&self, rt: &R, awaited: Awaited, since: u64, micros: u64) -> bool {
+        let is_event = self.waiting_for(awaited).wait(rt, since, micros);
+        let is_call = self.take_call();
+        if !is_event && !is_call {
+            return false;
+        }
+        self.waiting_for(awaited).leave();
+        if !is_call {
+            self.begin_seek();
+        }
+        true
+    }
+
+    /// A hand no longer waits, and counts as one that looks for a task.
+    pub fn leave(&self, awaited: Awaited) {
+        self.waiting_for(awaited).leave();
+        if !self.take_call() {
+            self.begin_seek();
+        }
     }
 
     /// There is a task to steal: where no hand looks for one, one of those that sleep does so now. It writes nothing where a hand looks or
-    /// none sleeps, so that a push costs no more than two reads of what seldom changes.
+    /// none sleeps, so that a push costs no more than three reads of what seldom changes.
+    #[inline(always)]
     pub fn wake_one(&self) {
-        let seeking: &AtomicU64 = &self.seeking;
-        let asleep: &AtomicU64 = &self.asleep;
-        if seeking.load(Ordering::SeqCst) == 0 && asleep.load(Ordering::SeqCst) != 0 {
-            let stop: &AtomicU64 = &self.stop;
-            stop.wake_one();
-        }
-    }
-}
-
-/// The sleep of a hand: at first it only gives way to others, and then each nap is twice as long as the one before.
-#[derive(Drop)]
-pub(crate) struct Naps {
-    backoff: Backoff,
-    /// How long the next one is, in microseconds.
-    next: u64,
-    /// How many turns in a row found nothing to do since the last one.
-    vain: usize,
-    /// The signals count this hand as one that looks for a task.
-    seeks: bool,
-    /// Nothing changed since the hand found something to do.
-    ended: bool,
-    longest_idle: u64,
-}
-
-impl Naps {
-    /// Those of a hand in a crew of so many.
-    pub fn new(workers: u64) -> Naps {
-        Naps {
-            backoff: Backoff::new(),
-            next: SHORTEST_NAP,
-            vain: 0,
-            seeks: false,
-            ended: true,
-            longest_idle: workers.saturating_mul(LONGEST_IDLE),
-        }
-    }
-
-    /// The hand found something to do.
-    pub fn reset(&mut self, signals: &Signals) {
-        if self.ended {
+        if self.seeking() != 0 {
             return;
         }
-        self.ended = true;
-        if mem::replace(&mut self.seeks, false) {
-            signals.end_seek();
+        if self.idle.has_waiters() {
+            self.call(Awaited::Task);
+        } else if self.stalled.has_waiters() {
+            self.call(Awaited::Answer);
         }
-        self.backoff.reset();
-        self.next = SHORTEST_NAP;
-        self.vain = 0;
     }
 
-    /// The hand found nothing to do and has no task.
-    pub fn nap_idle<R: Wait>(&mut self, rt: &R, signals: &Signals) {
-        self.nap(rt, signals, 0, self.longest_idle);
+    #[inline(never)]
+    fn call(&self, awaited: Awaited) {
+        let called: &AtomicU64 = &self.called;
+        if called.swap(1, Ordering::SeqCst) == 0 {
+            self.begin_seek();
+            self.waiting_for(awaited).notify_one();
+        }
     }
 
-    /// The hand found nothing to do, and so many of its tasks wait. A turn looks at one of them alone, so that it sleeps only once it
-    /// has looked at each.
-    pub fn nap_stalled<R: Wait>(&mut self, rt: &R, signals: &Signals, stalled: usize) {
-        let longest = (self.longest_idle / 2).min(LONGEST_WAIT);
-        self.nap(rt, signals, stalled, longest);
-    }
-
-    fn nap<R: Wait>(&mut self, rt: &R, signals: &Signals, stalled: usize, longest: u64) {
-        self.ended = false;
-        self.vain = self.vain.saturating_add(1);
-        if self.vain <= stalled {
-            return;
-        }
-        self.vain = 0;
-        if !mem::replace(&mut self.seeks, true) {
-            signals.begin_seek();
-        }
-        if self.backoff.is_completed() {
-            signals.sleep(rt, self.next.min(longest));
-            self.next = self.next.saturating_mul(2).min(longest);
-        } else {
-            self.backoff.snooze();
+    /// An answer was put whose parent may be stalled at another hand: those that sleep until theirs go on look once more.
+    #[inline(never)]
+    pub fn wake_stalled(&self) {
+        if self.stalled.has_waiters() {
+            self.stalled.notify_all();
         }
     }
 }

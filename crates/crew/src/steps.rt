@@ -6,13 +6,15 @@ ghost use Rattle.strand_machine.specs.Family.{tag};
 ghost use Rattle.strand_machine.specs.Tasks.{is_cut_short};
 ghost use Rattle.strand_machine.specs.declared.stop.Stop.TheVariants as stop;
 ghost use Rattle.steal_deck.specs.Ends.{FindsNone};
-ghost use Rattle.crew.specs.Hands.{view_of, IsPut, RunsOnward, TurnAnswers, HasPut, AdvancesCurrent, IsNewest, FindsNoTask, TakesUp, Looks, LooksNewest, AllMiss, FirstSteals, StealsOr, Seeks, IsTurn, IsLate, KeepsLate};
+ghost use Rattle.crew.specs.Hands.{view_of, IsPut, RunsOnward, TurnAnswers, HasPut, PutsItsEnd, PutsEndOf, AdvancesCurrent, IsNewest, FindsNoTask, TakesUp, Looks, LooksNewest, AllMiss, FirstSteals, StealsOr, Seeks, IsTurn, IsLate, KeepsLate};
 
+use crate::answered::Answered;
 use crate::faults::Faults;
 use crate::gate::Gate;
 use crate::hand::{Looked, Turn};
 use crate::held::Held;
 use crate::memory::Memory;
+use crate::overflow::{Overflow, push_on};
 use crate::stalled::Stalled;
 use meet_block::Give;
 use script_grammar::Items;
@@ -33,44 +35,35 @@ pub(crate) enum TakeUp {
     Resumes,
 }
 
-/// The rest goes to the end of the private list.
-fn push_overflow<K: Keep>(overflow: &mut Vec<Task<K>>, rest: Task<K>) -> Result<(), Memory>
-    ensures ok { OnOk result (overflow.new.items ≡ overflow.old.items ++ rest ∷ []) }
-    ensures err { OnErr result (overflow.new.items ≡ overflow.old.items) }
-{
-    overflow.push(rest)?;
-    Ok(())
-}
-
 /// The rest of a task that handed out a child goes after all others.
 #[inline(always)]
 fn put_rest<K: Keep>(
     deck: &mut Deck<Task<K>>,
-    overflow: &mut Vec<Task<K>>,
+    overflow: &mut Overflow<K>,
     rest: Task<K>,
 ) -> Result<(), Memory>
-    ensures ok { OnOk result (IsPut rest overflow.old.items deck.old overflow.new.items deck.new) }
-    ensures late { IsLate overflow.old.items deck.old → IsLate overflow.new.items deck.new }
+    ensures ok { OnOk result (IsPut rest overflow.old deck.old overflow.new deck.new) }
+    ensures late { IsLate overflow.old deck.old → IsLate overflow.new deck.new }
 {
     if !overflow.is_empty() {
-        return push_overflow(overflow, rest);
+        return overflow.push(rest);
     }
-    match deck.push(rest) {
-        Ok(()) => Ok(()),
-        Err(refused) => push_overflow(overflow, refused),
+    if let Err(refused) = push_on(deck, rest) {
+        overflow.begin(refused);
     }
+    Ok(())
 }
 
 /// Puts all of these tasks after all others, the last of them first. So the first of them is taken up before the others.
 pub(crate) fn put_all<K: Keep>(
     deck: &mut Deck<Task<K>>,
-    overflow: &mut Vec<Task<K>>,
+    overflow: &mut Overflow<K>,
     tasks: Vec<Task<K>>,
 ) -> Result<(), Memory>
     requires pushed { deck.old.pushed ≡ [] }
-    requires overflow { overflow.old.items ≡ [] }
-    ensures all { OnOk result (deck.new.pushed ++ overflow.new.items ≡ reverse tasks.items) }
-    ensures late { IsLate overflow.new.items deck.new }
+    requires overflow { overflow.old ≡ [] }
+    ensures all { OnOk result (deck.new.pushed ++ overflow.new ≡ reverse tasks.items) }
+    ensures late { IsLate overflow.new deck.new }
     ensures deck { OnOk result (deck.new ≡ record deck.old { pushed = deck.new.pushed }) }
 {
     let mut left = tasks;
@@ -86,6 +79,7 @@ fn hand_out<K: Keep>(held: &mut Held<K>, child: Task<K>, rest: Task<K>) -> Resul
     requires { held.old.current ≡ None }
     ensures ok { OnOk result (RunsOnward {K = K} (stop.Spawn child rest) (view_of held.old) (view_of held.new)) }
     ensures err { OnErr result (held.new.current ≡ None) }
+    ensures answered { held.new.answered ≡ held.old.answered }
     ensures late { KeepsLate (view_of held.old) (view_of held.new) }
 {
     put_rest(&mut held.deck, &mut held.overflow, rest)?;
@@ -105,12 +99,17 @@ fn stall<K: Keep>(stalled: &mut VecDeque<Stalled<K>>, task: Task<K>) -> Result<(
 
 /// Puts the answer of a task that has ended or was cut.
 #[inline(never)]
-fn put_answer<K: Keep>(answer: Answer<K>, give: Give<Answer<K>>) -> Turn<K>
+fn put_answer<K: Keep>(
+    answered: &mut Answered<K>,
+    answer: Answer<K>,
+    give: Give<Answer<K>>,
+) -> Turn<K>
     requires { give ≡ tag answer.plan answer.origin }
-    ensures { TurnAnswers give result }
+    ensures turn { TurnAnswers give result }
+    ensures put { answered.new ≡ answered.old ++ answer ∷ [] }
 {
     let is_roots = answer.plan.is_main_origin(&answer.origin);
-    let arrived = give.put(answer);
+    let arrived = answered.put(answer, give);
     if is_roots {
         Turn::Ended(arrived)
     } else {
@@ -129,7 +128,7 @@ fn publish_fault<K: Keep>(alloc: Global, faults: &mut Faults, answer: &Answer<K>
 }
 
 /// Puts the answer of a task that has ended or took a cut for an answer, whatever memory is left, and tells the gate.
-#[tactic(auto, using(crate::proofs::Stopping::gives_its_own, crate::proofs::Stopping::has_put))]
+#[tactic(auto, using(crate::proofs::Stopping::gives_its_own, crate::proofs::Stopping::answers_own, crate::proofs::Stopping::has_put))]
 #[inline(always)]
 fn end<G: Gate, K: Keep>(
     held: &mut Held<K>,
@@ -138,21 +137,23 @@ fn end<G: Gate, K: Keep>(
     gate: &G,
 ) -> Result<Turn<K>, Memory>
     requires { is_cut_short task.cut ≡ true }
-    ensures put { IfOk result (HasPut task) }
-    ensures held { view_of held.new ≡ view_of held.old }
+    ensures turn { IfOk result (TurnAnswers (tag task.task.plan task.task.origin)) }
+    ensures put { HasPut K task held.old.answered held.new.answered }
+    ensures held { view_of held.new ≡ record (view_of held.old) { answered = held.new.answered } }
 {
     let (answer, give) = task.into_answer();
     publish_fault(alloc, &mut held.faults, &answer);
     if !gate.hears_ends() {
-        return Ok(put_answer(answer, give));
+        return Ok(put_answer(&mut held.answered, answer, give));
     }
     let origin = share_origin(alloc, &answer.origin);
-    let turn = put_answer(answer, give);
+    let turn = put_answer(&mut held.answered, answer, give);
     gate.leave(&origin?);
     Ok(turn)
 }
 
 /// Runs this task, which was the current one, to its next stop.
+#[tactic(auto, using(crate::proofs::Stopping::puts_none))]
 fn advance<G: Gate, K: Keep>(
     held: &mut Held<K>,
     task: Task<K>,
@@ -162,6 +163,7 @@ fn advance<G: Gate, K: Keep>(
     requires { held.old.current ≡ None }
     ensures ok { IfOk result (λ turn. AdvancesCurrent task (view_of held.old) turn (view_of held.new)) }
     ensures err { OnErr result (held.new.current ≡ None) }
+    ensures put { OnErr result (PutsItsEnd K task held.old.answered held.new.answered) }
     ensures late { KeepsLate (view_of held.old) (view_of held.new) }
 {
     if task.is_cut_short() {
@@ -182,14 +184,15 @@ fn advance<G: Gate, K: Keep>(
 }
 
 /// Cuts this task, which was the current one and wasn't advanced yet.
-fn cut<K: Keep>(held: &Held<K>, task: Task<K>, by: Fault) -> Turn<K>
+fn cut<K: Keep>(held: &mut Held<K>, task: Task<K>, by: Fault) -> Turn<K>
     requires fresh { task.task.advanced ≡ false }
     requires stands { IsCut task.task.plan task.task.origin by }
-    requires current { held.now.current ≡ None }
-    ensures { AdvancesCurrent task (view_of held.now) result (view_of held.now) }
+    requires current { held.old.current ≡ None }
+    ensures turn { AdvancesCurrent task (view_of held.old) result (view_of held.new) }
+    ensures late { KeepsLate (view_of held.old) (view_of held.new) }
 {
     let (answer, give) = task.cut(by);
-    put_answer(answer, give)
+    put_answer(&mut held.answered, answer, give)
 }
 
 /// Cuts this task, which was the current one, or runs it to its next stop.
@@ -202,6 +205,7 @@ fn run<G: Gate, K: Keep>(
     requires { held.old.current ≡ None }
     ensures ok { IfOk result (λ turn. AdvancesCurrent task (view_of held.old) turn (view_of held.new)) }
     ensures err { OnErr result (held.new.current ≡ None) }
+    ensures put { OnErr result (PutsItsEnd K task held.old.answered held.new.answered) }
     ensures late { KeepsLate (view_of held.old) (view_of held.new) }
 {
     if task.is_fresh() {
@@ -214,10 +218,10 @@ fn run<G: Gate, K: Keep>(
 }
 
 /// The newest of a hand's tasks that are ready: of its private list, or else of its deque.
-fn newest_ready<K: Keep>(deck: &mut Deck<Task<K>>, overflow: &mut Vec<Task<K>>) -> Option<Task<K>>
-    ensures some { IfSome result (λ task. IsNewest task overflow.old.items deck.old overflow.new.items deck.new) }
-    ensures none { IfNone result ((overflow.old.items ≡ []) × (overflow.new.items ≡ []) × FindsNone deck.old deck.new) }
-    ensures late { IsLate overflow.old.items deck.old → IsLate overflow.new.items deck.new }
+fn newest_ready<K: Keep>(deck: &mut Deck<Task<K>>, overflow: &mut Overflow<K>) -> Option<Task<K>>
+    ensures some { IfSome result (λ task. IsNewest task overflow.old deck.old overflow.new deck.new) }
+    ensures none { IfNone result ((overflow.old ≡ []) × (overflow.new ≡ []) × FindsNone deck.old deck.new) }
+    ensures late { IsLate overflow.old deck.old → IsLate overflow.new deck.new }
 {
     if overflow.is_empty() {
         deck.pop()
@@ -262,6 +266,7 @@ fn take_up<K: Keep>(held: &mut Held<K>, task: Task<K>, alloc: Global) -> Result<
     requires waits { task.task.waiting ≡ true }
     ensures ok { IfOk result (λ found. TakesUp task (view_of held.old) found (view_of held.new)) }
     ensures err { OnErr result (held.new.current ≡ None) }
+    ensures answered { held.new.answered ≡ held.old.answered }
     ensures late { KeepsLate (view_of held.old) (view_of held.new) }
 {
     let room = empty_room(alloc, &mut held.answers);
@@ -285,6 +290,7 @@ fn look<K: Keep>(held: &mut Held<K>, alloc: Global) -> Result<TakeUp, Memory>
     requires { held.old.current ≡ None }
     ensures ok { IfOk result (λ found. Looks (view_of held.old) found (view_of held.new)) }
     ensures err { OnErr result (held.new.current ≡ None) }
+    ensures answered { held.new.answered ≡ held.old.answered }
     ensures late { KeepsLate (view_of held.old) (view_of held.new) }
 {
     let Some(stalled) = held.stalled.pop_front() else {
@@ -323,6 +329,7 @@ fn with_own_handle<K: Keep>(alloc: Global, task: Task<K>) -> Task<K>
 fn steal_or<K: Keep>(held: &mut Held<K>, alloc: Global, otherwise: Turn<K>) -> Turn<K>
     requires { held.old.current ≡ None }
     ensures took { StealsOr otherwise (view_of held.old) result (view_of held.new) }
+    ensures answered { held.new.answered ≡ held.old.answered }
     ensures late { KeepsLate (view_of held.old) (view_of held.new) }
 {
     match steal(held.thieves.as_mut_slice()) {
@@ -340,6 +347,7 @@ fn seek<K: Keep>(held: &mut Held<K>, alloc: Global) -> Result<Turn<K>, Memory>
     requires { held.old.current ≡ None }
     ensures ok { IfOk result (λ turn. Seeks (view_of held.old) turn (view_of held.new)) }
     ensures err { OnErr result (held.new.current ≡ None) }
+    ensures answered { held.new.answered ≡ held.old.answered }
     ensures late { KeepsLate (view_of held.old) (view_of held.new) }
 {
     if let Some(turn) = pop(held) {
@@ -360,6 +368,7 @@ pub(crate) fn turn<G: Gate, K: Keep>(
 ) -> Result<Turn<K>, Memory>
     ensures ok { IfOk result (λ turn. IsTurn (view_of held.old) turn (view_of held.new)) }
     ensures err { OnErr result (held.new.current ≡ None) }
+    ensures put { OnErr result (PutsEndOf K held.old.current held.old.answered held.new.answered) }
     ensures late { KeepsLate (view_of held.old) (view_of held.new) }
 {
     match held.current.take() {
@@ -373,6 +382,7 @@ pub(crate) fn turn<G: Gate, K: Keep>(
 pub(crate) fn look_newest<K: Keep>(held: &mut Held<K>, alloc: Global) -> Result<Looked, Memory>
     ensures ok { IfOk result (λ looked. LooksNewest (view_of held.old) looked (view_of held.new)) }
     ensures err { OnErr result (held.new.current ≡ None) }
+    ensures answered { held.new.answered ≡ held.old.answered }
     ensures late { KeepsLate (view_of held.old) (view_of held.new) }
 {
     if held.current.is_some() {

@@ -9,4 +9,4 @@ returns g c =
     let one : IsTrue c.is_of.result = search rules in
     let plan : c.deref.result.now ≡ c.args.task.now.task.plan = search rules in
     let same : c.in_ok-by.by ≡ c.known.inside.fault = search rules in
-    is_cut _ _ _ _ _ (ap (λ (k : KnownView). k.plan) c.known.view_is ∙ c.is_of.ensures one ∙ plan) same c.known.invariant (c.may_cut.ensures.0 may)
+    is_cut _ _ _ _ _ (ap (λ (k : KnownView). k.plan) c.known.view_is ∙ c.is_of.ensures.0 one ∙ plan) same c.known.invariant (c.may_cut.ensures.0 may)

@@ -6,7 +6,7 @@ loop-task-preserved g c =
     let l = c.loop-task in
     let put = c.in_ok-put_rest.ensures.ok in
     record {
-      all = all-but-one c.in-Some.task l.overflow.items c.put_rest.new.overflow.items l.deck c.put_rest.new.deck l.left.items c.pop.new.self.items _ c.in-Some.ensures.items put l.invariant.all;
-      refused = refused-late c.in-Some.task l.overflow.items c.put_rest.new.overflow.items l.deck c.put_rest.new.deck put l.invariant.refused;
-      deck = pushed-alone c.in-Some.task l.overflow.items c.put_rest.new.overflow.items l.deck c.put_rest.new.deck c.args.deck.now put l.invariant.deck;
+      all = all-but-one c.in-Some.task l.overflow c.put_rest.new.overflow l.deck c.put_rest.new.deck l.left.items c.pop.new.self.items _ c.in-Some.ensures.items put l.invariant.all;
+      refused = refused-late c.in-Some.task l.overflow c.put_rest.new.overflow l.deck c.put_rest.new.deck put l.invariant.refused;
+      deck = pushed-alone c.in-Some.task l.overflow c.put_rest.new.overflow l.deck c.put_rest.new.deck c.args.deck.now put l.invariant.deck;
     }

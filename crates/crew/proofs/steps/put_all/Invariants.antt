@@ -4,8 +4,8 @@ use Rattle.crew.proofs.steps.put_all.Given as goal
 -- those that are left come after all that were put
 abbrev pub invariant-loop-task : goal.invariant-loop-task
 invariant-loop-task g l = record {
-  all : (l.deck.pushed ++ l.overflow.items) ++ reverse l.left.items ≡ reverse l.fn.tasks.items;
-  refused : (l.overflow.items ≡ []) ⊎ (64 ≤ length l.deck.pushed);
+  all : (l.deck.pushed ++ l.overflow) ++ reverse l.left.items ≡ reverse l.fn.tasks.items;
+  refused : (l.overflow ≡ []) ⊎ (64 ≤ length l.deck.pushed);
   deck : l.deck ≡ record l.fn.deck { pushed = l.deck.pushed };
 }
 
