@@ -20,7 +20,7 @@ use Rattle.serial_meaning.specs.declared.origin.Origin.TheVariants.{Instance, Lo
 use Rattle.serial_meaning.specs.declared.value.Value.{Value}
 use Rattle.seed_batch.specs.Batch.{batch, batch_text, main_answer, seed_lines}
 use Rattle.engine.specs.declared.batch.Batch.{Batch}
-use Rattle.engine.specs.Batches.{ArePlans, IsBatchOf, batch_ending, batch_report, is_fault, is_faulted, plan_under, settings_under, written}
+use Rattle.engine.specs.Batches.{IsBatchOf, batch_ending, batch_report, is_fault, is_faulted, plan_under, written}
 use Rattle.engine.specs.Report.{IsPlanIn, Report, report_end_of, plan_of, run_report}
 
 -- A text has one script, and its plan is that script's.
@@ -76,15 +76,14 @@ module _ (b : Batch) (script : Script) where
   written_is = rw (parts b.seeds, ends b.seeds) refl
 
 -- The plans of a batch show what it shows.
-pub plans_keep : (kept : Event → Bool) (b : Batch) (bytes : List ℕ) (script : Script) (plans : List PlanView) → KeepsLines kept b.show → Text bytes script → ArePlans b bytes b.seeds plans → All (λ (plan : PlanView). KeepsLines kept plan.show) plans
-plans_keep kept b bytes script plans keep text are =
-    subst (All (λ (plan : PlanView). KeepsLines kept plan.show)) (sym (are script text)) (All-map (λ (plan : PlanView). KeepsLines kept plan.show) (plan_under b script) b.seeds (λ k d within. keep))
+pub plans_keep : (kept : Event → Bool) (b : Batch) (script : Script) (plans : List PlanView) → KeepsLines kept b.show → plans ≡ map (plan_under b script) b.seeds → All (λ (plan : PlanView). KeepsLines kept plan.show) plans
+plans_keep kept b script plans keep are =
+    subst (All (λ (plan : PlanView). KeepsLines kept plan.show)) (sym are) (All-map (λ (plan : PlanView). KeepsLines kept plan.show) (plan_under b script) b.seeds (λ k d within. keep))
 
-pub batch_is : (b : Batch) (bytes : List ℕ) (script : Script) (plans : List PlanView) (told : Report) → Text bytes script → IsValid script → ArePlans b bytes b.seeds plans → told ≡ written b.seeds plans → IsBatchOf b bytes told
-batch_is b bytes script plans told text valid are is = (script, text, valid, is ∙ ap (written b.seeds) (are script text) ∙ written_is b script)
+pub batch_is : (b : Batch) (bytes : List ℕ) (script : Script) (plans : List PlanView) (told : Report) → Text bytes script → IsValid script → plans ≡ map (plan_under b script) b.seeds → told ≡ written b.seeds plans → IsBatchOf b bytes told
+batch_is b bytes script plans told text valid are is = (script, text, valid, is ∙ ap (written b.seeds) are ∙ written_is b script)
 
 -- A seed more, and the plan under it.
-pub plan_more : (b : Batch) (bytes seeds : List ℕ) (seed : ℕ) (plans : List PlanView) (plan : PlanView) → ArePlans b bytes seeds plans → IsPlanIn (settings_under b seed) bytes plan → ArePlans b bytes (seeds ++ seed ∷ []) (plans ++ plan ∷ [])
-plan_more b bytes seeds seed plans plan are is = λ script text. (
-    ap (λ (l : List PlanView). l ++ plan ∷ []) (are script text) ∙ ap (λ (p : PlanView). map (plan_under b script) seeds ++ p ∷ []) (is script text) ∙ sym (map-append (plan_under b script) seeds (seed ∷ []))
-    )
+pub plan_more : (b : Batch) (script : Script) (seeds : List ℕ) (seed : ℕ) (plans : List PlanView) (plan : PlanView) → plans ≡ map (plan_under b script) seeds → plan ≡ plan_under b script seed → plans ++ plan ∷ [] ≡ map (plan_under b script) (seeds ++ seed ∷ [])
+plan_more b script seeds seed plans plan are is =
+    ap (λ (l : List PlanView). l ++ plan ∷ []) are ∙ ap (λ (p : PlanView). map (plan_under b script) seeds ++ p ∷ []) is ∙ sym (map-append (plan_under b script) seeds (seed ∷ []))

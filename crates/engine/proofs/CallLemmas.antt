@@ -1,15 +1,19 @@
--- What a refusal of bytes and a delivered report say of a command.
-use Rattle.std.proofs.Common.{◌≡◌, ◌≢◌, ◌≤◌, ℕ, List, [], Option, Some, None, Result, Ok, Err, IfErr, IfSome, IsTrue, inl, inr, refl, sym, subst, arith}
+-- What a refusal and a delivered report say of a command.
+use Rattle.std.proofs.Common.{◌≡◌, ◌≢◌, ◌≤◌, ℕ, List, [], Option, Some, None, Result, Ok, Err, IfErr, IfSome, IsTrue, inl, inr, refl, string_bytes, sym, subst, arith}
 use Rattle.draw_lines.specs.Lines.{CanDraw, stream_text}
 use Rattle.ped_words.specs.Commands.{IsLawful}
 use Rattle.ped_words.specs.declared.command.Command.{Command}
 use Rattle.ped_words.specs.declared.command.Command.TheVariants.{Stream}
+use Rattle.ped_words.specs.Rules.{IsUnlessMemory}
+use Rattle.ped_words.specs.declared.rule.WordError.{WordError}
+use Rattle.ped_words.specs.declared.rule.WordError.TheVariants as words
 use Rattle.engine.specs.Commands.{AcceptsScript, takes_script}
-use Rattle.serial_meaning.specs.declared.event.Fault.{Fault}
-use Rattle.engine.specs.Lines.{blocked_line}
-use Rattle.engine.specs.Promise.{Watched, StatusMeans, HasOutput, HasReport, ReadWhole, TellsNone, WroteLine}
-use Rattle.engine.specs.Refusal.{Delivers, IsCause, IsMisfit, Puts}
+use Rattle.engine.specs.CallEnds.{Delivers, EndKeeps, EndMeans, EndRefuses, IsNoStrandLine, Puts, end_status}
+use Rattle.engine.specs.Promise.{Watched, HasOutput, HasReport, KeepsPromise, ReadWhole, Refuses, TellsNone, WroteLine}
+use Rattle.engine.specs.Refusal.{IsCause, IsMisfit}
 use Rattle.engine.specs.Report.{Report, said}
+use Rattle.engine.specs.declared.call_end.CallEnd.{CallEnd}
+use Rattle.engine.specs.declared.call_end.CallEnd.TheVariants as C
 use Rattle.engine.specs.declared.refusal.Refusal.{Refusal}
 use Rattle.engine.specs.declared.refusal.Refusal.TheVariants.{TooLong, Untaken, Read, Memory}
 use Rattle.engine.specs.declared.report.ReportEnd.{ReportEnd}
@@ -24,32 +28,43 @@ misfit_cause command source bytes takes read {X} (Err (Untaken line)) is = (take
 misfit_cause command source bytes takes read {X} (Err Read) is = absurd is
 misfit_cause command source bytes takes read {X} (Err Memory) is = tt
 
-module _ (command : Command) (source out err : Watched) (report : Report) (has : HasReport command source report) where
-  pub delivered_answers : (status : Status) → Delivers report.output report.ending out err status → StatusMeans command source out err status
-  delivered_answers S.Done d = (report, has, d.0, d.1)
-  delivered_answers S.Faulted d = (report, has, d.0, d.1)
-  delivered_answers S.Words d = absurd d
-  delivered_answers S.Script d = absurd d
-  delivered_answers S.Read d = absurd d
-  delivered_answers S.Write d = ((report, has, d.0, d.1), d.2)
-  delivered_answers S.Memory d = d
-  delivered_answers S.NoStrand d = (report, has, d)
+-- The line tells that there is no strand, and it was told.
+tells_none : (err : Watched) (line : List ℕ) (ending : ReportEnd) → IsNoStrandLine line ending → WroteLine err line → TellsNone err ending
+tells_none err line E.Done is told = absurd is
+tells_none err line E.Faulted is told = absurd is
+tells_none err line (E.NoStrand j) is told = subst (WroteLine err) is told
+tells_none err line (E.Blocked fault) is told = subst (WroteLine err) is told
+
+module _ (command : Command) (source out : Watched) where
+  pub delivered_means : (report : Report) → HasReport command source report → (end : CallEnd) → Delivers report.output report.ending out end → EndMeans command source out end
+  delivered_means report has C.Done d = λ err told. (report, has, d.0, d.1)
+  delivered_means report has C.Faulted d = λ err told. (report, has, d.0, d.1)
+  delivered_means report has (C.Words line) d = absurd d
+  delivered_means report has (C.Refused TooLong) d = absurd d
+  delivered_means report has (C.Refused (Untaken line)) d = absurd d
+  delivered_means report has (C.Refused Read) d = absurd d
+  delivered_means report has (C.Refused Memory) d = λ err told. told
+  delivered_means report has C.Write d = λ err told. ((report, has, d.0, d.1), told)
+  delivered_means report has (C.NoStrand line) d = λ err told. (report, has, tells_none err line.items report.ending d told)
+
+  pub refused_means : (refusal : Refusal) → IsCause command source refusal → EndMeans command source out (C.Refused refusal)
+  refused_means TooLong is = λ err told. (is.0, inl (is.1, told))
+  refused_means (Untaken line) is = λ err told. (is.0, inr (is.1.0, string_bytes line, is.1.1, is.1.2, told))
+  refused_means Read is = λ err told. (is.0, is.1, told)
+  refused_means Memory is = λ err told. told
 
 -- An output that was put, or wasn't, is a delivered report.
-module _ (output : List ℕ) (ending : ReportEnd) (out err : Watched) where
-  delivers_at : (status other : Status) → status ≡ other → Delivers output ending out err status → Delivers output ending out err other
-  delivers_at status other e d = let P : Status → Type 0 = λ s. Delivers output ending out err s in subst P e d
+module _ (output : List ℕ) (ending : ReportEnd) (out : Watched) where
+  delivers_at : (end other : CallEnd) → end ≡ other → Delivers output ending out end → Delivers output ending out other
+  delivers_at end other e d = let P : CallEnd → Type 0 = λ c. Delivers output ending out c in subst P e d
 
-  pub done_delivers : (status : Status) → ending ≡ E.Done → Puts output S.Done out err status → Delivers output ending out err status
-  done_delivers status done (inl p) = delivers_at S.Done status (sym p.0) (done, p.1)
-  done_delivers status done (inr p) = delivers_at S.Write status (sym p.0) (subst HasOutput (sym done) tt, p.1, p.2)
+  pub done_delivers : (end : CallEnd) → ending ≡ E.Done → Puts output C.Done out end → Delivers output ending out end
+  done_delivers end done (inl p) = delivers_at C.Done end (sym p.0) (done, p.1)
+  done_delivers end done (inr p) = delivers_at C.Write end (sym p.0) (subst HasOutput (sym done) tt, p.1)
 
-  pub faulted_delivers : (status : Status) → ending ≡ E.Faulted → Puts output S.Faulted out err status → Delivers output ending out err status
-  faulted_delivers status faulted (inl p) = delivers_at S.Faulted status (sym p.0) (faulted, p.1)
-  faulted_delivers status faulted (inr p) = delivers_at S.Write status (sym p.0) (subst HasOutput (sym faulted) tt, p.1, p.2)
-
-  pub blocked_delivers : (fault : Fault) (line : List ℕ) (status : Status) → ending ≡ E.Blocked fault → status ≡ S.NoStrand → line ≡ blocked_line fault.at → WroteLine err line → Delivers output ending out err status
-  blocked_delivers fault line status blocked none same told = delivers_at S.NoStrand status (sym none) (subst (TellsNone err) (sym blocked) (subst (WroteLine err) same told))
+  pub faulted_delivers : (end : CallEnd) → ending ≡ E.Faulted → Puts output C.Faulted out end → Delivers output ending out end
+  faulted_delivers end faulted (inl p) = delivers_at C.Faulted end (sym p.0) (faulted, p.1)
+  faulted_delivers end faulted (inr p) = delivers_at C.Write end (sym p.0) (subst HasOutput (sym faulted) tt, p.1)
 
 -- A stream that is lawful can be drawn, and delivered it is its command's report.
 module _ (command : Command) (gamma at : List ℕ) (count rounds : ℕ) (below : Option ℕ) (is : command ≡ Stream gamma at count rounds below) where
@@ -62,7 +77,28 @@ module _ (command : Command) (gamma at : List ℕ) (count rounds : ℕ) (below :
       let l : IsLawful (Stream gamma at count rounds below) = subst IsLawful is lawful in
       record { within = omega (arith, l.0.few, l.0.coefficients); rounds = l.0.rounds_limit; ranks = l.1.ranks; below = not_zero below l.2 }
 
-  pub stream_answers : (source out err : Watched) (status : Status) → Delivers (stream_text gamma at count rounds below) E.Done out err status → StatusMeans command source out err status
-  stream_answers source out err status d =
-      let P : Command → Type 0 = λ c. StatusMeans c source out err status in
-      subst P (sym is) (delivered_answers (Stream gamma at count rounds below) source out err (said (stream_text gamma at count rounds below)) ([], (λ takes. absurd (cc)), refl) status d)
+  pub stream_means : (source out : Watched) (end : CallEnd) → Delivers (stream_text gamma at count rounds below) E.Done out end → EndMeans command source out end
+  stream_means source out end d =
+      let P : Command → Type 0 = λ c. EndMeans c source out end in
+      subst P (sym is) (delivered_means (Stream gamma at count rounds below) source out (said (stream_text gamma at count rounds below)) ([], (λ takes. absurd (cc)), refl) end d)
+
+-- What was read of words, and the end that it gives.
+module _ (given : Result Command WordError) (source out : Watched) where
+  pub words_taken : (command : Command) → given ≡ Ok command → (end : CallEnd) → EndMeans command source out end → EndKeeps given source out end
+  words_taken command is end means = let P : Result Command WordError → Type 0 = λ g. EndKeeps g source out end in subst P (sym is) means
+
+  without_memory : (r : Result Command WordError) (err : Watched) (status : Status) → Refuses words.Memory err status → KeepsPromise r source out err status
+  without_memory r err S.Done refuses = absurd refuses
+  without_memory r err S.Faulted refuses = absurd refuses
+  without_memory r err S.Words refuses = absurd refuses
+  without_memory r err S.Script refuses = absurd refuses
+  without_memory r err S.Read refuses = absurd refuses
+  without_memory r err S.Write refuses = absurd refuses
+  without_memory (Ok command) err S.Memory refuses = refuses
+  without_memory (Err (words.Bad number at)) err S.Memory refuses = refuses
+  without_memory (Err words.Memory) err S.Memory refuses = refuses
+  without_memory r err S.NoStrand refuses = absurd refuses
+
+  pub words_refused : (error : WordError) → IsUnlessMemory {X = Command} given (Err error) → (end : CallEnd) → EndRefuses error end → EndKeeps given source out end
+  words_refused (words.Bad number at) is end refuses = let P : Result Command WordError → Type 0 = λ g. EndKeeps g source out end in subst P (sym is) refuses
+  words_refused words.Memory is end refuses = λ err told. without_memory given err (end_status end) (refuses err told)

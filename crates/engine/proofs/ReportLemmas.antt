@@ -1,5 +1,5 @@
 -- What a run's plan holds, and what an answer prints.
-use Rattle.std.proofs.Common.{◌≡◌, ℕ, List, ◌++◌, length, Result, Ok, Err, IfOk, refl, sym, ap, ◌∙◌, subst}
+use Rattle.std.proofs.Common.{◌≡◌, ℕ, List, [], ◌++◌, length, Result, Ok, Err, IfOk, refl, sym, ap, ap₂, ◌∙◌, subst}
 use Rattle.serial_meaning.specs.Plan.{PlanView}
 use Rattle.serial_meaning.specs.Eval.{eval, elision, main_origin}
 use Rattle.serial_meaning.specs.Laws.{IsOriginOf, Main}
@@ -15,6 +15,7 @@ use Rattle.sched_meaning.specs.Simulation.{IsSimWorker}
 use Rattle.strand_meaning.specs.Strands.{strand_at}
 use Rattle.engine.specs.declared.refusal.Refusal.{Refusal}
 use Rattle.engine.specs.declared.report.Report as report
+use Rattle.engine.specs.declared.report.ReportEnd.{ReportEnd}
 use Rattle.engine.specs.Report.{IsPlanOf, IsReplayOf, IsRunOf, IsSimOf, IsSpanReport, Report, report_end_of, found_report, outcome_ending, plan_of, run_report, report_view, span_lines, worker_line}
 use Rattle.serial_meaning.specs.declared.origin.Origin.{Origin}
 
@@ -59,6 +60,11 @@ span_reported a told work span evals is uncut main counted longest output ending
 -- What is written of main's answer under a script's plan is a run of the script.
 pub played_of : (settings : Settings) (bytes : List ℕ) (plan seen : PlanView) (told : Report) → IsPlanOf settings bytes plan → seen ≡ plan → told ≡ run_report seen → IsRunOf settings bytes told
 played_of settings bytes plan seen told planned same e = (planned.0, planned.1, planned.2, e ∙ ap run_report (same ∙ planned.3))
+
+-- No text stands before a run's lines.
+pub lines_alone : (plan : PlanView) (text : List ℕ) (told : Report) → text ≡ [] → told.output ≡ text ++ (run_report plan).output → told.ending ≡ (run_report plan).ending → told ≡ run_report plan
+lines_alone plan text told none output ending =
+    ap₂ (λ (o : List ℕ) (e : ReportEnd). record { output = o; ending = e }) (output ∙ ap (λ t. t ++ (run_report plan).output) none) ending
 
 -- The worker of a simulation under a script's plan, and what is written of main's answer, are a simulation of the script.
 pub simulated_of : (settings : Settings) (workers number worker : ℕ) (bytes : List ℕ) (plan seen : PlanView) (told : Report) → IsPlanOf settings bytes plan → seen ≡ plan → IsSimWorker plan workers number worker →

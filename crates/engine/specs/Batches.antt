@@ -61,10 +61,6 @@ batch_report b script = record {
 abbrev pub IsBatchOf : Batch → List ℕ → Report → Type 0
 IsBatchOf b bytes report = (script : Script) × Text bytes script × IsValid script × (report ≡ batch_report b script)
 
--- These are the plans under these seeds, of whatever script the bytes are the text.
-abbrev pub ArePlans : Batch → List ℕ → List ℕ → List PlanView → Type 0
-ArePlans b bytes seeds plans = (script : Script) → Text bytes script → plans ≡ map (plan_under b script) seeds
-
 -- what is written of main's answers under these plans, each after a line of its seed
 abbrev pub written : List ℕ → List PlanView → Report
 written seeds plans = record {

@@ -1,19 +1,30 @@
 -- Laws of what `stream` and `sim` print.
-use Rattle.std.specs.Prelude.{◌≡◌, ◌<◌, ℕ, List, Contains, slice_index}
+use Rattle.std.specs.Prelude.{◌≡◌, ◌<◌, ◌≤◌, ℕ, List, Option, Contains, length, slice_index}
 use Rattle.bulk_draw.specs.Streams.{later, stream}
+use Rattle.ped_words.specs.Making.{gamma_from, hash_depth}
 use Rattle.serial_meaning.specs.Eval.{elision}
 use Rattle.serial_meaning.specs.Plan.{PlanView, drawn}
 use Rattle.serial_meaning.specs.declared.event.Event.TheVariants.{Draw}
+use Rattle.strand_meaning.specs.Strands.{Strand, FoundStrand, strand_at}
 use Rattle.engine.specs.Report.{IsSimReport, Report}
 
--- This is what the strand of a pedigree draws, in any run of the plan that reaches it.
+-- The plan's coefficients are as many as its depth, of this list or else of this seed.
+pub record IsPlanBy (given : Option (List ℕ)) (seed : ℕ) (plan : PlanView) : Type 0 where
+  pub coefficients : plan.gamma ≡ gamma_from given seed plan.limits.depth
+  pub depth_limit : plan.limits.depth ≤ hash_depth
+
+-- This is what the strand of a pedigree draws, in any run of the plan that reaches it, and in a replay of it, behind a fault too.
 pub record IsDrawn (plan : PlanView) (j : List ℕ) (n : ℕ) : Type 0 where
   pub strand : n ≡ drawn plan j
   pub event : (m : ℕ) → Contains (elision plan).items (Draw j m) → n ≡ m
+  pub replayed : (found : Strand) (m : ℕ) → strand_at plan j ≡ FoundStrand found → Contains found.events (Draw j m) → n ≡ m
 
--- Number i of a stream is the draw of the strand so many ranks later, under the same coefficients and rounds.
+-- Number i of a stream is the draw of the strand so many ranks later, under the same list or seed and as many rounds, of each depth that the
+-- strand is within.
 abbrev pub StreamsAreDraws : Type 0
-StreamsAreDraws = (plan : PlanView) (j : List ℕ) (count i : ℕ) → i < count → IsDrawn plan (later j i) (slice_index (stream plan.gamma j count plan.rounds) i)
+StreamsAreDraws =
+    (given : Option (List ℕ)) (seed : ℕ) (plan : PlanView) (j : List ℕ) (count i : ℕ) → IsPlanBy given seed plan → i < count → length (later j i) ≤ plan.limits.depth →
+    IsDrawn plan (later j i) (slice_index (stream (gamma_from given seed hash_depth) j count plan.rounds) i)
 
 -- A simulation has one report.
 abbrev pub SimulationsAreOne : Type 0

@@ -1,8 +1,11 @@
 pub mod Batches
+pub mod CallEnds
 pub mod Clauses
 pub mod Commands
+pub mod FaultPlaces
 pub mod Laws
 pub mod Lines
+pub mod Output
 pub mod Promise
 pub mod Refusal
 pub mod Report

@@ -130,4 +130,4 @@ status_of (Blocked fault) = status.NoStrand
 
 -- a report of the code, as the definitions have it
 abbrev pub report_view : report.Report → Report
-report_view r = record { output = r.output.items; ending = r.ending }
+report_view r = record { output = r.output; ending = r.ending }

@@ -8,22 +8,25 @@ ghost use Rattle.script_check.specs.Valid.{IsValid};
 ghost use Rattle.seed_batch.specs.Batch.{main_answer};
 ghost use Rattle.serial_meaning.specs.KeptLines.{KeepsLines};
 ghost use Rattle.serial_meaning.specs.Plan.{PlanView};
-ghost use Rattle.engine.specs.Batches.{ArePlans, IsBatchOf, IsLawfulBatch, batch_ending, is_fault, settings_under, written};
+ghost use Rattle.serial_meaning.specs.Prints.{is_print};
+ghost use Rattle.engine.specs.Batches.{IsBatchOf, IsLawfulBatch, batch_ending, is_fault, plan_under, written};
 ghost use Rattle.engine.specs.Promise.{most_bytes};
 ghost use Rattle.engine.specs.Refusal.{IsMisfit};
-ghost use Rattle.engine.specs.Report.{IsPlanIn, report_view};
+ghost use Rattle.engine.specs.Report.{report_view};
 
-use crate::play::planned;
+use crate::output::Output;
+use crate::play::make_plan;
 use crate::refusal::Refusal;
 use crate::report::{Report, ReportEnd};
 use crate::script::valid_script;
-use crew::{Gate, Memory};
+use crew::Gate;
 use dotmix::Gamma;
 use ped_words::Settings;
+use script_check::Checked;
 use script_grammar::Items;
-use seed_batch::{render_batch, run_batch, run_batch_of_prints};
-use serial_meaning::{Answer, Keep, Limits, Outcome, Plan, Show};
-use std::alloc::Global;
+use seed_batch::{run_batch, run_batch_of_prints};
+use serial_meaning::{Answer, Keep, Limits, Outcome, Plan, Prints, Show};
+use std::alloc::{AllocError, Global};
 use std::sync::{Arc, Wait};
 use std::thread::Threads;
 
@@ -38,12 +41,16 @@ pub struct Batch {
     pub rounds: u32,
 }
 
-// The plan of the run under one seed.
-fn plan_under(alloc: Global, batch: &Batch, seed: u64, bytes: &[u8]) -> Result<Arc<Plan>, Refusal>
-    requires ready { IsLawfulBatch batch.now }
-    requires within { length bytes.now ≤ most_bytes }
-    ensures plan { IfOk result (λ plan. IsPlanIn (settings_under batch.now seed) bytes.now (arc_value plan)) }
-    ensures refused { IfErr result (IsMisfit IsValid bytes.now) }
+// The plan of the run under one seed. All of them have one script in memory.
+fn plan_under(
+    alloc: Global,
+    batch: &Batch,
+    script: &Checked,
+    seed: u64,
+) -> Result<Arc<Plan>, Refusal>
+    requires { IsLawfulBatch batch.now }
+    ensures plan { IfOk result (λ plan. arc_value plan ≡ plan_under batch.now script.now seed) }
+    ensures refused { IfErr result (λ refusal. refusal ≡ Refusal.Memory) }
 {
     let settings = Settings {
         gamma: Gamma::of_seed(alloc, seed, batch.limits.depth)?,
@@ -51,21 +58,20 @@ fn plan_under(alloc: Global, batch: &Batch, seed: u64, bytes: &[u8]) -> Result<A
         show: batch.show,
         rounds: batch.rounds,
     };
-    planned(alloc, settings, bytes)
+    Ok(Arc::new(alloc, make_plan(settings, script.share()?))?)
 }
 
 // The plans of all runs, in the order of the seeds.
 #[tactic(auto, using(crate::proofs::BatchLemmas::plan_more))]
-fn plans(alloc: Global, batch: &Batch, bytes: &[u8]) -> Result<Items<Arc<Plan>>, Refusal>
-    requires ready { IsLawfulBatch batch.now }
-    requires within { length bytes.now ≤ most_bytes }
-    ensures plans { IfOk result (λ plans. ArePlans batch.now bytes.now batch.now.seeds (map arc_value plans)) }
+fn plans(alloc: Global, batch: &Batch, script: &Checked) -> Result<Items<Arc<Plan>>, Refusal>
+    requires { IsLawfulBatch batch.now }
+    ensures plans { IfOk result (λ plans. map arc_value plans ≡ map (plan_under batch.now script.now) batch.now.seeds) }
     ensures count { IfOk result (λ plans. length plans ≡ length batch.now.seeds) }
-    ensures refused { IfErr result (IsMisfit IsValid bytes.now) }
+    ensures refused { IfErr result (λ refusal. refusal ≡ Refusal.Memory) }
 {
     let mut plans = Vec::new(alloc);
     for seed in batch.seeds.as_slice() {
-        plans.push(plan_under(alloc, batch, *seed, bytes)?)?;
+        plans.push(plan_under(alloc, batch, script, *seed)?)?;
     }
     Ok(Items(plans))
 }
@@ -93,24 +99,53 @@ fn ending_for<K: Keep>(answers: &[Answer<K>]) -> ReportEnd
     }
 }
 
-// What is written of the answers under all seeds, which keep all that has a line.
+// The report of the answers under all seeds, which keep their prints, where the plans show values alone.
 #[tactic(auto, using(crate::proofs::BatchLemmas::answers_whole, crate::proofs::BatchLemmas::answers_written))]
-fn answers_report<K: Keep>(
+fn prints_report(
     alloc: Global,
-    seeds: &Items<u64>,
-    answers: &Items<Answer<K>>,
+    seeds: Items<u64>,
+    answers: Items<Answer<Prints>>,
     plans: &Items<Arc<Plan>>,
-) -> Result<Report, Memory>
-    requires count { length plans.now ≡ length seeds.now }
-    requires answers { answers.now ≡ map main_answer (map arc_value plans.now) }
-    requires lines { All (λ (plan : PlanView). KeepsLines K.kept plan.show) (map arc_value plans.now) }
-    ensures { IfOk result (λ report. report_view report ≡ written seeds.now (map arc_value plans.now)) }
+) -> Report
+    requires count { length plans.now ≡ length seeds }
+    requires answers { answers ≡ map main_answer (map arc_value plans.now) }
+    requires lines { All (λ (plan : PlanView). KeepsLines is_print plan.show) (map arc_value plans.now) }
+    ensures { report_view result ≡ written seeds (map arc_value plans.now) }
 {
     // Read for the proof: the plans are in no other line, and the contract speaks of them.
     let _plans = plans;
-    let output = render_batch(alloc, seeds, answers)?;
     let ending = ending_for(answers.as_slice());
-    Ok(Report { output, ending })
+    Report {
+        output: Output::batch_of_prints(alloc, seeds, answers),
+        ending,
+    }
+}
+
+// The report of the answers under all seeds, which keep all events.
+#[tactic(auto, using(crate::proofs::BatchLemmas::answers_whole, crate::proofs::BatchLemmas::answers_written))]
+fn log_report(
+    alloc: Global,
+    seeds: Items<u64>,
+    answers: Items<Answer>,
+    plans: &Items<Arc<Plan>>,
+) -> Report
+    requires count { length plans.now ≡ length seeds }
+    requires answers { answers ≡ map main_answer (map arc_value plans.now) }
+    ensures { report_view result ≡ written seeds (map arc_value plans.now) }
+{
+    // Read for the proof: the plans are in no other line, and the contract speaks of them.
+    let _plans = plans;
+    let ending = ending_for(answers.as_slice());
+    Report {
+        output: Output::batch_of_logs(alloc, seeds, answers),
+        ending,
+    }
+}
+
+fn copied(alloc: Global, seeds: &Items<u64>) -> Result<Items<u64>, AllocError>
+    ensures { IfOk result (λ copy. copy ≡ seeds.now) }
+{
+    Ok(Items(seeds.as_slice().to_vec(alloc)?))
 }
 
 /// What runs on so many workers write, of the script that these bytes are the text of, under each seed. The gate is told of their tasks.
@@ -129,18 +164,17 @@ pub(crate) fn played_batch<R: Threads + Wait + Sync, G: Gate + Sync>(
     ensures report { IfOk result (λ report. IsBatchOf batch.now bytes.now (report_view report)) }
     ensures refused { IfErr result (IsMisfit IsValid bytes.now) }
 {
-    // Read for the proof: each plan has a script of its own, and a text has but one.
     let script = valid_script(alloc, bytes)?;
-    drop(script);
-    let plans = plans(alloc, batch, bytes)?;
+    let plans = plans(alloc, batch, &script)?;
+    let seeds = copied(alloc, &batch.seeds)?;
     match batch.show {
         Show::Plain => {
             let prints = run_batch_of_prints(rt, alloc, &plans, workers, gate)?;
-            Ok(answers_report(alloc, &batch.seeds, &prints, &plans)?)
+            Ok(prints_report(alloc, seeds, prints, &plans))
         }
         Show::Log => {
             let answers = run_batch(rt, alloc, &plans, workers, gate)?;
-            Ok(answers_report(alloc, &batch.seeds, &answers, &plans)?)
+            Ok(log_report(alloc, seeds, answers, &plans))
         }
     }
 }

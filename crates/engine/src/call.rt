@@ -1,27 +1,32 @@
-// What a call does, from its words to its status.
+// What a call does, from its words to its end. None of this is lent the error output: what the call's line tells is decided before it is
+// written.
 
-ghost use Rattle.std.specs.Prelude.{◌≡◌, codes, IfOk, IfErr, IsTrue, IsFalse, map, string_bytes};
+ghost use Rattle.std.specs.Prelude.{◌≡◌, IfOk, IfErr, IsTrue, IsFalse, map, string_bytes};
 ghost use Rattle.draw_lines.specs.Lines.{CanDraw, lines_of};
 ghost use Rattle.ped_words.specs.Reading.{reading};
 ghost use Rattle.ped_words.specs.Commands.{AreLawful, IsLawful, IsWorkers, is_batch};
 ghost use Rattle.engine.specs.Batches.{IsLawfulBatch, batch_command};
+ghost use Rattle.engine.specs.CallEnds.{Delivers, EndKeeps, EndMeans, EndRefuses, Puts, PutsWhereRoom, end_status};
 ghost use Rattle.engine.specs.Commands.{RunsOnWorkers, is_whole, takes_script};
-ghost use Rattle.engine.specs.Promise.{StatusMeans, HasReport, KeepsPromise, ReadWhole, ReadsNone, Refuses, WroteLine, Watched, has_line, has_output, watched};
-ghost use Rattle.engine.specs.Refusal.{Delivers, IsCause, IsFetchRefusal, Puts, Refused};
+ghost use Rattle.engine.specs.Promise.{HasReport, ReadWhole, ReadsNone, Watched, has_output, watched};
+ghost use Rattle.engine.specs.Refusal.{IsCause, IsFetchRefusal};
 ghost use Rattle.engine.specs.Report.{report_view};
 
 use crate::batch::{Batch, played_batch};
+use crate::call_end::CallEnd;
 use crate::command::{is_whole, takes_script};
 use crate::line::{blocked_line, no_strand_line, words_line};
+use crate::output::Output;
 use crate::play::played_by_crew;
 use crate::refusal::Refusal;
 use crate::report::{Report, ReportEnd, alone_report, script_report};
-use crate::status::Status;
 use crew::Gate;
 use draw_lines::{Stream, StreamError, write_stream};
 use ped_io::{ReadError, Sink, Source, read_all, write_all};
 use ped_words::{Command, Settings, WordError, read_words};
+use run_lines::Page;
 use std::alloc::Global;
+use std::mem::forget;
 use std::sync::Wait;
 use std::thread::Threads;
 
@@ -93,169 +98,113 @@ fn prepare_batch<R: Threads + Wait + Sync, S: Source, G: Gate + Sync>(
     played_batch(rt, alloc, batch, workers, &bytes, gate)
 }
 
-/// Writes a line of the error output. A failed write changes nothing else.
-pub fn write_error_line<E: Sink>(err: &mut E, line: &[u8])
-    ensures { WroteLine (watched E.written E.faults err.old err.new) line.now }
+/// Writes a text, and says how the call ends: so where it was written whole.
+pub fn put_text<K: Sink>(text: &[u8], whole: CallEnd, out: &mut K) -> CallEnd
+    ensures { Puts text.now whole (watched K.written K.faults out.old out.new) result }
 {
-    // What becomes of the line is told by the sink's faults.
-    let _ = write_all(err, line);
-}
-
-/// Writes an output, and gives this status where it was written whole.
-pub fn write_output<K: Sink, E: Sink>(
-    output: &[u8],
-    status: Status,
-    out: &mut K,
-    err: &mut E,
-) -> Status
-    ensures put { Puts output.now status (watched K.written K.faults out.old out.new) (watched E.written E.faults err.old err.new) result }
-    ensures no_line { IsFalse (has_line result) → err.new ≡ err.old }
-{
-    match write_all(out, output) {
-        Ok(()) => status,
-        Err(_) => end_output(err),
+    match write_all(out, text) {
+        Ok(()) => whole,
+        Err(_) => CallEnd::Write,
     }
 }
 
-// Tells that an output wasn't written whole.
-fn end_output<E: Sink>(err: &mut E) -> Status
-    ensures status { result ≡ Status.Write }
-    ensures told { WroteLine (watched E.written E.faults err.old err.new) (codes "write fault\n") }
+// Writes an output by pieces, and says how the call ends: so where it was written whole. The memory is taken before the first write.
+fn put_output<K: Sink>(alloc: Global, output: &Output, whole: CallEnd, out: &mut K) -> CallEnd
+    requires { IsTrue (has_output (end_status whole)) }
+    ensures put { PutsWhereRoom output.now whole (watched K.written K.faults out.old out.new) result }
+    ensures no_output { IsFalse (has_output (end_status result)) → out.new ≡ out.old }
 {
-    write_error_line(err, b"write fault\n");
-    Status::Write
+    let Ok(mut page) = Page::new(alloc) else {
+        return CallEnd::Refused(Refusal::Memory);
+    };
+    match output.write(&mut page, out) {
+        Ok(()) => whole,
+        Err(_) => CallEnd::Write,
+    }
 }
 
-/// Tells that there was no memory.
-pub fn write_memory_line<E: Sink>(err: &mut E) -> Status
-    ensures status { result ≡ Status.Memory }
-    ensures told { WroteLine (watched E.written E.faults err.old err.new) (codes "out of memory\n") }
-{
-    write_error_line(err, b"out of memory\n");
-    Status::Memory
-}
-
-// Writes this line, that there is no strand.
-fn write_no_strand<E: Sink>(line: &[u8], err: &mut E) -> Status
-    ensures status { result ≡ Status.NoStrand }
-    ensures told { WroteLine (watched E.written E.faults err.old err.new) line.now }
-{
-    write_error_line(err, line);
-    Status::NoStrand
-}
-
-// Writes a report, or tells that there is no strand, and says how the call ends.
-fn deliver<K: Sink, E: Sink>(alloc: Global, report: &Report, out: &mut K, err: &mut E) -> Status
-    ensures delivered { Delivers report.now.output.items report.now.ending (watched K.written K.faults out.old out.new) (watched E.written E.faults err.old err.new) result }
-    ensures no_output { IsFalse (has_output result) → out.new ≡ out.old }
-    ensures no_line { IsFalse (has_line result) → err.new ≡ err.old }
+// Writes a report, unless it is that there is no strand, and says how the call ends.
+fn put_report<K: Sink>(alloc: Global, report: &Report, out: &mut K) -> CallEnd
+    ensures delivered { Delivers report.now.output report.now.ending (watched K.written K.faults out.old out.new) result }
+    ensures no_output { IsFalse (has_output (end_status result)) → out.new ≡ out.old }
 {
     match &report.ending {
-        ReportEnd::Done => write_output(&report.output, Status::Done, out, err),
-        ReportEnd::Faulted => write_output(&report.output, Status::Faulted, out, err),
+        ReportEnd::Done => put_output(alloc, &report.output, CallEnd::Done, out),
+        ReportEnd::Faulted => put_output(alloc, &report.output, CallEnd::Faulted, out),
         ReportEnd::NoStrand(at) => match no_strand_line(alloc, at) {
-            Ok(line) => write_no_strand(&line, err),
-            Err(_) => write_memory_line(err),
+            Ok(line) => CallEnd::NoStrand(line),
+            Err(_) => CallEnd::Refused(Refusal::Memory),
         },
         ReportEnd::Blocked(fault) => match blocked_line(alloc, &fault.at) {
-            Ok(line) => write_no_strand(&line, err),
-            Err(_) => write_memory_line(err),
+            Ok(line) => CallEnd::NoStrand(line),
+            Err(_) => CallEnd::Refused(Refusal::Memory),
         },
     }
 }
 
-// Tells why no report was made.
-fn refuse<E: Sink>(refusal: &Refusal, err: &mut E) -> Status
-    ensures told { Refused refusal.now (watched E.written E.faults err.old err.new) result }
+// The same. The report's memory is left to the end of the process, which is next: to give back each event takes a third of the time that a run
+// takes on four workers.
+fn deliver<K: Sink>(alloc: Global, report: Report, out: &mut K) -> CallEnd
+    ensures delivered { Delivers report.output report.ending (watched K.written K.faults out.old out.new) result }
+    ensures no_output { IsFalse (has_output (end_status result)) → out.new ≡ out.old }
 {
-    match refusal {
-        Refusal::TooLong => {
-            write_error_line(err, b"script: too long\n");
-            Status::Script
-        }
-        Refusal::Untaken(line) => {
-            write_error_line(err, line.as_bytes());
-            Status::Script
-        }
-        Refusal::Read => {
-            write_error_line(err, b"read fault\n");
-            Status::Read
-        }
-        Refusal::Memory => write_memory_line(err),
-    }
+    let end = put_report(alloc, &report, out);
+    forget(report);
+    end
 }
 
-// Tells which rule the words break.
-fn refuse_words<E: Sink>(alloc: Global, error: WordError, err: &mut E) -> Status
-    ensures { Refuses error (watched E.written E.faults err.old err.new) result }
+// How a call ends whose words are refused.
+fn refused_words(alloc: Global, error: WordError) -> CallEnd
+    ensures { EndRefuses error result }
 {
     let WordError::Bad { number, at } = error else {
-        return write_memory_line(err);
+        return CallEnd::Refused(Refusal::Memory);
     };
     match words_line(alloc, number, at) {
-        Ok(line) => {
-            write_error_line(err, line.as_bytes());
-            Status::Words
-        }
-        Err(_) => write_memory_line(err),
+        Ok(line) => CallEnd::Words(line),
+        Err(_) => CallEnd::Refused(Refusal::Memory),
     }
 }
 
 // Runs a command whose report is made whole.
-fn serve_whole<S: Source, K: Sink, E: Sink>(
+fn serve_whole<S: Source, K: Sink>(
     alloc: Global,
     command: Command,
     source: &mut S,
     out: &mut K,
-    err: &mut E,
-) -> Status
+) -> CallEnd
     requires lawful { IsLawful command }
     requires whole { IsTrue (is_whole command) }
     requires alone { IsFalse (is_batch command) }
-    ensures answers { StatusMeans command (watched S.left S.faults source.old source.new) (watched K.written K.faults out.old out.new)
-        (watched E.written E.faults err.old err.new) result }
+    ensures answers { EndMeans command (watched S.left S.faults source.old source.new) (watched K.written K.faults out.old out.new) result }
     ensures untouched { IsFalse (takes_script command) → source.new ≡ source.old }
-    ensures no_output { IsFalse (has_output result) → out.new ≡ out.old }
-    ensures no_line { IsFalse (has_line result) → err.new ≡ err.old }
+    ensures no_output { IsFalse (has_output (end_status result)) → out.new ≡ out.old }
 {
     match prepare(alloc, command, source) {
-        Ok(report) => deliver(alloc, &report, out, err),
-        Err(refusal) => refuse(&refusal, err),
+        Ok(report) => deliver(alloc, report, out),
+        Err(refusal) => CallEnd::Refused(refusal),
     }
 }
 
 // Writes a stream, block by block.
-fn serve_stream<K: Sink, E: Sink>(
-    alloc: Global,
-    stream: Stream,
-    count: u32,
-    out: &mut K,
-    err: &mut E,
-) -> Status
+fn serve_stream<K: Sink>(alloc: Global, stream: Stream, count: u32, out: &mut K) -> CallEnd
     requires { CanDraw stream count }
-    ensures delivered { Delivers (lines_of stream count) ReportEnd.Done (watched K.written K.faults out.old out.new) (watched E.written E.faults err.old err.new) result }
-    ensures no_output { IsFalse (has_output result) → out.new ≡ out.old }
-    ensures no_line { IsFalse (has_line result) → err.new ≡ err.old }
+    ensures delivered { Delivers (lines_of stream count) ReportEnd.Done (watched K.written K.faults out.old out.new) result }
+    ensures no_output { IsFalse (has_output (end_status result)) → out.new ≡ out.old }
 {
     match write_stream(alloc, stream, count, out) {
-        Ok(()) => Status::Done,
-        Err(StreamError::Fault) => end_output(err),
-        Err(StreamError::Memory) => write_memory_line(err),
+        Ok(()) => CallEnd::Done,
+        Err(StreamError::Fault) => CallEnd::Write,
+        Err(StreamError::Memory) => CallEnd::Refused(Refusal::Memory),
     }
 }
 
 // Runs a command whose report is written in parts, which reads no source.
-fn serve_in_parts<K: Sink, E: Sink>(
-    alloc: Global,
-    command: Command,
-    out: &mut K,
-    err: &mut E,
-) -> Status
+fn serve_in_parts<K: Sink>(alloc: Global, command: Command, out: &mut K) -> CallEnd
     requires lawful { IsLawful command }
     requires in_parts { IsFalse (is_whole command) }
-    ensures answers { (source : Watched) → StatusMeans command source (watched K.written K.faults out.old out.new) (watched E.written E.faults err.old err.new) result }
-    ensures no_output { IsFalse (has_output result) → out.new ≡ out.old }
-    ensures no_line { IsFalse (has_line result) → err.new ≡ err.old }
+    ensures answers { (source : Watched) → EndMeans command source (watched K.written K.faults out.old out.new) result }
+    ensures no_output { IsFalse (has_output (end_status result)) → out.new ≡ out.old }
 {
     match command {
         Command::Stream {
@@ -271,103 +220,91 @@ fn serve_in_parts<K: Sink, E: Sink>(
                 rounds,
                 below,
             };
-            serve_stream(alloc, stream, count, out, err)
+            serve_stream(alloc, stream, count, out)
         }
         _ => unreachable!(),
     }
 }
 
 // Runs a command that is no batch, on the caller's thread.
-fn serve<S: Source, K: Sink, E: Sink>(
+fn serve<S: Source, K: Sink>(
     alloc: Global,
     command: Command,
     source: &mut S,
     out: &mut K,
-    err: &mut E,
-) -> Status
+) -> CallEnd
     requires lawful { IsLawful command }
     requires alone { IsFalse (is_batch command) }
-    ensures answers { StatusMeans command (watched S.left S.faults source.old source.new) (watched K.written K.faults out.old out.new)
-        (watched E.written E.faults err.old err.new) result }
+    ensures answers { EndMeans command (watched S.left S.faults source.old source.new) (watched K.written K.faults out.old out.new) result }
     ensures untouched { IsFalse (takes_script command) → source.new ≡ source.old }
-    ensures no_output { IsFalse (has_output result) → out.new ≡ out.old }
-    ensures no_line { IsFalse (has_line result) → err.new ≡ err.old }
+    ensures no_output { IsFalse (has_output (end_status result)) → out.new ≡ out.old }
 {
     if is_whole(&command) {
-        serve_whole(alloc, command, source, out, err)
+        serve_whole(alloc, command, source, out)
     } else {
-        serve_in_parts(alloc, command, out, err)
+        serve_in_parts(alloc, command, out)
     }
 }
 
 // Runs a script on so many workers.
-fn serve_run<R: Threads + Wait + Sync, S: Source, K: Sink, E: Sink, G: Gate + Sync>(
+fn serve_run<R: Threads + Wait + Sync, S: Source, K: Sink, G: Gate + Sync>(
     rt: &R,
     alloc: Global,
     settings: Settings,
     workers: u32,
     source: &mut S,
     out: &mut K,
-    err: &mut E,
     gate: &G,
-) -> Status
+) -> CallEnd
     requires lawful { AreLawful settings }
     requires workers { IsWorkers workers }
-    ensures answers { StatusMeans (Command.Run settings workers) (watched S.left S.faults source.old source.new) (watched K.written K.faults out.old out.new)
-        (watched E.written E.faults err.old err.new) result }
-    ensures no_output { IsFalse (has_output result) → out.new ≡ out.old }
-    ensures no_line { IsFalse (has_line result) → err.new ≡ err.old }
+    ensures answers { EndMeans (Command.Run settings workers) (watched S.left S.faults source.old source.new) (watched K.written K.faults out.old out.new) result }
+    ensures no_output { IsFalse (has_output (end_status result)) → out.new ≡ out.old }
 {
     match prepare_run(rt, alloc, settings, workers, source, gate) {
-        Ok(report) => deliver(alloc, &report, out, err),
-        Err(refusal) => refuse(&refusal, err),
+        Ok(report) => deliver(alloc, report, out),
+        Err(refusal) => CallEnd::Refused(refusal),
     }
 }
 
 // Runs a script under a list of seeds, on so many workers.
-fn serve_batch<R: Threads + Wait + Sync, S: Source, K: Sink, E: Sink, G: Gate + Sync>(
+fn serve_batch<R: Threads + Wait + Sync, S: Source, K: Sink, G: Gate + Sync>(
     rt: &R,
     alloc: Global,
     batch: &Batch,
     workers: u32,
     source: &mut S,
     out: &mut K,
-    err: &mut E,
     gate: &G,
-) -> Status
+) -> CallEnd
     requires ready { IsLawfulBatch batch.now }
     requires workers { IsWorkers workers }
-    ensures answers { StatusMeans (batch_command batch.now workers) (watched S.left S.faults source.old source.new) (watched K.written K.faults out.old out.new)
-        (watched E.written E.faults err.old err.new) result }
-    ensures no_output { IsFalse (has_output result) → out.new ≡ out.old }
-    ensures no_line { IsFalse (has_line result) → err.new ≡ err.old }
+    ensures answers { EndMeans (batch_command batch.now workers) (watched S.left S.faults source.old source.new) (watched K.written K.faults out.old out.new) result }
+    ensures no_output { IsFalse (has_output (end_status result)) → out.new ≡ out.old }
 {
     match prepare_batch(rt, alloc, batch, workers, source, gate) {
-        Ok(report) => deliver(alloc, &report, out, err),
-        Err(refusal) => refuse(&refusal, err),
+        Ok(report) => deliver(alloc, report, out),
+        Err(refusal) => CallEnd::Refused(refusal),
     }
 }
 
 // Runs a command, `run` and `batch` by workers on threads.
-fn serve_by_crew<R: Threads + Wait + Sync, S: Source, K: Sink, E: Sink, G: Gate + Sync>(
+fn serve_by_crew<R: Threads + Wait + Sync, S: Source, K: Sink, G: Gate + Sync>(
     rt: &R,
     alloc: Global,
     command: Command,
     source: &mut S,
     out: &mut K,
-    err: &mut E,
     gate: &G,
-) -> Status
+) -> CallEnd
     requires { IsLawful command }
-    ensures answers { StatusMeans command (watched S.left S.faults source.old source.new) (watched K.written K.faults out.old out.new)
-        (watched E.written E.faults err.old err.new) result }
+    ensures answers { EndMeans command (watched S.left S.faults source.old source.new) (watched K.written K.faults out.old out.new) result }
     ensures untouched { IsFalse (takes_script command) → source.new ≡ source.old }
-    ensures no_output { IsFalse (has_output result) → out.new ≡ out.old }
-    ensures no_line { IsFalse (has_line result) → err.new ≡ err.old }
+    ensures no_output { IsFalse (has_output (end_status result)) → out.new ≡ out.old }
 {
     match command {
         Command::Run { settings, workers } => {
-            serve_run(rt, alloc, settings, workers, source, out, err, gate)
+            serve_run(rt, alloc, settings, workers, source, out, gate)
         }
         Command::Batch {
             seeds,
@@ -382,57 +319,47 @@ fn serve_by_crew<R: Threads + Wait + Sync, S: Source, K: Sink, E: Sink, G: Gate 
                 show,
                 rounds,
             };
-            serve_batch(rt, alloc, &batch, workers, source, out, err, gate)
+            serve_batch(rt, alloc, &batch, workers, source, out, gate)
         }
-        command => serve(alloc, command, source, out, err),
+        command => serve(alloc, command, source, out),
     }
 }
 
 /// Reads the words and runs their command on the caller's thread. The first word isn't that of a command that runs on workers.
-pub(crate) fn perform<S: Source, K: Sink, E: Sink>(
+pub(crate) fn perform<S: Source, K: Sink>(
     alloc: Global,
     words: &[String],
     script: &mut S,
     out: &mut K,
-    err: &mut E,
-) -> Status
+) -> CallEnd
     requires { RunsOnWorkers (map string_bytes words.now) → ⊥ }
-    ensures promise { KeepsPromise (reading (map string_bytes words.now)) (watched S.left S.faults script.old script.new)
-        (watched K.written K.faults out.old out.new) (watched E.written E.faults err.old err.new) result }
+    ensures promise { EndKeeps (reading (map string_bytes words.now)) (watched S.left S.faults script.old script.new)
+        (watched K.written K.faults out.old out.new) result }
     ensures untouched { ReadsNone (reading (map string_bytes words.now)) → script.new ≡ script.old }
-    ensures no_output { IsFalse (has_output result) → out.new ≡ out.old }
-    ensures no_line { IsFalse (has_line result) → err.new ≡ err.old }
+    ensures no_output { IsFalse (has_output (end_status result)) → out.new ≡ out.old }
 {
     match read_words(alloc, words) {
-        Ok(command) => serve(alloc, command, script, out, err),
-        Err(error) => refuse_words(alloc, error, err),
+        Ok(command) => serve(alloc, command, script, out),
+        Err(error) => refused_words(alloc, error),
     }
 }
 
 /// Reads the words and runs their command. `run` and `batch` go by workers on threads. The gate is told of their tasks.
-pub(crate) fn perform_by_crew<
-    R: Threads + Wait + Sync,
-    S: Source,
-    K: Sink,
-    E: Sink,
-    G: Gate + Sync,
->(
+pub(crate) fn perform_by_crew<R: Threads + Wait + Sync, S: Source, K: Sink, G: Gate + Sync>(
     rt: &R,
     alloc: Global,
     words: &[String],
     script: &mut S,
     out: &mut K,
-    err: &mut E,
     gate: &G,
-) -> Status
-    ensures promise { KeepsPromise (reading (map string_bytes words.now)) (watched S.left S.faults script.old script.new)
-        (watched K.written K.faults out.old out.new) (watched E.written E.faults err.old err.new) result }
+) -> CallEnd
+    ensures promise { EndKeeps (reading (map string_bytes words.now)) (watched S.left S.faults script.old script.new)
+        (watched K.written K.faults out.old out.new) result }
     ensures untouched { ReadsNone (reading (map string_bytes words.now)) → script.new ≡ script.old }
-    ensures no_output { IsFalse (has_output result) → out.new ≡ out.old }
-    ensures no_line { IsFalse (has_line result) → err.new ≡ err.old }
+    ensures no_output { IsFalse (has_output (end_status result)) → out.new ≡ out.old }
 {
     match read_words(alloc, words) {
-        Ok(command) => serve_by_crew(rt, alloc, command, script, out, err, gate),
-        Err(error) => refuse_words(alloc, error, err),
+        Ok(command) => serve_by_crew(rt, alloc, command, script, out, gate),
+        Err(error) => refused_words(alloc, error),
     }
 }

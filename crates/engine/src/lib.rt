@@ -3,9 +3,12 @@
 
 pub mod batch;
 pub mod call;
+pub mod call_end;
 pub mod command;
 pub mod laws;
 pub mod line;
+pub mod output;
+pub mod place;
 mod play;
 pub mod refusal;
 pub mod report;
@@ -14,5 +17,6 @@ pub mod status;
 pub mod top;
 
 pub use crew::{Gate, OpenGate};
+pub use place::{FaultPlace, fault_place};
 pub use status::Status;
 pub use top::{is_run, pedrun, pedrun_plain, pedrun_run};

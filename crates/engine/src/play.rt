@@ -6,6 +6,7 @@ ghost use Rattle.ped_words.specs.Commands.{AreLawful, IsWorkers};
 ghost use Rattle.script_check.specs.Valid.{IsValid};
 ghost use Rattle.serial_meaning.specs.Eval.{main_origin};
 ghost use Rattle.serial_meaning.specs.KeptLines.{KeepsLines};
+ghost use Rattle.serial_meaning.specs.Prints.{is_print};
 ghost use Rattle.serial_meaning.specs.Render.{IsWhole, end_line};
 ghost use Rattle.strand_meaning.specs.Laws.{IsFaultOf};
 ghost use Rattle.strand_meaning.specs.Strands.{strand_at};
@@ -13,6 +14,7 @@ ghost use Rattle.engine.specs.Promise.{most_bytes};
 ghost use Rattle.engine.specs.Refusal.{IsMisfit};
 ghost use Rattle.engine.specs.Report.{IsPlanIn, IsPlanOf, IsReplayOf, IsRunOf, IsSimOf, IsSpanOf, IsSpanReport, found_report, outcome_ending, plan_of, run_report, report_view, span_lines, strand_report, worker_line};
 
+use crate::output::Output;
 use crate::refusal::Refusal;
 use crate::report::{Report, ReportEnd};
 use crate::script::valid_script;
@@ -23,16 +25,15 @@ use replay::{ReplayError, replay};
 use sched_core::{Simulated, simulate};
 use script_check::Checked;
 use serial_meaning::{
-    Answer, Keep, Memory, Out, Outcome, Plan, Prints, Show, Strand, laws, render_kept,
-    render_strand,
+    Answer, Keep, Memory, Out, Outcome, Plan, Prints, Show, Strand, laws, render_strand,
 };
 use span_report::{Span, span};
 use std::alloc::{AllocError, Global};
-use std::mem::forget;
 use std::sync::{Arc, Wait};
 use std::thread::Threads;
 
-fn make_plan(settings: Settings, script: Checked) -> Plan
+/// The plan of these settings and this script.
+pub(crate) fn make_plan(settings: Settings, script: Checked) -> Plan
     requires { AreLawful settings }
     ensures { result ≡ plan_of settings script }
 {
@@ -67,30 +68,34 @@ fn ending_for(outcome: &Outcome) -> ReportEnd
     }
 }
 
-// What is written of main's answer, which keeps all that has a line.
-fn answer_report<K: Keep>(alloc: Global, answer: &Answer<K>) -> Result<Report, Memory>
-    requires main { answer.now.origin ≡ main_origin answer.now.plan }
-    requires whole { IsWhole answer.now.outcome }
-    requires lines { KeepsLines K.kept answer.now.plan.show }
-    ensures { IfOk result (λ report. report_view report ≡ run_report answer.now.plan) }
-{
-    laws::whole_answers_are_evals();
-    let output = render_kept(alloc, answer)?;
-    let ending = ending_for(&answer.outcome);
-    Ok(Report { output, ending })
-}
-
-// The same. The answer's memory is left to the end of the process, which is next: to give back each event takes a third of the time that a run takes on four
-// workers.
-fn reported<K: Keep>(alloc: Global, answer: Answer<K>) -> Result<Report, Memory>
+// The report of main's answer, which keeps its prints, where the plan shows values alone.
+fn prints_report(alloc: Global, answer: Answer<Prints>) -> Report
     requires main { answer.origin ≡ main_origin answer.plan }
     requires whole { IsWhole answer.outcome }
-    requires lines { KeepsLines K.kept answer.plan.show }
-    ensures { IfOk result (λ report. report_view report ≡ run_report answer.plan) }
+    requires lines { KeepsLines is_print answer.plan.show }
+    ensures { report_view result ≡ run_report answer.plan }
 {
-    let report = answer_report(alloc, &answer);
-    forget(answer);
-    report
+    laws::whole_answers_are_evals();
+    let ending = ending_for(&answer.outcome);
+    Report {
+        output: Output::prints(alloc, answer),
+        ending,
+    }
+}
+
+// The report of main's answer, which keeps all events, with this text before its lines.
+fn log_report(text: Vec<u8>, answer: Answer) -> Report
+    requires main { answer.origin ≡ main_origin answer.plan }
+    requires whole { IsWhole answer.outcome }
+    ensures output { result.output ≡ text.items ++ (run_report answer.plan).output }
+    ensures ending { result.ending ≡ (run_report answer.plan).ending }
+{
+    laws::whole_answers_are_evals();
+    let ending = ending_for(&answer.outcome);
+    Report {
+        output: Output::log(text, answer),
+        ending,
+    }
 }
 
 // Runs main on the caller's thread.
@@ -115,11 +120,11 @@ pub(crate) fn played(alloc: Global, settings: Settings, bytes: &[u8]) -> Result<
     match plan.show {
         Show::Plain => {
             let prints: Answer<Prints> = run_alone(alloc, &plan)?;
-            Ok(reported(alloc, prints)?)
+            Ok(prints_report(alloc, prints))
         }
         Show::Log => {
             let answer: Answer = run_alone(alloc, &plan)?;
-            Ok(reported(alloc, answer)?)
+            Ok(log_report(Vec::new(alloc), answer))
         }
     }
 }
@@ -144,11 +149,11 @@ pub(crate) fn played_by_crew<R: Threads + Wait + Sync, G: Gate + Sync>(
     match plan.show {
         Show::Plain => {
             let prints = run_crew_of_prints(rt, alloc, &plan, workers, gate)?;
-            Ok(reported(alloc, prints)?)
+            Ok(prints_report(alloc, prints))
         }
         Show::Log => {
             let answer = run_crew(rt, alloc, &plan, workers, gate)?;
-            Ok(reported(alloc, answer)?)
+            Ok(log_report(Vec::new(alloc), answer))
         }
     }
 }
@@ -160,22 +165,16 @@ fn worker_line(alloc: Global, worker: u32) -> Result<Vec<u8>, AllocError>
     Ok(line.into_bytes())
 }
 
-// What is written of main's answer in a simulation, and of the worker that gave it.
-fn sim_report(alloc: Global, simulated: Simulated) -> Result<Report, Memory>
+// The report of main's answer in a simulation, and of the worker that gave it.
+fn sim_report(alloc: Global, simulated: Simulated) -> Result<Report, AllocError>
     requires main { simulated.answer.origin ≡ main_origin simulated.answer.plan }
     requires whole { IsWhole simulated.answer.outcome }
-    ensures output { IfOk result (λ report. report.output.items ≡ worker_line simulated.worker ++ (run_report simulated.answer.plan).output) }
+    ensures output { IfOk result (λ report. report.output ≡ worker_line simulated.worker ++ (run_report simulated.answer.plan).output) }
     ensures ending { IfOk result (λ report. report.ending ≡ (run_report simulated.answer.plan).ending) }
 {
     let Simulated { answer, worker } = simulated;
-    let report = reported(alloc, answer);
-    let mut output = worker_line(alloc, worker)?;
-    let Report {
-        output: lines,
-        ending,
-    } = report?;
-    output.extend_from_slice(&lines)?;
-    Ok(Report { output, ending })
+    let text = worker_line(alloc, worker)?;
+    Ok(log_report(text, answer))
 }
 
 /// What a simulation of a run on so many workers writes of the script that these bytes are the text of. The words of the number pick its
@@ -242,7 +241,10 @@ fn measure_report(alloc: Global, answer: Answer) -> Result<Report, Memory>
     let mut output = span_lines(alloc, measured)?;
     let end = end?;
     output.extend_from_slice(&end)?;
-    Ok(Report { output, ending })
+    Ok(Report {
+        output: Output::text(output),
+        ending,
+    })
 }
 
 /// The work and the span of a run on the caller's thread, of the script that these bytes are the text of.
@@ -261,12 +263,15 @@ pub(crate) fn measured(alloc: Global, settings: Settings, bytes: &[u8]) -> Resul
 fn strand_report(alloc: Global, strand: &Strand) -> Result<Report, Memory>
     ensures { IfOk result (λ report. report_view report ≡ strand_report strand.now) }
 {
-    let output = render_strand(alloc, strand)?;
+    let text = render_strand(alloc, strand)?;
     let ending = match &strand.fault {
         Some(_) => ReportEnd::Faulted,
         None => ReportEnd::Done,
     };
-    Ok(Report { output, ending })
+    Ok(Report {
+        output: Output::text(text),
+        ending,
+    })
 }
 
 // No output, and why.
@@ -274,7 +279,7 @@ fn absent(alloc: Global, ending: ReportEnd) -> Report
     ensures { report_view result ≡ record { output = []; ending = ending } }
 {
     Report {
-        output: Vec::new(alloc),
+        output: Output::text(Vec::new(alloc)),
         ending,
     }
 }

@@ -91,6 +91,16 @@ impl From<serial_meaning::Memory> for Refusal {
     }
 }
 
+impl From<script_check::Memory> for Refusal {
+    ghost use Rattle.engine.specs.declared.refusal.Refusal.TheVariants as R;
+
+    ghost from_gives = { λ _ e. e ≡ R.Memory };
+
+    fn from(_: script_check::Memory) -> Self {
+        Refusal::Memory
+    }
+}
+
 impl From<script_print::Memory> for Refusal {
     ghost use Rattle.engine.specs.declared.refusal.Refusal.TheVariants as R;
 

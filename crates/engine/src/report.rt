@@ -8,6 +8,7 @@ ghost use Rattle.engine.specs.Promise.{most_bytes};
 ghost use Rattle.engine.specs.Refusal.{IsMisfit};
 ghost use Rattle.engine.specs.Report.{hash_text, said, report_view};
 
+use crate::output::Output;
 use crate::play::{measured, played, replayed, simulated};
 use crate::refusal::Refusal;
 use crate::script::{any_script, valid_script};
@@ -36,7 +37,7 @@ pub enum ReportEnd {
 #[derive(Drop)]
 pub struct Report {
     /// The bytes for the output: lines, each with a line feed at its end.
-    pub output: Vec<u8>,
+    pub output: Output,
     /// How the command ended, which gives the status.
     pub ending: ReportEnd,
 }
@@ -47,7 +48,7 @@ impl Report {
         ensures { report_view result ≡ said output.items }
     {
         Report {
-            output,
+            output: Output::text(output),
             ending: ReportEnd::Done,
         }
     }

@@ -1,5 +1,5 @@
 -- What is printed of main's answers under a list of seeds.
-use Rattle.std.proofs.Common.{◌≡◌, ◌≤◌, ◌<◌, ◌+◌, ℕ, All, List, [], ◌∷◌, ◌++◌, Result, Ok, Err, map, length, drop, get_or, refl, sym, ap, ap₂, ◌∙◌, subst, append_assoc, append-nil}
+use Rattle.std.proofs.Common.{◌≡◌, ◌≤◌, ◌<◌, ◌+◌, ℕ, All, List, [], ◌∷◌, ◌++◌, Result, Ok, Err, map, length, drop, get_or, refl, sym, ap, ap₂, ◌∙◌, subst}
 use Rattle.std.proofs.lemmas.List.{drop_more, drop_all}
 use Rattle.std.proofs.lemmas.List.Elements.{All-map}
 use Rattle.serial_meaning.specs.Plan.{PlanView}
@@ -54,25 +54,20 @@ all_are_whole plans answers e =
     subst (All (λ (answer : AnswerView). IsWhole answer.outcome)) (sym e)
     (All-map (λ (answer : AnswerView). IsWhole answer.outcome) main_answer plans (λ k d within. main-is-whole (get_or plans k d)))
 
--- One part more is printed
+-- The parts from the i-th on are that one and those after it
 
-pub part-more : (seeds : List ℕ) (answers : List AnswerView) (text text' all : List ℕ) (i d s : ℕ) (e a : AnswerView) → i < length seeds → i < length answers → s ≡ get_or seeds i d →
-    a ≡ get_or answers i e → text' ≡ text ++ seed_lines s (answer_text a) → text ++ batch_text (drop i seeds) (drop i answers) ≡ all →
-    text' ++ batch_text (drop (i + 1) seeds) (drop (i + 1) answers) ≡ all
-part-more seeds answers text text' all i d s e a in-seeds in-answers is-s is-a more was =
-    ap (λ (t : List ℕ). t ++ batch_text (drop (i + 1) seeds) (drop (i + 1) answers)) more
-    ∙ append_assoc text (seed_lines s (answer_text a)) (batch_text (drop (i + 1) seeds) (drop (i + 1) answers))
-    ∙ ap₂ (λ (x : ℕ) (y : AnswerView). text ++ batch_text (x ∷ drop (i + 1) seeds) (y ∷ drop (i + 1) answers)) is-s is-a
-    ∙ sym (ap₂ (λ (xs : List ℕ) (ys : List AnswerView). text ++ batch_text xs ys) (drop_more seeds i d in-seeds) (drop_more answers i e in-answers))
-    ∙ was
+pub part-next : (seeds : List ℕ) (answers : List AnswerView) (i d s : ℕ) (e a : AnswerView) → i < length seeds → i < length answers → s ≡ get_or seeds i d → a ≡ get_or answers i e →
+    batch_text (drop i seeds) (drop i answers) ≡ seed_lines s (answer_text a) ++ batch_text (drop (i + 1) seeds) (drop (i + 1) answers)
+part-next seeds answers i d s e a in-seeds in-answers is-s is-a =
+    ap₂ (λ (xs : List ℕ) (ys : List AnswerView). batch_text xs ys) (drop_more seeds i d in-seeds) (drop_more answers i e in-answers)
+    ∙ sym (ap₂ (λ (x : ℕ) (y : AnswerView). batch_text (x ∷ drop (i + 1) seeds) (y ∷ drop (i + 1) answers)) is-s is-a)
 
 no-parts : (seeds : List ℕ) → batch_text seeds [] ≡ []
 no-parts [] = refl
 no-parts (s ∷ ss) = refl
 
-pub all-parts : (seeds : List ℕ) (answers : List AnswerView) (text all : List ℕ) (i : ℕ) → length answers ≤ i → text ++ batch_text (drop i seeds) (drop i answers) ≡ all → text ≡ all
-all-parts seeds answers text all i end was =
-    sym (append-nil text) ∙ ap (λ (t : List ℕ). text ++ t) (sym (ap (batch_text (drop i seeds)) (drop_all i answers end) ∙ no-parts (drop i seeds))) ∙ was
+pub parts-end : (seeds : List ℕ) (answers : List AnswerView) (i : ℕ) → length answers ≤ i → batch_text (drop i seeds) (drop i answers) ≡ []
+parts-end seeds answers i end = ap (batch_text (drop i seeds)) (drop_all i answers end) ∙ no-parts (drop i seeds)
 
 -- What is printed of main's answers, where each seed has this plan
 

@@ -5,5 +5,5 @@ mod render;
 mod run;
 
 pub use crew::{Gate, Memory};
-pub use render::render_batch;
+pub use render::put_batch;
 pub use run::{run_batch, run_batch_of_prints};

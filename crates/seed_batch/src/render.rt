@@ -1,51 +1,70 @@
 // What is printed of a batch.
-ghost use Rattle.std.specs.Prelude.{◌≡◌, ◌++◌, All, IfOk, OnOk, length};
+ghost use Rattle.std.specs.Prelude.{◌≡◌, ◌++◌, All, OnErr, OnOk, codes, decimal, length};
+ghost use Rattle.ped_io.specs.Causes.{HasCause};
+ghost use Rattle.ped_io.specs.Streams.{AppendsFront};
+ghost use Rattle.run_lines.specs.Puts.{Puts};
 ghost use Rattle.serial_meaning.specs.Answer.{AnswerView};
 ghost use Rattle.serial_meaning.specs.KeptLines.{KeepsLines};
-ghost use Rattle.serial_meaning.specs.Render.{IsWhole, answer_text};
+ghost use Rattle.serial_meaning.specs.Render.{IsWhole, answer_text, line};
 ghost use Rattle.seed_batch.specs.Batch.{batch_text, seed_lines};
 
-use crew::Memory;
-use itoa::Buffer;
+use ped_io::{Failed, Sink};
+use run_lines::{Page, Piece, put_answer, put_pieces};
 use script_grammar::Items;
-use serial_meaning::{Answer, Keep, render_kept};
-use std::alloc::Global;
+use serial_meaning::{Answer, Keep};
 
-/// Writes the part of a seed, with what a run prints of this answer.
-fn write_part<K: Keep>(
-    alloc: Global,
-    seed: u64,
-    answer: &Answer<K>,
-    text: &mut Vec<u8>,
-) -> Result<(), Memory>
-    requires whole { IsWhole answer.now.outcome }
-    requires lines { KeepsLines K.kept answer.now.plan.show }
-    ensures { OnOk result (text.new.items ≡ text.old.items ++ seed_lines seed (answer_text answer.now)) }
+/// Puts the line of a seed.
+fn put_seed<S: Sink>(seed: u64, page: &mut Page, out: &mut S) -> Result<(), Failed>
+    ensures all { OnOk result (Puts (S.written out.old) (S.written out.new) page.old page.new (line (codes "seed " ++ decimal seed))) }
+    ensures front { OnErr result (AppendsFront (S.written out.old) (S.written out.new) (page.old ++ line (codes "seed " ++ decimal seed))) }
+    ensures cause { HasCause (S.faults out.old) (S.faults out.new) result }
 {
-    let printed = render_kept(alloc, answer)?;
-    text.extend_from_slice(b"seed ")?;
-    text.extend_from_slice(Buffer::new().format(seed).as_bytes())?;
-    text.push(b'\n')?;
-    text.extend_from_slice(&printed)?;
-    Ok(())
+    let pieces = [
+        Piece::Text(b"seed "),
+        Piece::Number(seed),
+        Piece::Text(b"\n"),
+    ];
+    put_pieces(&pieces, page, out)
 }
 
-/// What a batch prints: for each seed, in order, the line `seed S` with the seed in decimal, and then what a run prints of the answer at the
-/// same place. Each answer keeps the events that have a line under its plan.
-pub fn render_batch<K: Keep>(
-    alloc: Global,
+/// Puts the part of a seed, with what a run prints of this answer.
+fn put_part<K: Keep, S: Sink>(
+    seed: u64,
+    answer: &Answer<K>,
+    page: &mut Page,
+    out: &mut S,
+) -> Result<(), Failed>
+    requires whole { IsWhole answer.now.outcome }
+    requires lines { KeepsLines K.kept answer.now.plan.show }
+    ensures all { OnOk result (Puts (S.written out.old) (S.written out.new) page.old page.new (seed_lines seed (answer_text answer.now))) }
+    ensures front { OnErr result (AppendsFront (S.written out.old) (S.written out.new) (page.old ++ seed_lines seed (answer_text answer.now))) }
+    ensures cause { HasCause (S.faults out.old) (S.faults out.new) result }
+{
+    put_seed(seed, page, out)?;
+    put_answer(answer, page, out)
+}
+
+/// Puts what a batch prints: for each seed, in order, the line `seed S` with the seed in decimal, and then what a run prints of the answer
+/// at the same place. Each answer keeps the events that have a line under its plan.
+///
+/// # Errors
+/// `Failed` where a write failed. A front of what waited and of the lines was written.
+pub fn put_batch<K: Keep, S: Sink>(
     seeds: &Items<u64>,
     answers: &Items<Answer<K>>,
-) -> Result<Vec<u8>, Memory>
+    page: &mut Page,
+    out: &mut S,
+) -> Result<(), Failed>
     requires count { length answers.now ≡ length seeds.now }
     requires whole { All (λ (answer : AnswerView). IsWhole answer.outcome) answers.now }
     requires lines { All (λ (answer : AnswerView). KeepsLines K.kept answer.plan.show) answers.now }
-    ensures { IfOk result (λ text. text.items ≡ batch_text seeds.now answers.now) }
+    ensures all { OnOk result (Puts (S.written out.old) (S.written out.new) page.old page.new (batch_text seeds.now answers.now)) }
+    ensures front { OnErr result (AppendsFront (S.written out.old) (S.written out.new) (page.old ++ batch_text seeds.now answers.now)) }
+    ensures cause { HasCause (S.faults out.old) (S.faults out.new) result }
 {
     let seeds = seeds.as_slice();
-    let mut text = Vec::new(alloc);
     for (i, answer) in answers.as_slice().iter().enumerate() {
-        write_part(alloc, seeds[i], answer, &mut text)?;
+        put_part(seeds[i], answer, page, out)?;
     }
-    Ok(text)
+    Ok(())
 }

@@ -4,10 +4,12 @@ use crew::{Crew, Gate, Hand, OpenGate, Root, Turn};
 use dotmix::Gamma;
 use meet_block::Look;
 use ped_gen::{Shape, gen_script};
+use ped_io::MemSink;
+use run_lines::Page;
 use script_check::check;
 use script_grammar::Items;
 use script_text::{MAX_BYTES, parse};
-use seed_batch::{render_batch, run_batch, run_batch_of_prints};
+use seed_batch::{put_batch, run_batch, run_batch_of_prints};
 use serial_meaning::{Answer, Keep, Limits, Origin, Out, Plan, Prints, Show};
 use std::alloc::{AllocError, Global};
 use std::fmt::{Debug, Display};
@@ -101,7 +103,11 @@ fn batch<R: Host, G: Gate + Sync>(
     assert!(rt; workers >= 1 && workers <= 64);
     let answers = run_batch(rt, alloc, plans, workers, gate)?;
     let seeds = Items(seeds.to_vec(alloc)?);
-    Ok(render_batch(alloc, &seeds, &answers)?)
+    let mut page = Page::new(alloc)?;
+    let mut out = MemSink::new(alloc, 4096, 1048576, Vec::new(alloc))?;
+    put_batch(&seeds, &answers, &mut page, &mut out)?;
+    page.flush(&mut out)?;
+    Ok(out.bytes().to_vec(alloc)?)
 }
 
 /// A batch of the script under these seeds prints this.

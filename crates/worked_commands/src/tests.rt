@@ -3,6 +3,7 @@
 mod batches;
 mod commands;
 mod measures;
+mod pages;
 mod runs;
 mod scopes;
 mod scripts;

@@ -1,21 +1,20 @@
 use Rattle.std.proofs.Common.{◌≡◌, sym, subst, rules}
 use Rattle.ped_words.specs.declared.command.Command.{Command}
 use Rattle.ped_words.specs.declared.command.Command.TheVariants.{Batch, Run}
-use Rattle.engine.specs.Promise.{StatusMeans, watched}
+use Rattle.engine.specs.CallEnds.{EndMeans}
+use Rattle.engine.specs.Promise.{watched}
 use Rattle.engine.proofs.call.serve_by_crew.Goals as goal
 
 pub returns-in-Run-clause-answers : goal.returns-in-Run-clause-answers
 returns-in-Run-clause-answers g c =
     let e : c.args.command ≡ Run c.in-Run.settings c.in-Run.workers = search rules in
-    let P : Command → Type 0 = λ command. StatusMeans command (watched g.S.Source.left g.S.Source.faults c.args.source.now c.serve_run.new.source)
-    (watched g.K.Sink.written g.K.Sink.faults c.args.out.now c.serve_run.new.out)
-    (watched g.E.Sink.written g.E.Sink.faults c.args.err.now c.serve_run.new.err) c.serve_run.result in
+    let P : Command → Type 0 = λ command. EndMeans command (watched g.S.Source.left g.S.Source.faults c.args.source.now c.serve_run.new.source)
+    (watched g.K.Sink.written g.K.Sink.faults c.args.out.now c.serve_run.new.out) c.serve_run.result in
     subst P (sym e) c.serve_run.ensures.answers
 
 pub returns-in-Batch-clause-answers : goal.returns-in-Batch-clause-answers
 returns-in-Batch-clause-answers g c =
     let e : c.args.command ≡ Batch c.in-Batch.seeds c.in-Batch.limits c.in-Batch.show c.in-Batch.rounds c.in-Batch.workers = search rules in
-    let P : Command → Type 0 = λ command. StatusMeans command (watched g.S.Source.left g.S.Source.faults c.args.source.now c.serve_batch.new.source)
-    (watched g.K.Sink.written g.K.Sink.faults c.args.out.now c.serve_batch.new.out)
-    (watched g.E.Sink.written g.E.Sink.faults c.args.err.now c.serve_batch.new.err) c.serve_batch.result in
+    let P : Command → Type 0 = λ command. EndMeans command (watched g.S.Source.left g.S.Source.faults c.args.source.now c.serve_batch.new.source)
+    (watched g.K.Sink.written g.K.Sink.faults c.args.out.now c.serve_batch.new.out) c.serve_batch.result in
     subst P (sym e) c.serve_batch.ensures.answers

@@ -1,5 +1,5 @@
 use Rattle.engine.specs.Promise.{watched}
-use Rattle.engine.proofs.CallLemmas.{can_draw, stream_answers}
+use Rattle.engine.proofs.CallLemmas.{can_draw, stream_means}
 use Rattle.engine.proofs.call.serve_in_parts.Goals as goal
 
 pub serve_stream-requires : goal.serve_stream-requires
@@ -8,7 +8,6 @@ serve_stream-requires g c =
 
 pub returns-clause-answers : goal.returns-clause-answers
 returns-clause-answers g c = λ source.
-    stream_answers c.args.command c.in-Stream.gamma c.in-Stream.at c.in-Stream.count c.in-Stream.rounds c.in-Stream.below c.in-Stream.is source
+    stream_means c.args.command c.in-Stream.gamma c.in-Stream.at c.in-Stream.count c.in-Stream.rounds c.in-Stream.below c.in-Stream.is source
     (watched g.K.Sink.written g.K.Sink.faults c.args.out.now c.serve_stream.new.out)
-    (watched g.E.Sink.written g.E.Sink.faults c.args.err.now c.serve_stream.new.err)
     c.serve_stream.result c.serve_stream.ensures.delivered

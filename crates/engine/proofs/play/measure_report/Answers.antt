@@ -15,4 +15,4 @@ returns c =
     let longest : IsSpan a.out m.span = rw c.in_ok-measured.was at c.span-measured.ensures.span in
     let output : c.extend_from_slice.new.self.items ≡ span_lines m.work m.span ++ end_line a.outcome = search rules in
     let ending : c.ending_for-ending.result ≡ outcome_ending a.outcome = c.ending_for-ending.ensures ∙ ap (λ (x : AnswerView). outcome_ending x.outcome) c.answer.view_is in
-    span_reported a _ m.work m.span c.whole_answers_are_evals.ensures is c.requires.whole c.requires.main work longest output ending
+    span_reported a _ m.work m.span c.whole_answers_are_evals.ensures is c.requires.whole c.requires.main work longest (c.text.ensures ∙ output) ending

@@ -1,5 +1,5 @@
-use Rattle.engine.proofs.Calls.{is_call}
+use Rattle.engine.proofs.Calls.{is_call_end}
 use Rattle.engine.proofs.top.pedrun_plain.Goals as goal
 
 pub returns : goal.returns
-returns g c = is_call _ _ _ _ _ c.perform.ensures.promise c.perform.ensures.untouched c.perform.ensures.no_output c.perform.ensures.no_line
+returns g c = is_call_end _ _ _ _ _ _ c.status.ensures c.perform-end.ensures.promise c.perform-end.ensures.untouched c.perform-end.ensures.no_output c.tell.ensures.told c.tell.ensures.no_line

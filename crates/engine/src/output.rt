@@ -1,0 +1,154 @@
+// The bytes for the output.
+
+ghost use Rattle.std.specs.Prelude.{◌≡◌, ◌++◌, [], All, OnErr, OnOk, length};
+ghost use Rattle.ped_io.specs.Causes.{HasCause};
+ghost use Rattle.ped_io.specs.Streams.{Appends, AppendsFront};
+ghost use Rattle.run_lines.specs.Puts.{Puts};
+ghost use Rattle.seed_batch.specs.Batch.{batch_text};
+ghost use Rattle.serial_meaning.specs.Answer.{AnswerView};
+ghost use Rattle.serial_meaning.specs.KeptLines.{KeepsLines};
+ghost use Rattle.serial_meaning.specs.Prints.{is_print};
+ghost use Rattle.serial_meaning.specs.Render.{IsWhole, answer_text};
+
+use ped_io::{Failed, Sink};
+use run_lines::{Page, put_answer};
+use script_grammar::Items;
+use seed_batch::put_batch;
+use serial_meaning::{Answer, Prints};
+use std::alloc::Global;
+use std::marker::Model;
+
+/// The bytes for the output: a text, and after it the lines of runs, which stand nowhere in memory. It is seen as the list of all these bytes.
+#[derive(Drop)]
+pub struct Output {
+    text: Vec<u8>,
+    runs: Runs,
+}
+
+/// Runs by their answers, each of which keeps the events that have a line.
+#[derive(Drop)]
+enum Runs {
+    Nothing,
+    Prints(Answer<Prints>),
+    Log(Answer),
+    /// Those under these seeds.
+    SeedsPrints(Items<u64>, Items<Answer<Prints>>),
+    SeedsLogs(Items<u64>, Items<Answer>),
+}
+
+impl Model for Output {
+    ghost use Rattle.std.specs.Prelude.{ℕ, List, ◌++◌};
+    ghost use Rattle.engine.specs.Output.{AreWhole, runs_text};
+
+    ghost Value = { List ℕ };
+
+    ghost view = { λ o. o.text.items ++ runs_text o.runs };
+
+    ghost invariant = { λ o. AreWhole o.runs };
+}
+
+impl Output {
+    /// A text alone.
+    pub fn text(text: Vec<u8>) -> Output
+        ensures { result ≡ text.items }
+    {
+        Output {
+            text,
+            runs: Runs::Nothing,
+        }
+    }
+
+    /// What a run prints of an answer that keeps its prints alone.
+    pub fn prints(alloc: Global, answer: Answer<Prints>) -> Output
+        requires whole { IsWhole answer.outcome }
+        requires lines { KeepsLines is_print answer.plan.show }
+        ensures { result ≡ answer_text answer }
+    {
+        Output {
+            text: Vec::new(alloc),
+            runs: Runs::Prints(answer),
+        }
+    }
+
+    /// A text, and then what a run prints of an answer that keeps all events.
+    pub fn log(text: Vec<u8>, answer: Answer) -> Output
+        requires { IsWhole answer.outcome }
+        ensures { result ≡ text.items ++ answer_text answer }
+    {
+        Output {
+            text,
+            runs: Runs::Log(answer),
+        }
+    }
+
+    /// What a batch prints of answers that keep their prints alone.
+    pub fn batch_of_prints(
+        alloc: Global,
+        seeds: Items<u64>,
+        answers: Items<Answer<Prints>>,
+    ) -> Output
+        requires count { length answers ≡ length seeds }
+        requires whole { All (λ (answer : AnswerView). IsWhole answer.outcome) answers }
+        requires lines { All (λ (answer : AnswerView). KeepsLines is_print answer.plan.show) answers }
+        ensures { result ≡ batch_text seeds answers }
+    {
+        Output {
+            text: Vec::new(alloc),
+            runs: Runs::SeedsPrints(seeds, answers),
+        }
+    }
+
+    /// What a batch prints of answers that keep all events.
+    pub fn batch_of_logs(alloc: Global, seeds: Items<u64>, answers: Items<Answer>) -> Output
+        requires count { length answers ≡ length seeds }
+        requires whole { All (λ (answer : AnswerView). IsWhole answer.outcome) answers }
+        ensures { result ≡ batch_text seeds answers }
+    {
+        Output {
+            text: Vec::new(alloc),
+            runs: Runs::SeedsLogs(seeds, answers),
+        }
+    }
+
+    fn put<S: Sink>(&self, page: &mut Page, out: &mut S) -> Result<(), Failed>
+        ensures all { OnOk result (Puts (S.written out.old) (S.written out.new) page.old page.new self.now) }
+        ensures front { OnErr result (AppendsFront (S.written out.old) (S.written out.new) (page.old ++ self.now)) }
+        ensures cause { HasCause (S.faults out.old) (S.faults out.new) result }
+    {
+        page.put(&self.text, out)?;
+        self.runs.put(page, out)
+    }
+
+    /// Writes all bytes, through a page on which nothing waits. It takes no memory.
+    ///
+    /// # Errors
+    /// `Failed` where a write failed. A front of the bytes was written.
+    pub fn write<S: Sink>(&self, page: &mut Page, out: &mut S) -> Result<(), Failed>
+        requires { page.old ≡ [] }
+        ensures all { OnOk result (Appends (S.written out.old) (S.written out.new) self.now) }
+        ensures front { OnErr result (AppendsFront (S.written out.old) (S.written out.new) self.now) }
+        ensures cause { HasCause (S.faults out.old) (S.faults out.new) result }
+    {
+        self.put(page, out)?;
+        page.flush(out)
+    }
+}
+
+impl Runs {
+    ghost use Rattle.engine.specs.Output.{AreWhole, runs_text};
+
+    fn put<S: Sink>(&self, page: &mut Page, out: &mut S) -> Result<(), Failed>
+        requires { AreWhole self.now }
+        ensures all { OnOk result (Puts (S.written out.old) (S.written out.new) page.old page.new (runs_text self.now)) }
+        ensures front { OnErr result (AppendsFront (S.written out.old) (S.written out.new) (page.old ++ runs_text self.now)) }
+        ensures cause { HasCause (S.faults out.old) (S.faults out.new) result }
+    {
+        match self {
+            Runs::Nothing => Ok(()),
+            Runs::Prints(answer) => put_answer(answer, page, out),
+            Runs::Log(answer) => put_answer(answer, page, out),
+            Runs::SeedsPrints(seeds, answers) => put_batch(seeds, answers, page, out),
+            Runs::SeedsLogs(seeds, answers) => put_batch(seeds, answers, page, out),
+        }
+    }
+}
