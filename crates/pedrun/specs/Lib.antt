@@ -1,3 +1,4 @@
+pub mod Calls
 pub mod Edge
 pub mod Help
 pub mod Hints

@@ -2,20 +2,23 @@
 
 ghost use Rattle.std.specs.Prelude.{◌≡◌, IsFalse, codes};
 ghost use Rattle.engine.specs.Promise.{has_line, watched};
-ghost use Rattle.engine.specs.Refusal.{Puts};
+ghost use Rattle.pedrun.specs.Calls.{Shows};
 ghost use Rattle.pedrun.specs.Edge.{WritesRefusal};
 
 use engine::Status;
-use engine::call::{write_error_line, write_memory_line, write_output};
+use engine::call::put_text;
+use engine::call_end::{CallEnd, tell, write_error_line};
 use ped_io::Sink;
 use std::io::ErrorKind;
 
 /// Writes a text of the help. The answer is `Done`, or `Write` where a write of it failed, with a line on `err`.
 pub fn write_help<K: Sink, E: Sink>(text: &str, out: &mut K, err: &mut E) -> Status
-    ensures shown { Puts text.now Status.Done (watched K.written K.faults out.old out.new) (watched E.written E.faults err.old err.new) result }
+    ensures shown { Shows text.now (watched K.written K.faults out.old out.new) (watched E.written E.faults err.old err.new) result }
     ensures no_line { IsFalse (has_line result) → err.new ≡ err.old }
 {
-    write_output(text.as_bytes(), Status::Done, out, err)
+    let end = put_text(text.as_bytes(), CallEnd::Done, out);
+    tell(&end, err);
+    end.status()
 }
 
 /// Tells why the arguments couldn't be had, by the kind of the error: they are a faulty command line where one isn't UTF-8, and there was
@@ -29,6 +32,9 @@ pub fn refuse<E: Sink>(kind: ErrorKind, err: &mut E) -> Status
             write_error_line(err, b"words: not UTF-8\n");
             Status::Words
         }
-        _ => write_memory_line(err),
+        _ => {
+            write_error_line(err, b"out of memory\n");
+            Status::Memory
+        }
     }
 }

@@ -1,26 +1,34 @@
 //! The program `pedrun`: its words, the help, the standard streams and the exit status. All else is the library `engine`.
+//!
+//! What it answers over its streams is the clause of `answer`, on a terminal of `terminal::answer_on_terminal`. `main` makes the streams and
+//! takes the words, and ends by the code of the status.
 #![tactic(auto)]
 
+mod answer;
 mod edge;
+mod fault_line;
+mod fault_note;
 mod help;
 mod hints;
 mod notes;
 mod progress;
 mod recorded;
+mod replay_call;
+mod streams;
 mod terminal;
 mod text;
+mod ticker;
 
-use edge::{refuse, write_help};
-use engine::{OpenGate, pedrun};
-use help::Topic;
-use ped_io::{StdSink, StdSource};
+use answer::answer;
+use edge::refuse;
+use notes::seed_count;
 use progress::Progress;
-use recorded::RecordedSource;
 use std::io::IsTerminal;
 use std::process::ExitCode;
 use std::rt::Env;
 use std::{env, io};
-use terminal::pedrun_on_terminal;
+use streams::{recorded, standard};
+use ticker::answer_with_progress;
 
 // The words after the program's name.
 fn words(rt: &(impl Env + AllocGlobal)) -> io::Result<Vec<String>> {
@@ -40,31 +48,18 @@ fn can_rewrite(rt: &(impl Env + AllocGlobal)) -> bool {
 }
 
 fn main(rt: HostRuntime) -> ExitCode {
-    let mut out = StdSink::new(rt.stdout());
-    let mut err = StdSink::new(rt.stderr());
+    let mut streams = standard(&rt);
     let words = match words(&rt) {
         Ok(words) => words,
-        Err(error) => return ExitCode::from(refuse(error.kind(), &mut err).code()),
+        Err(error) => return ExitCode::from(refuse(error.kind(), &mut streams.err).code()),
     };
-    if let Some(topic) = Topic::of_words(&words) {
-        return ExitCode::from(write_help(topic.text(), &mut out, &mut err).code());
-    }
-    let mut script = StdSource::new(rt.stdin());
     if rt.stderr().is_terminal() {
+        let progress = Progress::new(&rt, can_rewrite(&rt), seed_count(&words));
         let is_typed = rt.stdin().is_terminal();
-        let script = RecordedSource::new(&rt, rt.alloc(), script, is_typed);
-        let progress = Progress::new(&rt, can_rewrite(&rt));
-        let status = pedrun_on_terminal(&rt, rt.alloc(), &words, script, out, err, &progress);
+        let mut streams = recorded(&rt, rt.alloc(), streams, is_typed, &progress);
+        let status = answer_with_progress(&rt, rt.alloc(), &words, &mut streams, &progress);
         return ExitCode::from(status.code());
     }
-    let status = pedrun(
-        &rt,
-        rt.alloc(),
-        &words,
-        &mut script,
-        &mut out,
-        &mut err,
-        &OpenGate,
-    );
+    let status = answer(&rt, rt.alloc(), &words, &mut streams);
     ExitCode::from(status.code())
 }

@@ -3,8 +3,8 @@
 use engine::Status;
 use std::alloc::{AllocError, Global};
 
-// The value of an option among the words.
-fn value_of<'a>(words: &'a [String], option: &str) -> Option<&'a str> {
+/// The value of an option among the words.
+pub fn value_of<'a>(words: &'a [String], option: &str) -> Option<&'a str> {
     let mut words = words.iter();
     while let Some(word) = words.next() {
         if word.as_str() == option {
@@ -52,5 +52,14 @@ pub fn note(
         Status::Done if is_replay && !wrote => Ok(Some(silent_note(alloc, words)?)),
         Status::NoStrand => Ok(Some(strand_note(alloc, words)?)),
         _ => Ok(None),
+    }
+}
+
+/// How many seeds a batch of these words has, and 0 where they are those of no batch.
+pub fn seed_count(words: &[String]) -> u64 {
+    if words.first().is_some_and(|word| word.as_str() == "batch") {
+        value_of(words, "--seeds").map_or(0, |seeds| seeds.split(',').count() as u64)
+    } else {
+        0
     }
 }

@@ -1,14 +1,16 @@
 // A source and a sink that keep of what went through them what a person is told of.
 
+use crate::fault_line::FaultLine;
 use crate::progress::Progress;
 use ped_io::{Failed, Sink, Source};
 use std::alloc::Global;
 use std::eprintln;
 use std::io::Eprint;
+use std::sync::Wait;
 use std::time::Clock;
 
 /// A source that keeps the bytes that it gave, up to where there was no memory for more. Where a person is to type them, its first read
-/// says so on the error output.
+/// says so on the error output. The progress begins with its end.
 #[derive(Drop)]
 pub struct RecordedSource<'a, R, S> {
     rt: &'a R,
@@ -16,16 +18,23 @@ pub struct RecordedSource<'a, R, S> {
     bytes: Vec<u8>,
     /// Whether a person is to type the bytes, and wasn't told yet.
     is_untold: bool,
+    progress: Option<&'a Progress<'a, R>>,
 }
 
-impl<'a, R: Eprint, S: Source> RecordedSource<'a, R, S> {
+impl<'a, R: Wait + Clock + Eprint, S: Source> RecordedSource<'a, R, S> {
     pub fn new(rt: &'a R, alloc: Global, inner: S, is_typed: bool) -> RecordedSource<'a, R, S> {
         RecordedSource {
             rt,
             inner,
             bytes: Vec::new(alloc),
             is_untold: is_typed,
+            progress: None,
         }
+    }
+
+    /// Says of which progress the run begins when all is read.
+    pub fn tell(&mut self, progress: &'a Progress<'a, R>) {
+        self.progress = Some(progress);
     }
 
     /// The bytes that were given.
@@ -34,7 +43,7 @@ impl<'a, R: Eprint, S: Source> RecordedSource<'a, R, S> {
     }
 }
 
-impl<'a, R: Eprint, S: Source> Source for RecordedSource<'a, R, S> {
+impl<'a, R: Wait + Clock + Eprint, S: Source> Source for RecordedSource<'a, R, S> {
     ghost left = { λ s. S.left s.inner };
 
     ghost faults = { λ s. S.faults s.inner };
@@ -49,6 +58,11 @@ impl<'a, R: Eprint, S: Source> Source for RecordedSource<'a, R, S> {
         if let Ok(count) = read {
             // Without memory for them, these bytes aren't kept.
             let _ = self.bytes.extend_from_slice(&buf[..count]);
+            if count == 0 {
+                if let Some(progress) = self.progress {
+                    progress.begin();
+                }
+            }
         }
         read
     }
@@ -61,8 +75,7 @@ const MOST_KEPT: usize = 1024;
 #[derive(Drop)]
 struct Taken {
     first: Vec<u8>,
-    /// How many of the first ones are kept.
-    most: usize,
+    fault: FaultLine,
     is_empty: bool,
 }
 
@@ -70,14 +83,15 @@ impl Taken {
     // Without memory for what is to be kept of these bytes, none of them is.
     fn add(&mut self, bytes: &[u8]) {
         self.is_empty = self.is_empty && bytes.is_empty();
-        let room = self.most.saturating_sub(self.first.len());
+        self.fault.add(bytes);
+        let room = MOST_KEPT.saturating_sub(self.first.len());
         let _ = self
             .first
             .extend_from_slice(&bytes[..bytes.len().min(room)]);
     }
 }
 
-/// A sink on a terminal, which keeps whether it took a byte, and the first bytes where it is to keep any. It removes the progress line
+/// A sink on a terminal, which keeps whether it took a byte, the first bytes, and the first line of a fault. It removes the progress line
 /// first.
 #[derive(Drop)]
 pub struct RecordedSink<'a, R, K> {
@@ -86,28 +100,28 @@ pub struct RecordedSink<'a, R, K> {
     progress: &'a Progress<'a, R>,
 }
 
-impl<'a, R: Clock + Eprint, K: Sink> RecordedSink<'a, R, K> {
-    /// A sink that keeps the first 1024 bytes, or none.
-    pub fn new(
-        alloc: Global,
-        inner: K,
-        keeps: bool,
-        progress: &'a Progress<'a, R>,
-    ) -> RecordedSink<'a, R, K> {
+impl<'a, R: Wait + Clock + Eprint, K: Sink> RecordedSink<'a, R, K> {
+    /// A sink that took nothing yet.
+    pub fn new(alloc: Global, inner: K, progress: &'a Progress<'a, R>) -> RecordedSink<'a, R, K> {
         RecordedSink {
             inner,
             taken: Taken {
                 first: Vec::new(alloc),
-                most: if keeps { MOST_KEPT } else { 0 },
+                fault: FaultLine::new(alloc),
                 is_empty: true,
             },
             progress,
         }
     }
 
-    /// The bytes that are kept.
+    /// The first bytes, 1024 at most.
     pub fn bytes(&self) -> &[u8] {
         &self.taken.first
+    }
+
+    /// The first line of a fault among the bytes.
+    pub fn fault(&self) -> &FaultLine {
+        &self.taken.fault
     }
 
     /// Whether a byte was taken.
@@ -116,13 +130,13 @@ impl<'a, R: Clock + Eprint, K: Sink> RecordedSink<'a, R, K> {
     }
 }
 
-impl<'a, R: Clock + Eprint, K: Sink> Sink for RecordedSink<'a, R, K> {
+impl<'a, R: Wait + Clock + Eprint, K: Sink> Sink for RecordedSink<'a, R, K> {
     ghost written = { λ s. K.written s.inner };
 
     ghost faults = { λ s. K.faults s.inner };
 
     fn write(&mut self, bytes: &[u8]) -> Result<usize, Failed> {
-        self.progress.clear();
+        self.progress.end();
         let taken = self.inner.write(bytes);
         if let Ok(count) = taken {
             self.taken.add(&bytes[..count]);

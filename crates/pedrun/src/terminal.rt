@@ -1,9 +1,20 @@
 // The call on a terminal. A person who sits at the error output gets more than a program does, which gets the line alone.
 
+ghost use Rattle.std.specs.Prelude.{map, string_bytes};
+ghost use Rattle.ped_words.specs.Reading.{reading};
+ghost use Rattle.engine.specs.Clauses.{change};
+ghost use Rattle.engine.specs.Promise.{watched};
+ghost use Rattle.pedrun.specs.Calls.{AnswersWithNotes, IsCallWithNotes, WroteSome};
+
+use crate::edge::write_help;
+use crate::fault_line::FaultLine;
+use crate::fault_note::fault_note;
+use crate::help::Topic;
 use crate::hints::hints;
 use crate::notes::note;
 use crate::progress::Progress;
 use crate::recorded::{RecordedSink, RecordedSource};
+use crate::streams::Recorded;
 use crate::text;
 use engine::{Status, pedrun};
 use ped_io::{Sink, Source, write_all};
@@ -31,8 +42,12 @@ fn word_in_line(line: &[u8]) -> Option<usize> {
     at.parse().ok()
 }
 
-// The lines on the place of the fault that the line tells. None where there is no memory for them, or was none for the line or the text.
-fn place_lines(alloc: Global, line: &[u8], text: &[u8]) -> Option<Vec<u8>> {
+// The lines on the place of the fault that the call's line tells. None where it tells none, there is no memory for them, or was none for the
+// line or the text.
+fn place_lines(alloc: Global, status: Status, line: &[u8], text: &[u8]) -> Option<Vec<u8>> {
+    if status != Status::Script {
+        return None;
+    }
     let (message, at) = fault_in_line(line)?;
     if at > text.len() {
         return None;
@@ -40,43 +55,115 @@ fn place_lines(alloc: Global, line: &[u8], text: &[u8]) -> Option<Vec<u8>> {
     excerpt(alloc, text, at, message).ok()
 }
 
-/// Does what `engine::pedrun` does, and shows on `err` what helps a person: the progress of a long run, the place of a script's fault
-/// after its line, the word after a line on words with how to ask for help, what a strand that is replayed in silence may mean, and the help
-/// where no word was given.
-pub fn pedrun_on_terminal<
+// The lines on the words that the call's line refuses, if there are some.
+fn word_lines(alloc: Global, status: Status, words: &[String], line: &[u8]) -> Option<Vec<u8>> {
+    if status != Status::Words || words.is_empty() {
+        return None;
+    }
+    hints(alloc, words, word_in_line(line)).ok()
+}
+
+// The lines on the fault by which a run ended, if it did: where it came from, and the call that replays its strand.
+fn fault_lines<R: Threads + Wait + Sync + Clock>(
+    rt: &R,
+    alloc: Global,
+    status: Status,
+    words: &[String],
+    script: &[u8],
+    fault: &FaultLine,
+) -> Option<Vec<u8>> {
+    let tells_strand = matches!(
+        words.first().map_or("", String::as_str),
+        "run" | "serial" | "sim" | "replay" | "batch"
+    );
+    if status != Status::Faulted || !tells_strand {
+        return None;
+    }
+    fault_note(rt, alloc, words, script, fault).ok().flatten()
+}
+
+// The text of the help where no word was given.
+fn help_lines(words: &[String]) -> &'static [u8] {
+    if words.is_empty() {
+        text::PROGRAM.as_bytes()
+    } else {
+        b""
+    }
+}
+
+// Writes lines for a person. A failed write of them changes nothing.
+fn show<E: Sink>(err: &mut E, lines: &[u8])
+    ensures { WroteSome (watched E.written E.faults err.old err.new) }
+{
+    let _ = write_all(err, lines);
+}
+
+// The same, if there are some.
+fn show_some<E: Sink>(err: &mut E, lines: Option<Vec<u8>>)
+    ensures { WroteSome (watched E.written E.faults err.old err.new) }
+{
+    let lines = lines.as_deref().unwrap_or(b"");
+    show(err, lines);
+}
+
+// Does what `engine::pedrun` does, and shows on the error output what helps a person: the progress of a long run, the place of a script's
+// fault after its line, the word after a line on words with how to ask for help, where the fault came from by which a run ended, what a strand
+// that is replayed in silence may mean, and the help where no word was given.
+fn pedrun_on_terminal<'a, R: Threads + Wait + Sync + Clock + Eprint, S: Source, K: Sink, E: Sink>(
+    rt: &R,
+    alloc: Global,
+    words: &[String],
+    script: &mut RecordedSource<'a, R, S>,
+    out: &mut RecordedSink<'a, R, K>,
+    err: &mut RecordedSink<'a, R, E>,
+    progress: &Progress<'a, R>,
+) -> Status
+    ensures { IsCallWithNotes (reading (map string_bytes words.now)) (change ⟦<RecordedSource<'a, R, S> as Source>⟧.left ⟦<RecordedSource<'a, R, S> as Source>⟧.faults script.old script.new)
+        (change ⟦<RecordedSink<'a, R, K> as Sink>⟧.written ⟦<RecordedSink<'a, R, K> as Sink>⟧.faults out.old out.new)
+        (change ⟦<RecordedSink<'a, R, E> as Sink>⟧.written ⟦<RecordedSink<'a, R, E> as Sink>⟧.faults err.old err.new) result }
+{
+    let status = pedrun(rt, alloc, words, script, out, err, progress);
+    progress.end();
+    let lines = place_lines(alloc, status, err.bytes(), script.bytes());
+    show_some(err, lines);
+    let lines = word_lines(alloc, status, words, err.bytes());
+    show_some(err, lines);
+    let lines = fault_lines(rt, alloc, status, words, script.bytes(), out.fault());
+    show_some(err, lines);
+    let lines = note(alloc, words, status, out.wrote()).ok().flatten();
+    show_some(err, lines);
+    show(err, help_lines(words));
+    status
+}
+
+/// Answers the words as elsewhere, and shows on the error output what helps a person, after the call's line.
+pub fn answer_on_terminal<
+    'a,
     R: Threads + Wait + Sync + Clock + Eprint,
-    S: Source + Drop,
-    K: Sink + Drop,
-    E: Sink + Drop,
+    S: Source,
+    K: Sink,
+    E: Sink,
 >(
     rt: &R,
     alloc: Global,
     words: &[String],
-    mut script: RecordedSource<R, S>,
-    out: K,
-    err: E,
-    progress: &Progress<R>,
-) -> Status {
-    let mut out = RecordedSink::new(alloc, out, false, progress);
-    let mut err = RecordedSink::new(alloc, err, true, progress);
-    let status = pedrun(rt, alloc, words, &mut script, &mut out, &mut err, progress);
-    progress.clear();
-    // What follows the call's own line is for a person: a failed write of it changes nothing.
-    if status == Status::Script {
-        if let Some(lines) = place_lines(alloc, err.bytes(), script.bytes()) {
-            let _ = write_all(&mut err, &lines);
-        }
+    streams: &mut Recorded<'a, R, S, K, E>,
+    progress: &Progress<'a, R>,
+) -> Status
+    ensures { AnswersWithNotes (map string_bytes words.now) (change ⟦<RecordedSource<'a, R, S> as Source>⟧.left ⟦<RecordedSource<'a, R, S> as Source>⟧.faults streams.old.script streams.new.script)
+        (change ⟦<RecordedSink<'a, R, K> as Sink>⟧.written ⟦<RecordedSink<'a, R, K> as Sink>⟧.faults streams.old.out streams.new.out)
+        (change ⟦<RecordedSink<'a, R, E> as Sink>⟧.written ⟦<RecordedSink<'a, R, E> as Sink>⟧.faults streams.old.err streams.new.err) result }
+{
+    match Topic::of_words(words) {
+        Some(topic) => write_help(topic.text(), &mut streams.out, &mut streams.err),
+        None => pedrun_on_terminal(
+            rt,
+            alloc,
+            words,
+            &mut streams.script,
+            &mut streams.out,
+            &mut streams.err,
+            progress,
+        ),
     }
-    if status == Status::Words && !words.is_empty() {
-        if let Ok(lines) = hints(alloc, words, word_in_line(err.bytes())) {
-            let _ = write_all(&mut err, &lines);
-        }
-    }
-    if let Ok(Some(lines)) = note(alloc, words, status, out.wrote()) {
-        let _ = write_all(&mut err, &lines);
-    }
-    if words.is_empty() {
-        let _ = write_all(&mut err, text::PROGRAM.as_bytes());
-    }
-    status
 }

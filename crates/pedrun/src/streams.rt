@@ -1,0 +1,53 @@
+// The program's streams.
+
+use crate::progress::Progress;
+use crate::recorded::{RecordedSink, RecordedSource};
+use ped_io::{Sink, Source, StdSink, StdSource};
+use std::alloc::Global;
+use std::io::{Eprint, Stderr, Stdin, Stdout};
+use std::sync::Wait;
+use std::time::Clock;
+
+/// Where the script comes from, and where the output and the error output go.
+#[derive(Drop)]
+pub struct Streams<S, K, E> {
+    pub script: S,
+    pub out: K,
+    pub err: E,
+}
+
+/// The standard streams.
+pub type Standard = Streams<StdSource<Stdin>, StdSink<Stdout>, StdSink<Stderr>>;
+
+/// The standard streams of the process. Their types tell them apart.
+pub fn standard(rt: &HostRuntime) -> Standard {
+    Streams {
+        script: StdSource::new(rt.stdin()),
+        out: StdSink::new(rt.stdout()),
+        err: StdSink::new(rt.stderr()),
+    }
+}
+
+/// Streams that keep what goes through them.
+pub type Recorded<'a, R, S, K, E> = Streams<
+    RecordedSource<'a, R, S>,
+    RecordedSink<'a, R, K>,
+    RecordedSink<'a, R, E>,
+>;
+
+/// The same streams, which keep of what goes through them what a person is told of. `is_typed` says that a person is to type the script.
+pub fn recorded<'a, R: Wait + Clock + Eprint, S: Source, K: Sink, E: Sink>(
+    rt: &'a R,
+    alloc: Global,
+    streams: Streams<S, K, E>,
+    is_typed: bool,
+    progress: &'a Progress<'a, R>,
+) -> Recorded<'a, R, S, K, E> {
+    let mut script = RecordedSource::new(rt, alloc, streams.script, is_typed);
+    script.tell(progress);
+    Streams {
+        script,
+        out: RecordedSink::new(alloc, streams.out, progress),
+        err: RecordedSink::new(alloc, streams.err, progress),
+    }
+}
