@@ -1,7 +1,7 @@
 #!/bin/sh
 # Draws how much faster more workers are, from the table that bench/run prints: speedup.sh MEASURED PICTURE
 # MEASURED is what bench/run printed, or docs/PERFORMANCE.md; the first such table in it is read, and nothing else. PICTURE ends in .svg or
-# .png. Scripts that take less than a tenth of a second are left out: they are over before all workers have begun.
+# .png. Scripts that take less than a thirtieth of a second are left out: they are over before all workers have begun.
 set -u
 
 fail() {
@@ -29,7 +29,7 @@ awk -F ' *[|] *' '
     next
   }
   inside && !/^\|/ { exit }
-  inside && $3 + 0 >= 0.1 && $2 !~ /^(plain|set|draw)$/ && !($2 in drawn) {
+  inside && $3 + 0 >= 1 / 30 && $2 !~ /^(plain|set|draw)$/ && !($2 in drawn) {
     drawn[$2] = 1
     if (blocks++) printf "\n\n"
     print "\"" $2 "\""
@@ -37,7 +37,7 @@ awk -F ' *[|] *' '
   }
   END { exit !inside }' "$1" > "$room/curves" || fail 1 "$1 has no table of bench/run, which begins: | Script | serial | run, 1 worker |"
 blocks=$(grep -c '^"' "$room/curves")
-[ "$blocks" -gt 0 ] || fail 1 "the first table of bench/run in $1 has no script that takes a tenth of a second"
+[ "$blocks" -gt 0 ] || fail 1 "the first table of bench/run in $1 has no script that takes a thirtieth of a second"
 # The machine, its processors, its system and the day.
 machine=$(grep -m 1 ' processors, ' "$1" | cut -d ';' -f 1,2 | sed "s/[\"'\\]//g")
 gnuplot -e "data = '$room/curves'; blocks = $blocks; machine = '$machine'" \
