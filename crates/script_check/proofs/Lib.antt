@@ -2,4 +2,4 @@ pub mod LeastViolation
 pub mod Tables
 pub mod Walk
 pub mod FewerPending
-pub mod FoundPlaces
+pub mod FoundSlots

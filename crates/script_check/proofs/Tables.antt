@@ -1,4 +1,4 @@
 pub mod Entries
 pub mod Indexed
 pub mod Shares
-pub mod PlaceIndex
+pub mod SlotIndex

@@ -7,7 +7,7 @@ use Rattle.script_check.specs.Names.{NameSet, IsWithin, union}
 use Rattle.script_check.specs.Rules.{Declared, most_variables}
 use Rattle.script_check.specs.Statements.{Context, judge_all, violations_each, after}
 use Rattle.script_grammar.specs.Text.{IsOfText}
-use Rattle.script_check.specs.Places.{finds_all, table_of_places, variable_names}
+use Rattle.script_check.specs.Slots.{finds_all, table_of_slots, variable_names}
 use Rattle.script_check.specs.Valid.{violations, CheckFault, IsValid}
 
 -- Statements that are valid from a set are valid from each subset of it, and leave no more pending.
@@ -32,8 +32,8 @@ FaultIsFirst =
 
 -- The tables made of a valid script have the slot of each variable that the script names, and the index of each function that it
 -- calls.
-abbrev pub PlacesAreFound : Type 0
-PlacesAreFound = (script : Script) → IsOfText script → IsValid script → finds_all (table_of_places script.functions) script.functions ≡ true
+abbrev pub SlotsAreFound : Type 0
+SlotsAreFound = (script : Script) → IsOfText script → IsValid script → finds_all (table_of_slots script.functions) script.functions ≡ true
 
 -- A function of a valid script has at most 256 variables.
 abbrev pub VariablesAreFew : Type 0

@@ -10,4 +10,4 @@ pub mod Valid
 pub mod Walk
 pub mod Laws
 pub mod Spawns
-pub mod Places
+pub mod Slots

@@ -19,7 +19,7 @@ use Rattle.script_check.specs.Functions.{first_named}
 use Rattle.script_check.specs.Names.{NameSet}
 use Rattle.script_check.specs.Rules.{Declared}
 use Rattle.script_check.specs.Statements.{judge, judge_all, known_each, after}
-use Rattle.script_check.specs.Places.{each_names, finds_all, has_place, place_in, table_of_callees, table_of_places}
+use Rattle.script_check.specs.Slots.{each_names, finds_all, has_slot, slot_in, table_of_callees, table_of_slots}
 use Rattle.script_grammar.specs.declared.tree.Name.{Name}
 
 -- the table has the index of the first function of each name
@@ -27,8 +27,8 @@ abbrev pub IsIndex : List Function → Table ℕ → Type 0
 IsIndex functions table = (name : List ℕ) → table.what name ≡ first_named functions name
 
 -- the table has the first index of each of these names
-abbrev pub IsPlaceIndex : List (List ℕ) → Table ℕ → Type 0
-IsPlaceIndex names table = (name : List ℕ) → table.what name ≡ place_in names name
+abbrev pub IsSlotIndex : List (List ℕ) → Table ℕ → Type 0
+IsSlotIndex names table = (name : List ℕ) → table.what name ≡ slot_in names name
 
 -- a table of slots by offset, and the names of a function's variables
 pub record FindingView : Type 0 where
@@ -36,7 +36,7 @@ pub record FindingView : Type 0 where
   pub names : List (List ℕ)
 
 abbrev pub finds : FindingView → Name → Bool
-finds f = has_place f.table f.names
+finds f = has_slot f.table f.names
 
 -- the names of a table
 abbrev pub names_of : {A : Type 0} → Table A → NameSet
@@ -129,12 +129,12 @@ state_after_all functions ss state =
     }
 
 -- what a checked script holds
-pub record IsChecked (script : Script) (first : Table ℕ) (spawns : List Bool) (names : List (List (List ℕ))) (places callees : List ℕ) : Type 0 where
+pub record IsChecked (script : Script) (first : Table ℕ) (spawns : List Bool) (names : List (List (List ℕ))) (slots callees : List ℕ) : Type 0 where
   pub valid : IsValid script
   pub text : IsOfText script
   pub index : IsIndex script.functions first
   pub spawn : spawns ≡ each_spawns script.functions
   pub variables : names ≡ each_names script.functions
-  pub placed : places ≡ table_of_places script.functions
+  pub placed : slots ≡ table_of_slots script.functions
   pub called : callees ≡ table_of_callees script.functions
-  pub found : finds_all places script.functions ≡ true
+  pub found : finds_all slots script.functions ≡ true

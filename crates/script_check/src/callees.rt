@@ -1,15 +1,16 @@
 // Which function each call of a script means, by the name's offset.
 
 ghost use Rattle.std.specs.Prelude.{◌≡◌, ◌≤◌, ◌++◌, ◌∷◌, [], IfOk, OnOk, length};
-ghost use Rattle.script_check.specs.Places.{called_in, called_in_block, called_in_right, called_in_statement, function_names, table_of_callees, with_places};
+ghost use Rattle.script_check.specs.Slots.{called_in, called_in_block, called_in_right, called_in_statement, function_names, table_of_callees, with_entries};
 ghost use Rattle.script_check.specs.Tables.{table_of};
 ghost use Rattle.script_check.specs.Walk.{IsIndex};
 
 use crate::memory::Memory;
 use crate::named::add_name;
 use crate::names::NameTable;
-use crate::places::set_place;
-use script_grammar::{Act, Function, Items, Name, Right, Stmt};
+use crate::slots::set_entry;
+use contract_views::Items;
+use script_grammar::{Act, Function, Name, Right, Stmt};
 use std::alloc::Global;
 
 // Maps the offset of each called name to the index of the first function with that name.
@@ -37,11 +38,11 @@ fn put_each(
 ) -> Result<(), Memory>
     requires index { IsIndex functions.now (table_of first.now.map) }
     requires few { length functions.now ≤ 1024 }
-    ensures { OnOk result (table.new.items ≡ with_places (function_names functions.now) table.old.items called.now) }
+    ensures { OnOk result (table.new.items ≡ with_entries (function_names functions.now) table.old.items called.now) }
 {
     for name in called {
         let number = first.get(name.bytes.as_slice()).unwrap_or(0);
-        set_place(table, name.at as usize, number as u16)?;
+        set_entry(table, name.at as usize, number as u16)?;
     }
     Ok(())
 }

@@ -3,7 +3,7 @@
 ghost use Rattle.std.specs.Prelude.{◌≡◌, ◌≢◌, ◌<◌, ℕ, ◌++◌, true, Some, Err, IfOk, IfSome, OnOk, length, option_copied, option_map, slice_get};
 ghost use Rattle.script_grammar.specs.Text.{IsOfText};
 ghost use Rattle.script_check.specs.Functions.{first_named, function_named, main_name};
-ghost use Rattle.script_check.specs.Places.{finds_all, finds_callee, table_of_places, variable_names};
+ghost use Rattle.script_check.specs.Slots.{finds_all, finds_callee, table_of_slots, variable_names};
 ghost use Rattle.script_check.specs.Spawns.{spawns_in};
 ghost use Rattle.script_check.specs.Tables.{table_of};
 ghost use Rattle.script_check.specs.Valid.{IsValid, CheckFault, all_function_violations, main_violations};
@@ -17,10 +17,11 @@ use crate::function::{judge_function, judge_main};
 use crate::functions::{Functions, index_functions};
 use crate::memory::Memory;
 use crate::names::NameTable;
-use crate::places::places;
+use crate::slots::slots;
 use crate::texts::each_spawns;
+use contract_views::Items;
 use script_grammar::laws::functions_are_few;
-use script_grammar::{Items, Name, NameText, Script};
+use script_grammar::{Name, NameText, Script};
 use std::alloc::Global;
 use std::marker::Model;
 use std::sync::Arc;
@@ -43,7 +44,7 @@ struct CheckedScript {
     // The names of the variables of each function.
     names: Items<Items<NameText>>,
     // Maps a name's byte offset to its variable's slot.
-    places: Items<u16>,
+    slots: Items<u16>,
 }
 
 impl Model for Checked {
@@ -61,7 +62,7 @@ impl Model for Checked {
 
     ghost view = { λ c. (arc_value c.kept).script };
 
-    ghost invariant = { λ c. let k = arc_value c.kept in IsChecked k.script (table_of k.first.map) k.spawns k.names k.places k.callees };
+    ghost invariant = { λ c. let k = arc_value c.kept in IsChecked k.script (table_of k.first.map) k.spawns k.names k.slots k.callees };
 }
 
 /// Checks a script that a text is of. It is `Ok` exactly for valid scripts, unless memory runs out; else the error has the first
@@ -92,7 +93,7 @@ fn keep_valid(alloc: Global, script: Script, first: NameTable<u32>) -> Result<Ch
     let functions = script.functions.as_slice();
     let spawns = each_spawns(alloc, functions)?;
     let callees = callees(alloc, &first, functions)?;
-    let (names, places) = places(alloc, functions)?;
+    let (names, slots) = slots(alloc, functions)?;
     checked_of(
         alloc,
         CheckedScript {
@@ -101,14 +102,14 @@ fn keep_valid(alloc: Global, script: Script, first: NameTable<u32>) -> Result<Ch
             spawns,
             callees,
             names,
-            places,
+            slots,
         },
     )
 }
 
 // Shares what a check found out.
 fn checked_of(alloc: Global, kept: CheckedScript) -> Result<Checked, Memory>
-    requires { IsChecked kept.script (table_of kept.first.map) kept.spawns kept.names kept.places kept.callees }
+    requires { IsChecked kept.script (table_of kept.first.map) kept.spawns kept.names kept.slots kept.callees }
     ensures { IfOk result (λ checked. checked ≡ kept.script) }
 {
     Ok(Checked {
@@ -200,10 +201,10 @@ impl Checked {
 
     /// Maps a name's byte offset to its variable's slot, its index among the names of its function's variables.
     #[inline(always)]
-    pub fn places(&self) -> &[u16]
-        ensures table { result.now ≡ table_of_places self.now.functions }
+    pub fn slots(&self) -> &[u16]
+        ensures table { result.now ≡ table_of_slots self.now.functions }
         ensures found { finds_all result.now self.now.functions ≡ true }
     {
-        self.kept.places.as_slice()
+        self.kept.slots.as_slice()
     }
 }

@@ -2,12 +2,13 @@
 
 ghost use Rattle.std.specs.Prelude.{◌≡◌, IfOk, map};
 ghost use Rattle.script_check.specs.Walk.{finds};
-ghost use Rattle.script_check.specs.Places.{all_true, every_in, every_in_factor, every_in_summand, has_place};
+ghost use Rattle.script_check.specs.Slots.{all_true, every_in, every_in_factor, every_in_summand, has_slot};
 
 use crate::memory::Memory;
 use crate::symbols::MOST_VARIABLES;
 use crate::variables::Variables;
-use script_grammar::{Expr, Items, Name, NameText, ProductPart, SumPart};
+use contract_views::Items;
+use script_grammar::{Expr, Name, NameText, ProductPart, SumPart};
 use std::alloc::Global;
 use std::marker::Model;
 
@@ -35,7 +36,7 @@ pub fn finds(
     names: &Items<NameText>,
     e: &Expr,
 ) -> Result<bool, Memory>
-    ensures { IfOk result (λ all. all ≡ every_in (has_place table.now names.now) e.now) }
+    ensures { IfOk result (λ all. all ≡ every_in (has_slot table.now names.now) e.now) }
 {
     let names = names.as_slice();
     if names.len() > MOST_VARIABLES {
@@ -53,11 +54,11 @@ pub fn finds(
 }
 
 // Whether the table has this name's slot at its offset.
-fn has_place(f: &Finding, x: &Name) -> bool
+fn has_slot(f: &Finding, x: &Name) -> bool
     ensures { result ≡ finds f.now x.now }
 {
-    match (f.table.get(x.at as usize), f.variables.place(&x.bytes)) {
-        (Some(place), Some(own)) => *place == own,
+    match (f.table.get(x.at as usize), f.variables.slot(&x.bytes)) {
+        (Some(slot), Some(own)) => *slot == own,
         _ => false,
     }
 }
@@ -68,8 +69,8 @@ fn in_expr(f: &Finding, e: &Expr) -> bool
 {
     match e {
         Expr::Number(_) => true,
-        Expr::Var(x) => has_place(f, x),
-        Expr::Item(x, i) => has_place(f, x) && in_expr(f, i.get()),
+        Expr::Var(x) => has_slot(f, x),
+        Expr::Item(x, i) => has_slot(f, x) && in_expr(f, i.get()),
         Expr::Neg(_, e) => in_expr(f, e.get()),
         Expr::Same(_, a, b) => in_expr(f, a.get()) && in_expr(f, b.get()),
         Expr::Older(_, a, b) => in_expr(f, a.get()) && in_expr(f, b.get()),

@@ -1,6 +1,6 @@
 //! Laws of the definitions, each the contract of a function that does nothing. A proof that needs a law calls it.
 
-ghost use Rattle.script_check.specs.Laws.{FaultIsFirst, FaultIsUnique, FewerPendingStaysValid, LoopSetIsClosed, PlacesAreFound, VariablesAreFew};
+ghost use Rattle.script_check.specs.Laws.{FaultIsFirst, FaultIsUnique, FewerPendingStaysValid, LoopSetIsClosed, SlotsAreFound, VariablesAreFew};
 
 /// Statements that are valid where some names are pending are valid where only some of these are, and leave no more pending.
 pub fn fewer_pending_stays_valid()
@@ -25,8 +25,8 @@ pub fn fault_is_first()
 
 /// In a valid script of a text the table of slots has each variable that is named, and the table of callees each function that is
 /// called.
-pub fn places_are_found()
-    ensures { PlacesAreFound }
+pub fn slots_are_found()
+    ensures { SlotsAreFound }
 {}
 
 /// A function of a valid script declares at most 256 variables.

@@ -15,7 +15,7 @@ pub mod laws;
 mod memory;
 mod named;
 mod names;
-mod places;
+mod slots;
 mod spawns;
 mod statement;
 mod symbols;

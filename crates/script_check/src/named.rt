@@ -1,12 +1,11 @@
 // The variables that a function's text names, in the order of the text.
 
 ghost use Rattle.std.specs.Prelude.{◌≡◌, ◌++◌, ◌∷◌, [], IfOk, OnOk, map};
-ghost use Rattle.script_check.specs.Places.{joined, named_in, named_in_all, named_in_block, named_in_factor, named_in_function, named_in_right, named_in_statement, named_in_summand, named_in_target};
+ghost use Rattle.script_check.specs.Slots.{joined, named_in, named_in_all, named_in_block, named_in_factor, named_in_function, named_in_right, named_in_statement, named_in_summand, named_in_target};
 
 use crate::memory::Memory;
-use script_grammar::{
-    Act, CallText, Expr, Function, Items, Name, ProductPart, Right, Stmt, SumPart,
-};
+use contract_views::Items;
+use script_grammar::{Act, CallText, Expr, Function, Name, ProductPart, Right, Stmt, SumPart};
 use std::alloc::Global;
 
 // Those of a whole function, but for its parameters.

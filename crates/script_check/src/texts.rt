@@ -4,7 +4,8 @@ ghost use Rattle.std.specs.Prelude.{◌≡◌, IfOk};
 ghost use Rattle.script_check.specs.Spawns.{any_spawns, each_spawns, spawns, is_spawn};
 
 use crate::memory::Memory;
-use script_grammar::{Act, Function, Items, Right, Stmt};
+use contract_views::Items;
+use script_grammar::{Act, Function, Right, Stmt};
 use std::alloc::Global;
 
 // Of each function, whether the word `spawn` is in its text.

@@ -1,12 +1,13 @@
 // The variables of a function with their slots.
 
 ghost use Rattle.std.specs.Prelude.{◌≡◌, ◌<◌, ◌≤◌, ◌++◌, ◌∷◌, [], IfOk, length};
-ghost use Rattle.script_check.specs.Places.{place_in, with_new_name};
+ghost use Rattle.script_check.specs.Slots.{slot_in, with_new_name};
 ghost use Rattle.script_check.specs.Rules.{most_variables};
 
 use crate::memory::Memory;
 use crate::names::NameTable;
-use script_grammar::{Items, NameText};
+use contract_views::Items;
+use script_grammar::NameText;
 use std::alloc::Global;
 use std::marker::Model;
 
@@ -21,7 +22,7 @@ impl Model for Variables {
     ghost use Rattle.std.specs.Prelude.{ℕ, List};
     ghost use Rattle.std.specs.Coded.{coded_list, coded_ℕ};
     ghost use Rattle.script_check.specs.Tables.{table_of};
-    ghost use Rattle.script_check.specs.Walk.{IsPlaceIndex};
+    ghost use Rattle.script_check.specs.Walk.{IsSlotIndex};
 
     ghost Value = { List (List ℕ) };
 
@@ -29,7 +30,7 @@ impl Model for Variables {
 
     ghost view = { λ v. v.names.items };
 
-    ghost invariant = { λ v. IsPlaceIndex v.names.items (table_of v.first.map) };
+    ghost invariant = { λ v. IsSlotIndex v.names.items (table_of v.first.map) };
 }
 
 impl Variables {
@@ -52,8 +53,8 @@ impl Variables {
             mut names,
             mut first,
         } = self;
-        let place = names.len() as u16;
-        first.insert(alloc, name.as_slice(), place)?;
+        let slot = names.len() as u16;
+        first.insert(alloc, name.as_slice(), slot)?;
         names.push(name.copy())?;
         Ok(Variables { names, first })
     }
@@ -63,15 +64,15 @@ impl Variables {
         requires { length (with_new_name self name.now) ≤ most_variables }
         ensures { IfOk result (λ more. more ≡ with_new_name self name.now) }
     {
-        if self.place(name).is_some() {
+        if self.slot(name).is_some() {
             return Ok(self);
         }
         self.with(alloc, name)
     }
 
     // A name's slot.
-    pub(crate) fn place(&self, name: &NameText) -> Option<u16>
-        ensures { result ≡ place_in self.now name.now }
+    pub(crate) fn slot(&self, name: &NameText) -> Option<u16>
+        ensures { result ≡ slot_in self.now name.now }
     {
         self.first.get(name.as_slice())
     }

@@ -15,8 +15,8 @@ use Rattle.script_grammar.specs.contracts.tree.Expr as expr
 use Rattle.script_grammar.specs.contracts.tree.Name as name
 use Rattle.script_grammar.specs.contracts.tree.Param as param
 use Rattle.script_tokens.proofs.version.Version.TheSendSync as version_shared
-use Rattle.script_grammar.proofs.boxed.Boxed.TheSendSync as boxed_shared
-use Rattle.script_grammar.proofs.items.Items.TheSendSync as items_shared
+use Rattle.contract_views.proofs.boxed.Boxed.TheSendSync as boxed_shared
+use Rattle.contract_views.proofs.items.Items.TheSendSync as items_shared
 use Rattle.script_grammar.proofs.tree.Name.TheSendSync as name_shared
 use Rattle.script_grammar.proofs.tree.Number.TheSendSync as number_shared
 use Rattle.script_grammar.proofs.tree.Param.TheSendSync as param_shared

@@ -1,4 +1,3 @@
-pub mod formers
 pub mod Grammar
 pub mod Nesting
 pub mod Fault

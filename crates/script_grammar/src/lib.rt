@@ -1,18 +1,12 @@
 //! Scripts as trees, and the grammar: which text is which tree's.
 //!
-//! The tree types are in [`tree`]. `Items` and `Boxed` are `Vec` and `Box` for contracts, which see the list and the value, so that
-//! two trees are equal in a contract exactly where they are the same tree. `NameText` holds a name's bytes, which contracts see as
-//! a list.
+//! The tree types are in [`tree`]. `NameText` holds a name's bytes, which contracts see as a list.
 #![tactic(auto)]
 
-pub mod boxed;
-pub mod items;
 pub mod laws;
 pub mod name_text;
 pub mod tree;
 
-pub use boxed::Boxed;
-pub use items::Items;
 pub use name_text::{LONGEST_NAME, NameText};
 pub use script_tokens::Version;
 pub use tree::{

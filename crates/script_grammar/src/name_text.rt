@@ -16,7 +16,7 @@ const COMPARED_FIRST: u8 = 8;
 /// the list of the bytes.
 #[derive(Drop)]
 pub struct NameText {
-    /// The bytes, filled up with zeros.
+    // The bytes, filled up with zeros.
     room: [u8; 32],
     length: u8,
 }

@@ -5,9 +5,8 @@
 
 ghost use Rattle.std.specs.Prelude.{◌≡◌};
 
-use crate::boxed::Boxed;
-use crate::items::Items;
 use crate::name_text::NameText;
+use contract_views::{Boxed, Items};
 use script_tokens::Version;
 
 /// A name's bytes, and the offset of the first one.

@@ -2,7 +2,7 @@
 //!
 //! The tree, and the grammar that says of which tree a text is, stand in `script_grammar`; the tree's types are given here again.
 //!
-//! A script, and a text that ends before it is one. `a_text_has_a_tree_or_a_first_fault` in the tests of `worked_texts` runs it:
+//! A script, and a text that ends before it is one. `a_text_has_a_tree_or_a_first_fault` in the tests of `test_texts` runs it:
 //!
 //! ```
 //! let script = parse(alloc, b"fn main() { print 1; return 0; }")?;
@@ -16,11 +16,12 @@ mod fault;
 pub mod laws;
 mod parser;
 
+pub use contract_views::{Boxed, Items};
 pub use error::SyntaxError;
 pub use fault::fault_text;
 pub use parser::{next_token, parse};
 pub use script_grammar::{
-    Act, Boxed, CallText, Comparison, Expr, Function, Items, Kind, Name, Number, Param,
-    ProductPart, ProductSign, Right, Script, Stmt, SumPart,
+    Act, CallText, Comparison, Expr, Function, Kind, Name, Number, Param, ProductPart, ProductSign,
+    Right, Script, Stmt, SumPart,
 };
 pub use script_tokens::{MAX_BYTES, Token, TokenKind, Version};

@@ -11,9 +11,9 @@ use Rattle.script_check.specs.contracts.checked.Checked.TheInside as inside
 use Rattle.script_check.specs.contracts.checked.CheckedScript as kept
 use Rattle.script_check.proofs.names.NameTable.TheSendSync as table_shared
 use Rattle.script_grammar.proofs.Shares.{script_sends, script_syncs}
-use Rattle.script_grammar.proofs.items.Items.TheSendSync as items_shared
+use Rattle.contract_views.proofs.items.Items.TheSendSync as items_shared
 use Rattle.script_grammar.proofs.name_text.NameText.TheSendSync as text_shared
-use Rattle.script_grammar.specs.contracts.items.Items as items
+use Rattle.contract_views.specs.contracts.items.Items as items
 use Rattle.script_grammar.specs.contracts.name_text.NameText as text
 
 number_sends : IsSend u32

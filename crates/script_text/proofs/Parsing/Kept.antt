@@ -7,7 +7,7 @@ use Rattle.script_text.specs.declared.error.SyntaxError.{SyntaxError}
 use Rattle.script_text.specs.declared.parser.source.LexedText.{LexedText}
 use Rattle.script_grammar.specs.Grammar.{Terminal}
 use Rattle.script_text.specs.Machine.{Sym, only}
-use Rattle.script_text.specs.Beside.{Beside}
+use Rattle.script_text.specs.Zips.{Zips}
 use Rattle.script_text.specs.Reads.{Errs, Reads, PassesWord}
 use Rattle.script_text.proofs.Parsing.Steps.{Comes, Passed}
 
@@ -25,7 +25,7 @@ module _ {X : Type 0} (R : List Terminal → X → List Terminal → Type 0) (fr
   came_not r fault e f = subst (Reads R front source d old) e f
 
   -- what was read, and the word after it
-  pub kept : (w : Word) (d' : ℕ) (mid : List Lexeme) (x : X) (r : Result (Bor (List Lexeme)) SyntaxError) (result : Result (X × Bor (List Lexeme)) SyntaxError) → PassesWord w source d' mid r → Beside x r result
+  pub kept : (w : Word) (d' : ℕ) (mid : List Lexeme) (x : X) (r : Result (Bor (List Lexeme)) SyntaxError) (result : Result (X × Bor (List Lexeme)) SyntaxError) → PassesWord w source d' mid r → Zips x r result
       → ((last : List Lexeme) → Passed w source d' mid last → Comes R front source d old x last) → ((fault : SyntaxError) → Errs (only w ∷ []) source d' mid fault → Errs front source d old fault) → Reads R front source d old result
   kept w d' mid x r (Ok p) a b f g = subst (λ z. Comes R front source d old z p.1.now) (sym b.0) (f p.1.now (subst (PassesWord w source d' mid) b.1 a))
   kept w d' mid x r (Err e) a b f g = g e (subst (PassesWord w source d' mid) b a)

@@ -9,7 +9,8 @@ ghost use Rattle.script_text.specs.Reads.{Reads, AddsArgs, IsArguments};
 use crate::error::SyntaxError;
 use crate::parser::expression::expr;
 use crate::parser::source::{LexedText, expect, expect_name, open, rest_after};
-use script_grammar::{CallText, Expr, Items};
+use contract_views::Items;
+use script_grammar::{CallText, Expr};
 use script_tokens::{Lexeme, Word};
 
 // What follows an argument: more of them, each after a comma. They are added to those read before.

@@ -8,9 +8,10 @@ ghost use Rattle.script_tokens.specs.declared.token.Word.TheVariants as word;
 
 use crate::error::SyntaxError;
 use crate::parser::source::{
-    LexedText, beside, deeper, expect, name_in, number_node, open, rest_after, unexpected,
+    LexedText, deeper, expect, name_in, number_node, open, rest_after, unexpected, zip,
 };
-use script_grammar::{Boxed, Comparison, Expr, Items, ProductPart, ProductSign, SumPart};
+use contract_views::{Boxed, Items};
+use script_grammar::{Comparison, Expr, ProductPart, ProductSign, SumPart};
 use script_tokens::{Lexeme, Word};
 use std::alloc::{AllocError, Global};
 
@@ -123,7 +124,7 @@ fn sum<'t>(
     ensures { Reads IsSum (sum_then []) source.now depth tokens.now result }
 {
     let (first, rest) = term(source, tokens, depth)?;
-    let (first, (others, rest)) = beside(first, more_terms(source, rest, depth))?;
+    let (first, (others, rest)) = zip(first, more_terms(source, rest, depth))?;
     Ok((joined_sum(source.alloc, first, others)?, rest))
 }
 
@@ -156,7 +157,7 @@ fn term<'t>(
     ensures { Reads IsTerm (factor ∷ more_factors ∷ []) source.now depth tokens.now result }
 {
     let (first, rest) = factor(source, tokens, depth)?;
-    let (first, (others, rest)) = beside(first, more_factors(source, rest, depth))?;
+    let (first, (others, rest)) = zip(first, more_factors(source, rest, depth))?;
     Ok((joined_product(source.alloc, first, others)?, rest))
 }
 
@@ -226,7 +227,7 @@ fn name_or_item<'t>(
     };
     let inside = deeper(depth, at)?;
     let (place, rest) = expr(source, tail, inside)?;
-    let (place, rest) = beside(place, expect(source, rest, Word::CloseItem, depth))?;
+    let (place, rest) = zip(place, expect(source, rest, Word::CloseItem, depth))?;
     let place = Boxed(Box::new(source.alloc, place)?);
     Ok((Expr::Item(name, place), rest))
 }
@@ -263,7 +264,7 @@ fn group<'t>(
 {
     let inside = deeper(depth, first.start)?;
     let (x, rest) = expr(source, rest, inside)?;
-    beside(x, expect(source, rest, Word::Close, depth))
+    zip(x, expect(source, rest, Word::Close, depth))
 }
 
 // The operands of `same` and `older`.
@@ -278,10 +279,10 @@ fn operands<'t>(
 {
     let rest = open(source, tokens, Word::Open, depth)?;
     let (x, rest) = expr(source, rest, depth + 1)?;
-    let (x, rest) = beside(x, expect(source, rest, Word::Comma, depth + 1))?;
+    let (x, rest) = zip(x, expect(source, rest, Word::Comma, depth + 1))?;
     let x = Boxed(Box::new(source.alloc, x)?);
     let (y, rest) = expr(source, rest, depth + 1)?;
-    let (y, rest) = beside(y, expect(source, rest, Word::Close, depth))?;
+    let (y, rest) = zip(y, expect(source, rest, Word::Close, depth))?;
     let y = Boxed(Box::new(source.alloc, y)?);
     Ok((x, y, rest))
 }

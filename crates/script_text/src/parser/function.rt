@@ -8,9 +8,10 @@ ghost use Rattle.script_text.specs.Reads.{Reads, ReadsBody, ReadsFunctions, Adds
 
 use crate::error::SyntaxError;
 use crate::fault::TextFault;
-use crate::parser::source::{LexedText, beside, expect, expect_name, open, rest_after, unexpected};
+use crate::parser::source::{LexedText, expect, expect_name, open, rest_after, unexpected, zip};
 use crate::parser::statement::{ended_expr, stmts};
-use script_grammar::{Expr, Function, Items, Kind, Param, Script, Stmt};
+use contract_views::Items;
+use script_grammar::{Expr, Function, Kind, Param, Script, Stmt};
 use script_tokens::{LexEnd, Lexeme, Word};
 
 const MOST_FUNCTIONS: usize = 1024;
@@ -113,7 +114,7 @@ fn body<'t>(
         return Err(unexpected(source, rest));
     };
     let (x, rest) = ended_expr(source, tail, depth + 1)?;
-    let (x, rest) = beside(x, expect(source, rest, Word::CloseBlock, depth))?;
+    let (x, rest) = zip(x, expect(source, rest, Word::CloseBlock, depth))?;
     Ok((acts, return_at, x, rest))
 }
 

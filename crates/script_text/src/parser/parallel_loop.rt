@@ -10,7 +10,7 @@ use crate::error::SyntaxError;
 use crate::parser::call::more_args;
 use crate::parser::expression::expr;
 use crate::parser::source::{
-    LexedText, beside, expect, expect_name, name_in, next, open, rest_after, text, unexpected,
+    LexedText, expect, expect_name, name_in, next, open, rest_after, text, unexpected, zip,
 };
 use script_grammar::{Act, CallText, Expr, Name};
 use script_tokens::{Lexeme, Word};
@@ -31,8 +31,8 @@ pub(crate) fn pfor<'t>(
     };
     let var = name_in(source, lexeme)?;
     let (lo, hi, rest) = bounds(source, tail, depth)?;
-    let ((lo, hi), (target, rest)) = beside((lo, hi), target(source, rest, depth))?;
-    let ((lo, hi, target), (call, rest)) = beside(
+    let ((lo, hi), (target, rest)) = zip((lo, hi), target(source, rest, depth))?;
+    let ((lo, hi, target), (call, rest)) = zip(
         (lo, hi, target),
         loop_call(source, &var, rest, depth),
     )?;
@@ -59,8 +59,8 @@ fn bounds<'t>(
 {
     let rest = expect(source, tokens, Word::In, depth)?;
     let (lo, rest) = expr(source, rest, depth)?;
-    let (lo, rest) = beside(lo, expect(source, rest, Word::Range, depth))?;
-    let (lo, (hi, rest)) = beside(lo, expr(source, rest, depth))?;
+    let (lo, rest) = zip(lo, expect(source, rest, Word::Range, depth))?;
+    let (lo, (hi, rest)) = zip(lo, expr(source, rest, depth))?;
     Ok((lo, hi, rest))
 }
 

@@ -3,7 +3,7 @@
 ghost use Rattle.std.specs.Prelude.{◌≡◌, ℕ, ◌≤◌, ◌<◌, [], ◌∷◌, true, MatchOption};
 ghost use Rattle.script_tokens.specs.Lexing.{text_of};
 ghost use Rattle.script_tokens.specs.declared.token.Word.TheVariants as word;
-ghost use Rattle.script_text.specs.Beside.{Beside};
+ghost use Rattle.script_text.specs.Zips.{Zips};
 ghost use Rattle.script_text.specs.Machine.{only};
 ghost use Rattle.script_text.specs.Reads.{IsUnlimited, IsValue, IsName, IsNumber, ReadsName, ReadsNumber, NextIs, NextIsNot, NextLexeme, PassesWord, OpensBracket, Deepens, Reads, unexpected_in};
 
@@ -161,11 +161,8 @@ pub(crate) fn open<'t>(
 }
 
 // What was read before, with what was read now. It is dropped where there is a fault.
-pub(crate) fn beside<A: Drop, B>(
-    before: A,
-    now: Result<B, SyntaxError>,
-) -> Result<(A, B), SyntaxError>
-    ensures { Beside before now result }
+pub(crate) fn zip<A: Drop, B>(before: A, now: Result<B, SyntaxError>) -> Result<(A, B), SyntaxError>
+    ensures { Zips before now result }
 {
     match now {
         Ok(now) => Ok((before, now)),

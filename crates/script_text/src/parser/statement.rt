@@ -11,10 +11,11 @@ use crate::parser::call::call;
 use crate::parser::expression::expr;
 use crate::parser::parallel_loop::pfor;
 use crate::parser::source::{
-    LexedText, beside, deeper, expect, expect_name, expect_number, name_in, open, rest_after,
-    unexpected,
+    LexedText, deeper, expect, expect_name, expect_number, name_in, open, rest_after, unexpected,
+    zip,
 };
-use script_grammar::{Act, CallText, Expr, Items, Number, Right, Stmt};
+use contract_views::Items;
+use script_grammar::{Act, CallText, Expr, Number, Right, Stmt};
 use script_tokens::{Lexeme, Word};
 
 // The right side of `let x = ..` and `x = ..`.
@@ -57,7 +58,7 @@ fn value<'t>(
     ensures { Reads IsValueOf (right ∷ only word.Semicolon ∷ []) source.now depth tokens.now result }
 {
     let (side, rest) = right_side(source, tokens, depth)?;
-    beside(side, expect(source, rest, Word::Semicolon, depth))
+    zip(side, expect(source, rest, Word::Semicolon, depth))
 }
 
 // An expression and the semicolon after it.
@@ -70,7 +71,7 @@ pub(crate) fn ended_expr<'t>(
     ensures { Reads IsEnded (expr_then (only word.Semicolon ∷ [])) source.now depth tokens.now result }
 {
     let (x, rest) = expr(source, tokens, depth)?;
-    beside(x, expect(source, rest, Word::Semicolon, depth))
+    zip(x, expect(source, rest, Word::Semicolon, depth))
 }
 
 // A call and the semicolon after it.
@@ -84,7 +85,7 @@ fn ended_call<'t>(
         source.now depth tokens.now result }
 {
     let (called, rest) = call(source, tokens, depth)?;
-    beside(called, expect(source, rest, Word::Semicolon, depth))
+    zip(called, expect(source, rest, Word::Semicolon, depth))
 }
 
 // `[n];`, where no `=` comes.
@@ -122,9 +123,9 @@ fn element<'t>(
     };
     let inside = deeper(depth, at)?;
     let (place, rest) = expr(source, rest, inside)?;
-    let (place, rest) = beside(place, expect(source, rest, Word::CloseItem, depth))?;
-    let (place, rest) = beside(place, expect(source, rest, Word::Assign, depth))?;
-    let (place, (x, rest)) = beside(place, ended_expr(source, rest, depth))?;
+    let (place, rest) = zip(place, expect(source, rest, Word::CloseItem, depth))?;
+    let (place, rest) = zip(place, expect(source, rest, Word::Assign, depth))?;
+    let (place, (x, rest)) = zip(place, ended_expr(source, rest, depth))?;
     Ok((place, x, rest))
 }
 
@@ -272,8 +273,8 @@ fn choice<'t>(
     ensures { ReadsAct source.now depth first rest.now result }
 {
     let (condition, rest) = expr(source, rest, depth)?;
-    let (condition, (then, rest)) = beside(condition, block(source, rest, depth))?;
-    let ((condition, then), (other, rest)) = beside(
+    let (condition, (then, rest)) = zip(condition, block(source, rest, depth))?;
+    let ((condition, then), (other, rest)) = zip(
         (condition, then),
         otherwise(source, rest, depth),
     )?;
@@ -293,7 +294,7 @@ fn repetition<'t>(
     ensures { ReadsAct source.now depth first rest.now result }
 {
     let (condition, rest) = expr(source, rest, depth)?;
-    let (condition, (body, rest)) = beside(condition, block(source, rest, depth))?;
+    let (condition, (body, rest)) = zip(condition, block(source, rest, depth))?;
     Ok((Act::While(condition, body), rest))
 }
 

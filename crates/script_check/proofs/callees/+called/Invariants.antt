@@ -1,5 +1,5 @@
 use Rattle.std.proofs.Common.{◌≡◌, ◌++◌, drop}
-use Rattle.script_check.specs.Places.{called_in_block}
+use Rattle.script_check.specs.Slots.{called_in_block}
 use Rattle.script_check.proofs.callees.+called.Given as goal
 
 abbrev pub invariant-in_block-loop-statement : goal.invariant-in_block-loop-statement

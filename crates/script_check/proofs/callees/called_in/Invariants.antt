@@ -1,5 +1,5 @@
 use Rattle.std.proofs.Common.{◌≡◌, ◌++◌, drop}
-use Rattle.script_check.specs.Places.{called_in}
+use Rattle.script_check.specs.Slots.{called_in}
 use Rattle.script_check.proofs.callees.called_in.Given as goal
 
 abbrev pub invariant-loop-f : goal.invariant-loop-f

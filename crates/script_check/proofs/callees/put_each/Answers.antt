@@ -1,9 +1,9 @@
 use Rattle.std.proofs.Common.{◌≡◌, ◌≤◌, length, ap, ◌∙◌, arith, rules}
 use Rattle.std.specs.Prelude.{unwrap_or}
 use Rattle.script_check.specs.Functions.{first_named}
-use Rattle.script_check.specs.Places.{function_names, place_in, with_place}
-use Rattle.script_check.proofs.FoundPlaces.Callees.{first-place}
-use Rattle.script_check.proofs.FoundPlaces.Collected.{one-placed}
+use Rattle.script_check.specs.Slots.{function_names, slot_in, with_entry}
+use Rattle.script_check.proofs.FoundSlots.Callees.{first-slot}
+use Rattle.script_check.proofs.FoundSlots.Collected.{one-placed}
 use Rattle.script_check.proofs.Tables.Indexed.{number_within}
 use Rattle.script_check.proofs.callees.put_each.Goals as goal
 
@@ -20,9 +20,9 @@ pub loop-name-preserved : goal.loop-name-preserved
 loop-name-preserved c =
     let names = function_names c.args.functions.now in
     let x = c.name-item.result in
-    let next = c.set_place.new.table.items in
-    let put : next ≡ with_place c.loop-name.table.items x.at c.unwrap_or-number.result = search rules in
+    let next = c.set_entry.new.table.items in
+    let put : next ≡ with_entry c.loop-name.table.items x.at c.unwrap_or-number.result = search rules in
     let got : c.get.result ≡ first_named c.args.functions.now x.bytes = search rules in
-    let number : c.unwrap_or-number.result ≡ unwrap_or (place_in names x.bytes) 0 = c.unwrap_or-number.ensures ∙ ap (λ o. unwrap_or o 0) (got ∙ first-place c.args.functions.now x.bytes) in
+    let number : c.unwrap_or-number.result ≡ unwrap_or (slot_in names x.bytes) 0 = c.unwrap_or-number.ensures ∙ ap (λ o. unwrap_or o 0) (got ∙ first-slot c.args.functions.now x.bytes) in
     c.loop-name.invariant
-    ∙ one-placed names c.args.called.now c.loop-name.name-index x c.loop-name.table.items next c.loop-name-test.true c.name-item.is (put ∙ ap (with_place c.loop-name.table.items x.at) number)
+    ∙ one-placed names c.args.called.now c.loop-name.name-index x c.loop-name.table.items next c.loop-name-test.true c.name-item.is (put ∙ ap (with_entry c.loop-name.table.items x.at) number)

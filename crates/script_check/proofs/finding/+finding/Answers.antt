@@ -1,8 +1,8 @@
 use Rattle.std.proofs.Common.{false, true, sym, ◌∙◌}
-use Rattle.script_check.specs.Places.{every_in_factor, every_in_summand}
+use Rattle.script_check.specs.Slots.{every_in_factor, every_in_summand}
 use Rattle.script_check.specs.Walk.{finds}
-use Rattle.script_check.proofs.FoundPlaces.Collected.{all-at}
-use Rattle.script_check.proofs.FoundPlaces.Parts.{every-factor, every-summand}
+use Rattle.script_check.proofs.FoundSlots.Collected.{all-at}
+use Rattle.script_check.proofs.FoundSlots.Parts.{every-factor, every-summand}
 use Rattle.script_check.proofs.finding.+finding.Goals as goal
 
 pub in_summands-returns-then-not-in_expr : goal.in_summands-returns-then-not-in_expr

@@ -1,5 +1,5 @@
 use Rattle.std.proofs.Common.{◌≡◌, map, drop}
-use Rattle.script_check.specs.Places.{all_true, every_in_factor, every_in_summand}
+use Rattle.script_check.specs.Slots.{all_true, every_in_factor, every_in_summand}
 use Rattle.script_check.specs.Walk.{finds}
 use Rattle.script_check.proofs.finding.+finding.Given as goal
 

@@ -1,5 +1,5 @@
 use Rattle.script_check.specs.Rules.{most_variables}
-use Rattle.script_check.proofs.Tables.PlaceIndex.{next-taken, room-for-next}
+use Rattle.script_check.proofs.Tables.SlotIndex.{next-taken, room-for-next}
 use Rattle.script_check.proofs.finding.finds.Goals as goal
 
 pub with-requires : goal.with-requires

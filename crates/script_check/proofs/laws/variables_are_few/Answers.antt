@@ -1,4 +1,4 @@
-use Rattle.script_check.proofs.FoundPlaces.Few.{variables_are_few}
+use Rattle.script_check.proofs.FoundSlots.Few.{variables_are_few}
 use Rattle.script_check.proofs.laws.variables_are_few.Goals as goal
 
 pub returns : goal.returns

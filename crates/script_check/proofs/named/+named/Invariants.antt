@@ -1,5 +1,5 @@
 use Rattle.std.proofs.Common.{◌≡◌, ◌++◌, drop}
-use Rattle.script_check.specs.Places.{named_in_block}
+use Rattle.script_check.specs.Slots.{named_in_block}
 use Rattle.script_check.proofs.named.+named.Given as goal
 
 abbrev pub invariant-in_block-loop-statement : goal.invariant-in_block-loop-statement

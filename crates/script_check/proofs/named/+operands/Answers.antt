@@ -1,7 +1,7 @@
 use Rattle.std.proofs.Common.{◌++◌, map, sym, ap, ◌∙◌}
-use Rattle.script_check.specs.Places.{joined, named_in_factor, named_in_summand}
-use Rattle.script_check.proofs.FoundPlaces.Collected.{one-part}
-use Rattle.script_check.proofs.FoundPlaces.Parts.{named-factor, named-summand}
+use Rattle.script_check.specs.Slots.{joined, named_in_factor, named_in_summand}
+use Rattle.script_check.proofs.FoundSlots.Collected.{one-part}
+use Rattle.script_check.proofs.FoundSlots.Parts.{named-factor, named-summand}
 use Rattle.script_check.proofs.named.+operands.Goals as goal
 
 pub in_summands-loop-part-preserved : goal.in_summands-loop-part-preserved

@@ -1,5 +1,5 @@
 use Rattle.std.proofs.Common.{◌≡◌, ◌++◌, map, drop}
-use Rattle.script_check.specs.Places.{joined, named_in_factor, named_in_summand}
+use Rattle.script_check.specs.Slots.{joined, named_in_factor, named_in_summand}
 use Rattle.script_check.proofs.named.+operands.Given as goal
 
 abbrev pub invariant-in_summands-loop-part : goal.invariant-in_summands-loop-part

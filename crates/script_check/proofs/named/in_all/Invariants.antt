@@ -1,5 +1,5 @@
 use Rattle.std.proofs.Common.{◌≡◌, ◌++◌, drop}
-use Rattle.script_check.specs.Places.{named_in_all}
+use Rattle.script_check.specs.Slots.{named_in_all}
 use Rattle.script_check.proofs.named.in_all.Given as goal
 
 abbrev pub invariant-loop-e : goal.invariant-loop-e

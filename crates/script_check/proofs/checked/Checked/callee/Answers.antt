@@ -1,8 +1,8 @@
 use Rattle.std.proofs.Common.{◌≡◌, ap, ◌∙◌}
 use Rattle.script_grammar.specs.declared.tree.Script.{Script}
 use Rattle.script_check.specs.declared.checked.CheckedScript.{CheckedScript}
-use Rattle.script_check.specs.Places.{table_of_callees}
-use Rattle.script_check.proofs.FoundPlaces.Callees.{called-number}
+use Rattle.script_check.specs.Slots.{table_of_callees}
+use Rattle.script_check.proofs.FoundSlots.Callees.{called-number}
 use Rattle.script_check.proofs.checked.Checked.callee.Goals as goal
 
 pub returns : goal.returns

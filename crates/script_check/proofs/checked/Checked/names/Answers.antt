@@ -4,7 +4,7 @@ use Rattle.std.specs.Slice.{IsItemAt}
 use Rattle.std.proofs.lemmas.Option.{slice_get-map, slice_get_past, slice_get_read}
 use Rattle.script_grammar.specs.declared.tree.Script.{Script}
 use Rattle.script_check.specs.declared.checked.CheckedScript.{CheckedScript}
-use Rattle.script_check.specs.Places.{each_names, variable_names}
+use Rattle.script_check.specs.Slots.{each_names, variable_names}
 use Rattle.script_check.proofs.checked.Checked.names.Goals as goal
 
 got : {X : Type 0} (xs : List X) (i : ℕ) (r : Option (Bor X)) → IsItemAt xs i r → option_copied r ≡ slice_get xs i

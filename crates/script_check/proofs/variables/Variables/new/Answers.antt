@@ -1,5 +1,5 @@
 use Rattle.script_check.specs.Tables.{table_of}
-use Rattle.script_check.proofs.Tables.PlaceIndex.{no-names}
+use Rattle.script_check.proofs.Tables.SlotIndex.{no-names}
 use Rattle.script_check.proofs.variables.Variables.new.Goals as goal
 
 pub invariant_of-result : goal.invariant_of-result

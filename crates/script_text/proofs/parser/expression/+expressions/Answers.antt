@@ -152,7 +152,7 @@ group-returns-in_err-x t c =
 
 pub group-returns : goal.group-returns
 group-returns t c =
-    kept IsFactor (factor ∷ []) c.args.source.now c.args.depth (c.args.first ∷ c.args.rest.now) word.Close c.args.depth _ _ _ _ c.expect.ensures c.beside.ensures
+    kept IsFactor (factor ∷ []) c.args.source.now c.args.depth (c.args.first ∷ c.args.rest.now) word.Close c.args.depth _ _ _ _ c.expect.ensures c.zip.ensures
     (λ last k. factor_group c.args.source.now c.args.depth _ c.args.rest.now _ last c.args.first _ c.requires.open c.in_ok-inside.ensures c.in_ok-x.ensures k)
     (λ e f. group_err_rest c.args.source.now c.args.depth _ c.args.rest.now _ c.args.first _ e c.requires.open c.in_ok-inside.ensures c.in_ok-x.ensures f)
 

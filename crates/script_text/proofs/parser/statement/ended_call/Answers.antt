@@ -14,6 +14,6 @@ returns-in_err-called c =
 
 pub returns : goal.returns
 returns c =
-    kept IsCallOf (only word.Name ∷ call_args ∷ only word.Semicolon ∷ []) c.args.source.now c.args.depth c.args.tokens.now word.Semicolon c.args.depth _ _ _ _ c.expect.ensures c.beside.ensures
+    kept IsCallOf (only word.Name ∷ call_args ∷ only word.Semicolon ∷ []) c.args.source.now c.args.depth c.args.tokens.now word.Semicolon c.args.depth _ _ _ _ c.expect.ensures c.zip.ensures
     (λ last k. call_of_read c.args.source.now c.args.depth c.args.tokens.now _ last _ c.in_ok-called.ensures k)
     (λ e f. call_of_err_end c.args.source.now c.args.depth c.args.tokens.now e _ _ c.in_ok-called.ensures f)

@@ -14,6 +14,6 @@ returns-in_err-x c =
 
 pub returns : goal.returns
 returns c =
-    kept IsEnded (expr_then (only word.Semicolon ∷ [])) c.args.source.now c.args.depth c.args.tokens.now word.Semicolon c.args.depth _ _ _ _ c.expect.ensures c.beside.ensures
+    kept IsEnded (expr_then (only word.Semicolon ∷ [])) c.args.source.now c.args.depth c.args.tokens.now word.Semicolon c.args.depth _ _ _ _ c.expect.ensures c.zip.ensures
     (λ last k. ended_read c.args.source.now c.args.depth c.args.tokens.now _ last _ c.in_ok-x.ensures k)
     (λ e f. ended_err_end c.args.source.now c.args.depth c.args.tokens.now e _ _ c.in_ok-x.ensures f)

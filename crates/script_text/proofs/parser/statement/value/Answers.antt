@@ -14,6 +14,6 @@ returns-in_err-side c =
 
 pub returns : goal.returns
 returns c =
-    kept IsValueOf (right ∷ only word.Semicolon ∷ []) c.args.source.now c.args.depth c.args.tokens.now word.Semicolon c.args.depth _ _ _ _ c.expect.ensures c.beside.ensures
+    kept IsValueOf (right ∷ only word.Semicolon ∷ []) c.args.source.now c.args.depth c.args.tokens.now word.Semicolon c.args.depth _ _ _ _ c.expect.ensures c.zip.ensures
     (λ last k. value_read c.args.source.now c.args.depth c.args.tokens.now _ last _ c.in_ok-side.ensures k)
     (λ e f. value_err_end c.args.source.now c.args.depth c.args.tokens.now e _ _ c.in_ok-side.ensures f)

@@ -1,5 +1,0 @@
-use Rattle.std.proofs.Common.{rules}
-use Rattle.script_check.proofs.variables.Variables.place.Goals as goal
-
-pub returns : goal.returns
-returns c = search (rules, c.self.invariant c.args.name.now)
