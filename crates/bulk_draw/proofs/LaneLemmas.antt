@@ -1,21 +1,12 @@
--- A round by a rotation, and rounds of several numbers.
-use Rattle.std.proofs.Common.{◌≡◌, ℕ, ◌<◌, ◌≤◌, ◌+◌, ◌*◌, ◌/◌, ◌%◌, ◌^◌, List, [], ◌∷◌, ◌++◌, length, map, take, drop, refl, sym, ap, ◌∙◌, arith, w64}
-use Rattle.std.specs.Int.{rotate_left}
+-- Rounds of several numbers.
+use Rattle.std.proofs.Common.{◌≡◌, ℕ, ◌<◌, ◌≤◌, ◌+◌, List, [], ◌∷◌, ◌++◌, length, map, take, drop, refl, sym, ap, ◌∙◌, arith}
 use Rattle.std.specs.Prelude.{get_or, set}
 use Rattle.std.proofs.Math.Seq.{take-add}
 use Rattle.std.proofs.lemmas.List.{append_assoc, append-nil, drop-drop, drop_all, drop_at, get_or_default, length-append, length-drop, length-map, length-take, map-append, take_all, take_at}
 use Rattle.std.proofs.lemmas.List.Edits.{map_over_more}
-use Rattle.std.proofs.lemmas.Nat.{or_shifted}
 use borrow.Rule.Slice.PartMut.{put_mid}
-use Rattle.dotmix.specs.Draws.{mix, round, swap_halves}
+use Rattle.dotmix.specs.Draws.{mix, round}
 use Rattle.dotmix.proofs.MixLemmas.{mix_more}
-
-low_half : (n : ℕ) → n * 2 ^ 32 % 2 ^ 64 ≡ n % 2 ^ 32 * 2 ^ 32
-low_half n = omega arith
-
--- In 64 bits a rotation by 32 exchanges the halves.
-pub rotated : (n : ℕ) → n < 2 ^ 64 → rotate_left w64 n 32 ≡ swap_halves n
-rotated n h = rw (low_half n) (or_shifted (n % 2 ^ 32) 32 (n / 2 ^ 32) (omega arith))
 
 pub rounds_none : (zs : List ℕ) → zs ≡ map (λ n. mix n 0) zs
 rounds_none [] = refl

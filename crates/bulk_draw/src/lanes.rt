@@ -2,18 +2,10 @@ ghost use Rattle.std.specs.Prelude.{◌≡◌, ◌+◌, ◌≤◌, length, map};
 ghost use Rattle.dotmix.specs.Draws.{mix, most_rounds, round};
 ghost use Rattle.bulk_draw.specs.Streams.{with_lanes};
 
+use dotmix::mixed_once;
+
 // How many numbers are mixed at once.
 pub(crate) const LANES: usize = 8;
-
-// One round: 2z² + z modulo 2^64, and then the two halves swapped.
-fn mixed_once(z: u64) -> u64
-    ensures { result ≡ round z }
-{
-    z.wrapping_mul(2)
-        .wrapping_mul(z)
-        .wrapping_add(z)
-        .rotate_left(32)
-}
 
 fn mix_once(z: &mut [u64])
     ensures { z.new ≡ map round z.old }

@@ -15,7 +15,7 @@ use std::sync::Arc;
 /// The prime 2^64 - 59.
 pub const MODULUS: u64 = 18_446_744_073_709_551_557;
 
-/// Why a list of numbers makes no coefficients.
+/// Why a list of numbers can't be coefficients.
 #[derive(Clone, Copy, Debug, PartialEq, Eq)]
 pub enum GammaError {
     /// The list is longer than the depth.
@@ -46,15 +46,15 @@ impl From<AllocError> for GammaError {
     }
 }
 
-/// The index of the first number that is no coefficient.
+// The index of the first number that is no coefficient.
 fn first_too_big(list: &[u64]) -> Option<usize>
     ensures { result ≡ position is_too_big list.now }
 {
     list.iter().position(|&number| number >= MODULUS)
 }
 
-/// The coefficients of a plan, one for each place of a pedigree. They are seen as a list of fewer than 2^32 numbers, each below
-/// the modulus. They never change, so all copies are one place in memory.
+/// The coefficients of a plan, one for each position in a pedigree. Contracts see a list of fewer than 2^32 numbers,
+/// each below the modulus. They never change, so all copies share one place in memory.
 #[derive(Drop)]
 pub struct Gamma {
     coefficients: Arc<Vec<u64>>,
@@ -72,7 +72,7 @@ impl Model for Gamma {
     ghost invariant = { λ g. IsGamma (arc_value g.coefficients).items };
 }
 
-/// Those of a list.
+// Those of a list.
 fn gamma_of(alloc: Global, coefficients: Vec<u64>) -> Result<Gamma, Memory>
     requires { IsGamma coefficients.items }
     ensures { IfOk result (λ gamma. gamma ≡ coefficients.items) }
@@ -114,7 +114,7 @@ impl Gamma {
         Ok(gamma_of(alloc, coefficients)?)
     }
 
-    /// The same coefficients, over the same memory.
+    /// The same coefficients, sharing their memory.
     pub fn share(&self) -> Result<Gamma, Memory>
         ensures { IfOk result (λ gamma. gamma ≡ self.now) }
     {
@@ -123,7 +123,7 @@ impl Gamma {
         })
     }
 
-    /// The coefficient of this place of a pedigree, from 1.
+    /// The coefficient of this position in a pedigree, counted from 1.
     pub fn coeff(&self, i: u32) -> u64
         requires from_one { 0 < i }
         requires within { i ≤ length self.now }
@@ -143,7 +143,7 @@ impl Gamma {
         self.coefficients.len() as u32
     }
 
-    /// The place of a rank that stands after this path.
+    // The place of a rank that stands after this path.
     pub(crate) fn place_after(&self, path: &Ped) -> u32
         requires { length path.now < length self.now }
         ensures { result ≡ length path.now + 1 }

@@ -1,26 +1,21 @@
 ghost use Rattle.std.specs.Prelude.{◌≡◌};
-ghost use Rattle.dotmix.specs.Draws.{mix, round, swap_halves};
+ghost use Rattle.dotmix.specs.Draws.{mix, round};
 
-/// How often a draw is mixed at most.
+/// The most rounds by which a draw is mixed.
 pub const MOST_ROUNDS: u32 = 8;
 
-const HALF: u64 = 1 << 32;
-
-/// The upper and the lower 32 bits exchanged.
-fn swapped(z: u64) -> u64
-    ensures { result ≡ swap_halves z }
-{
-    z % HALF * HALF + z / HALF
-}
-
-fn mixed_once(z: u64) -> u64
+/// One round of mixing: 2z² + z modulo 2^64, and then the upper and the lower 32 bits exchanged.
+pub fn mixed_once(z: u64) -> u64
     ensures { result ≡ round z }
 {
-    swapped(z.wrapping_mul(2).wrapping_mul(z).wrapping_add(z))
+    z.wrapping_mul(2)
+        .wrapping_mul(z)
+        .wrapping_add(z)
+        .rotate_left(32)
 }
 
-/// Mixes a number by so many rounds of 2z² + z modulo 2^64, each followed by an exchange of the two halves. A draw takes at most
-/// `MOST_ROUNDS`.
+/// Mixes a number by this many rounds of 2z² + z modulo 2^64, each followed by an exchange of the two halves. A draw
+/// takes at most `MOST_ROUNDS`.
 #[tactic(auto, using(crate::proofs::MixLemmas::mix_more))]
 pub fn mix(z: u64, rounds: u32) -> u64
     ensures { result ≡ mix z rounds }

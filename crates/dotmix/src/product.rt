@@ -25,8 +25,8 @@ fn reduced(number: u128) -> u64
     }
 }
 
-/// A dot product with one more term: that of place `i`, from 1, where the pedigree has this rank. It is reduced by the modulus, so
-/// it needs 128 bits only inside.
+/// A dot product with one more term: that of position `i`, from 1, where the pedigree has this rank. The result is
+/// reduced by the modulus; only the calculation needs 128 bits.
 pub fn add_term(gamma: &Gamma, dot: u64, i: u32, rank: u64) -> u64
     requires from_one { 0 < i }
     requires within { i ≤ length gamma.now }
@@ -39,7 +39,7 @@ pub fn add_term(gamma: &Gamma, dot: u64, i: u32, rank: u64) -> u64
     reduced(dot as u128 + term)
 }
 
-/// The dot product of a path.
+// The dot product of a path.
 pub(crate) fn path_dot(gamma: &Gamma, path: &Ped) -> u64
     requires { length path.now ≤ length gamma.now }
     ensures value { result ≡ draws.dot gamma.now path.now }
@@ -55,7 +55,7 @@ pub(crate) fn path_dot(gamma: &Gamma, path: &Ped) -> u64
     sum
 }
 
-/// The dot product of a path with one more rank after it, from that of the path.
+// The dot product of a path with one more rank after it, from that of the path.
 pub(crate) fn dot_with_rank(gamma: &Gamma, path: &Ped, path_dot: u64, rank: u64) -> u64
     requires within { length path.now < length gamma.now }
     requires dot { path_dot ≡ draws.dot gamma.now path.now }
@@ -75,7 +75,8 @@ pub fn dot(gamma: &Gamma, j: &Pedigree) -> u64
     dot_with_rank(gamma, &j.path, path_dot(gamma, &j.path), j.rank)
 }
 
-/// The number that the strand with this pedigree draws: so many rounds of mixing of its dot product, at most `MOST_ROUNDS`.
+/// The number that the strand with this pedigree draws: its dot product, mixed by this many rounds, at most
+/// `MOST_ROUNDS`.
 pub fn dotmix(gamma: &Gamma, j: &Pedigree, rounds: u32) -> u64
     requires within { length j.now ≤ length gamma.now }
     requires rounds { rounds ≤ most_rounds }

@@ -47,7 +47,7 @@ impl Trail {
         })
     }
 
-    /// The same trail, over the same memory.
+    /// The same trail; its path shares its memory.
     pub fn share(&self) -> Result<Trail, Memory>
         ensures { IfOk result (λ trail. trail ≡ self.now) }
     {
@@ -57,7 +57,7 @@ impl Trail {
         })
     }
 
-    /// What the strand of this rank draws: one term more, and so many rounds of mixing, at most `MOST_ROUNDS`.
+    /// What the strand with this rank draws: one more term, and this many rounds of mixing, at most `MOST_ROUNDS`.
     pub fn draw(&self, gamma: &Gamma, rank: u64, rounds: u32) -> u64
         requires fits { FitsGamma gamma.now self.now }
         requires within { length self.now.path < length gamma.now }

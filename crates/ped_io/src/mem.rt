@@ -14,8 +14,8 @@ use std::marker::Model;
 /// Its reads are numbered from 0, those past the number 18446744073709551615 by this number, and a read
 /// fails exactly where its number is planned. Each other read gives as many bytes as it can, up to `step`.
 ///
-/// It is for who tries a call on what a source may do: of `abc`, by steps of 2 and with the failing read 1, the reads give `ab`, fail, give
-/// `c`, and then nothing.
+/// For testing callers against short reads and faults: of `abc`, by steps of 2 and with the failing read 1, the reads
+/// give `ab`, fail, give `c`, and then nothing.
 #[derive(Debug, Drop)]
 pub struct MemSource {
     bytes: Vec<u8>,
@@ -97,7 +97,8 @@ impl Source for MemSource {
 /// fails exactly where its number is planned or the room is full. Each other write takes as many bytes as it
 /// can, up to `step`.
 ///
-/// It is for who tries a call on what a sink may do: with room for 3, by steps of 2, the writes of `abcd` take `ab` and `c`, and then fail.
+/// For testing callers against short writes and faults: with room for 3, by steps of 2, the writes of `abcd` take `ab`
+/// and `c`, and then fail.
 #[derive(Debug, Drop)]
 pub struct MemSink {
     bytes: Vec<u8>,

@@ -32,10 +32,11 @@ fn taken(answer: io::Result<usize>) -> io::Result<usize>
     }
 }
 
-/// A source over a reader. A read asks the reader once and hands on its answer. It fails exactly where the reader does, and the count of
-/// faults then rises by one, until it stands at its last value, 18446744073709551615.
+/// A source over a reader. Each read asks the reader once and returns its answer. It fails exactly where the reader
+/// does, and the count of faults then rises by one, until it stands at its last value, 18446744073709551615.
 ///
-/// That the answer handed on is the reader's is one line of code, of which no clause speaks: a reader doesn't tell that it was asked.
+/// No clause says that the answer is the reader's, since a reader doesn't tell that it was asked. That is one line of
+/// code.
 ///
 /// It tells the bytes that the reader tells. Standard input tells none.
 #[derive(Debug, Drop)]
@@ -70,8 +71,9 @@ impl<R: Read> Source for StdSource<R> {
     }
 }
 
-/// A sink over a writer. A write asks the writer once and hands on its answer. It fails exactly where the writer does, or takes no byte, and
-/// the count of faults then rises by one, until it stands at its last value, 18446744073709551615.
+/// A sink over a writer. Each write asks the writer once and returns its answer. It fails exactly where the writer
+/// does, or takes no byte, and the count of faults then rises by one, until it stands at its last value,
+/// 18446744073709551615.
 ///
 /// As with a source, no clause says that the answer is the writer's.
 ///

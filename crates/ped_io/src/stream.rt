@@ -13,7 +13,7 @@ use thiserror::Error;
 #[error("the transfer failed")]
 pub struct Failed;
 
-/// Want of memory, the answer of a call that has no other refusal.
+/// There was no memory: the error of a call that has no other one.
 #[derive(Clone, Copy, Debug, PartialEq, Eq, Error)]
 #[error("out of memory")]
 pub struct Memory;
@@ -24,7 +24,7 @@ impl From<AllocError> for Memory {
     }
 }
 
-/// Where bytes come from, as std's `Read`, with a count of faults.
+/// A source of bytes, like std's `Read`, with a count of its faults.
 pub trait Source {
     /// The bytes that reads will give from here on, in order. `None` where the source doesn't tell them.
     ghost left: { Self → Option (List ℕ) };
@@ -44,7 +44,7 @@ pub trait Source {
         ensures cause { HasCause (faults self.old) (faults self.new) result };
 }
 
-/// Where bytes go, as std's `Write`, with a count of faults.
+/// A sink for bytes, like std's `Write`, with a count of its faults.
 pub trait Sink {
     /// The bytes taken so far, in order. `None` where the sink doesn't tell them.
     ghost written: { Self → Option (List ℕ) };

@@ -17,7 +17,7 @@ pub enum ReadError {
     /// The source had more bytes than the limit.
     #[error("more bytes than the limit")]
     TooLong,
-    /// Want of memory for the bytes.
+    /// There was no memory for the bytes.
     #[error("out of memory")]
     Memory,
 }

@@ -1,4 +1,4 @@
-ghost use Rattle.std.specs.Prelude.{◌≡◌, ◌<◌, ◌^◌, ℕ, [], ◌∷◌, ◌++◌, length, All, IfOk, slice_index};
+ghost use Rattle.std.specs.Prelude.{◌≡◌, ◌<◌, ℕ, [], ◌∷◌, ◌++◌, All, IfOk, slice_index};
 ghost use Rattle.ped_path.specs.Blocks.{IsRankBlock};
 
 use crate::memory::Memory;
@@ -102,9 +102,21 @@ impl RankBlocks {
         }
     }
 
+    // The same blocks, in a list that no other owner shares.
+    pub(crate) fn again(&self, alloc: Global) -> Result<RankBlocks, Memory>
+        ensures { IfOk result (λ list. list ≡ self.now) }
+    {
+        if self.list.is_none() {
+            return Ok(RankBlocks::none());
+        }
+        let list = shared_blocks(alloc, self.as_slice(), 0)?;
+        Ok(RankBlocks {
+            list: Some(Arc::new(alloc, list)?),
+        })
+    }
+
     // A new list: these blocks and one more.
     pub(crate) fn with(&self, alloc: Global, block: RankBlock) -> Result<RankBlocks, Memory>
-        requires { length self.now < 2 ^ 58 }
         ensures { IfOk result (λ list. list ≡ self.now ++ block ∷ []) }
     {
         let list = with_block(alloc, self.as_slice(), block)?;
@@ -123,19 +135,26 @@ impl RankBlocks {
     }
 }
 
+// A new list of these blocks, with room for so many more.
+fn shared_blocks(alloc: Global, blocks: &[RankBlock], more: usize) -> Result<Vec<RankBlock>, Memory>
+    ensures { IfOk result (λ list. list.items ≡ blocks.now) }
+{
+    let mut list = Vec::with_capacity(alloc, blocks.len().saturating_add(more))?;
+    for shared in blocks {
+        list.push(shared.share()?)?;
+    }
+    Ok(list)
+}
+
 // A new list: these blocks and one more.
 fn with_block(
     alloc: Global,
     blocks: &[RankBlock],
     block: RankBlock,
 ) -> Result<Vec<RankBlock>, Memory>
-    requires { length blocks.now < 2 ^ 58 }
     ensures { IfOk result (λ list. list.items ≡ blocks.now ++ block ∷ []) }
 {
-    let mut list = Vec::with_capacity(alloc, blocks.len() + 1)?;
-    for shared in blocks {
-        list.push(shared.share()?)?;
-    }
+    let mut list = shared_blocks(alloc, blocks, 1)?;
     list.push(block)?;
     Ok(list)
 }

@@ -5,7 +5,7 @@
 //! Platforms" (PPoPP 2012). The names don't depend on how the program was scheduled.
 //!
 //! The first strand of the child that the root's strand 3 spawned comes before the root's strand 4, as it does in a serial run.
-//! `a_childs_strands_come_before_its_parents_next` in the tests of `worked_parts` runs it:
+//! `a_childs_strands_come_before_its_parents_next` in the tests of `test_paths` runs it:
 //!
 //! ```
 //! let path = Ped::root(alloc)?.child(alloc, 3)?;

@@ -65,6 +65,17 @@ impl Path {
         })
     }
 
+    // The same path. It shares the full blocks, but not their list.
+    pub(crate) fn again(&self, alloc: Global) -> Result<Path, Memory>
+        ensures { IfOk result (λ p. p ≡ self.now) }
+    {
+        Ok(Path {
+            blocks: self.blocks.again(alloc)?,
+            last: self.last,
+            count: self.count,
+        })
+    }
+
     pub(crate) fn len(&self) -> u64
         ensures length { result ≡ length self.now }
         ensures small { length self.now < 2 ^ 63 }

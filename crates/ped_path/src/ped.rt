@@ -58,6 +58,19 @@ impl Ped {
         })
     }
 
+    /// Moves the path to memory of its own, which it shares with no copy but for the full blocks of ranks: then its children count no
+    /// owners of memory that those of the other copies count. Where there is no memory for that it stays as it is.
+    pub fn unshare(&mut self, alloc: Global)
+        ensures { self.new ≡ self.old }
+    {
+        let Ok(path) = self.path.again(alloc) else {
+            return;
+        };
+        if let Ok(path) = Arc::new(alloc, path) {
+            self.path = path;
+        }
+    }
+
     pub fn len(&self) -> u64
         ensures length { result ≡ length self.now }
 
@@ -127,6 +140,17 @@ mod tests {
         assert!(rt; Arc::get_mut(&mut copy.path).is_none());
         drop(path);
         assert!(rt; Arc::get_mut(&mut copy.path).is_some());
+        Ok(())
+    }
+
+    #[test]
+    fn an_unshared_copy_is_of_its_own(rt: HostRuntime) -> Result<(), Fail> {
+        let alloc = rt.alloc();
+        let path = Ped::root(alloc)?.child(alloc, 3)?;
+        let mut copy = path.share()?;
+        copy.unshare(alloc);
+        assert!(rt; Arc::get_mut(&mut copy.path).is_some());
+        assert!(rt; copy.same(&path));
         Ok(())
     }
 }

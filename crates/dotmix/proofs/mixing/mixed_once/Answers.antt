@@ -1,7 +1,7 @@
-use Rattle.std.proofs.Common.{ap, ◌∙◌, ◌^◌}
+use Rattle.std.proofs.Common.{ap, ◌∙◌, ◌^◌, arith}
 use Rattle.dotmix.specs.Draws.{swap_halves}
-use Rattle.dotmix.proofs.MixLemmas.{quadratic}
+use Rattle.dotmix.proofs.MixLemmas.{quadratic, rotated}
 use Rattle.dotmix.proofs.mixing.mixed_once.Goals as goal
 
 pub returns : goal.returns
-returns c = c.swapped.ensures ∙ ap swap_halves (quadratic c.args.z (2 ^ 64))
+returns c = c.rotate_left.ensures ∙ rotated _ (omega arith) ∙ ap swap_halves (quadratic c.args.z (2 ^ 64))
