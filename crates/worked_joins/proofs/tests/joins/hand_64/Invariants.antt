@@ -1,5 +1,0 @@
-use Rattle.std.proofs.Common.{◌≡◌, replicate, false}
-use Rattle.worked_joins.proofs.tests.joins.hand_64.Given as goal
-
-abbrev pub invariant-loop-of : goal.invariant-loop-of
-invariant-loop-of l = l.join.taken ≡ replicate l.of-counter false

@@ -1,8 +1,0 @@
-//! Texts with their answers, worked by hand: the tokens, the tree, the validity and the canonical text of a script, and the words of a
-//! command line.
-//!
-//! The crate is its tests. They stand apart, since the check of a crate that has tests proves the crate twice.
-#![tactic(auto)]
-
-#[cfg(test)]
-mod tests;
