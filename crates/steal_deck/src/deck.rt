@@ -1,4 +1,4 @@
-ghost use Rattle.std.specs.Prelude.{◌≡◌, ◌+◌, ◌≤◌, ◌↔◌, ◌++◌, IfOk, IfErr, OnOk, OnErr, IfSome, IfNone, IsNone, length};
+ghost use Rattle.std.specs.Prelude.{◌≡◌, ◌+◌, ◌≤◌, ◌↔◌, ◌++◌, Err, IfOk, IfErr, IsOk, OnOk, OnErr, IfSome, IfNone, IsNone, length};
 ghost use Rattle.steal_deck.specs.Accounts.{AreEntriesOf, EachOnce, left_of};
 ghost use Rattle.steal_deck.specs.Ends.{new_owner, new_thief, known_taken, AllCameBack, Pushes, Pops, FindsNone};
 
@@ -9,6 +9,41 @@ use crate::thief::Thief;
 use crossbeam_deque::Worker;
 use std::alloc::Global;
 use std::marker::Model;
+
+/// A task that a deck refused. Only a refused push makes one.
+#[derive(Drop)]
+pub struct Refused<T> {
+    task: T,
+}
+
+impl<T> Model for Refused<T> {
+    ghost Value = { T };
+
+    ghost view = { λ r. r.task };
+}
+
+impl<T> Refused<T> {
+    /// The task.
+    #[inline(always)]
+    pub fn into_task(self) -> T
+        ensures { result ≡ self }
+    {
+        let Refused { task } = self;
+        task
+    }
+
+    // What the deque refused. It is generic, so that there is no other task.
+    #[inline(always)]
+    fn of(pushed: Result<(), T>) -> Result<(), Refused<T>>
+        ensures err { IfErr result (λ refused. pushed ≡ Err refused) }
+        ensures ok { OnOk result (IsOk pushed) }
+    {
+        match pushed {
+            Ok(()) => Ok(()),
+            Err(task) => Err(Refused { task }),
+        }
+    }
+}
 
 /// The owner's end of a deck.
 ///
@@ -83,14 +118,14 @@ impl<T> Deck<T> {
     ///
     /// `Err` returns the task, with the deck unchanged. That happens where the deck can't grow, because memory or its own limits
     /// are reached, and never among the first 64 pushes. The caller keeps the task, and goes on.
-    pub fn push(&mut self, task: T) -> Result<(), T>
+    pub fn push(&mut self, task: T) -> Result<(), Refused<T>>
         ensures kept { self.new ≡ record self.old { pushed = self.new.pushed } }
         ensures ok { OnOk result (Pushes self.old task self.new) }
         ensures err { IfErr result (λ refused. refused ≡ task) }
         ensures unchanged { OnErr result (self.new ≡ self.old) }
         ensures after_64_pushes { OnErr result (64 ≤ length self.old.pushed) }
     {
-        self.worker.push_as::<PushStep>(task)
+        Refused::of(self.worker.push_as::<PushStep>(task))
     }
 
     /// Takes the newest entry left.

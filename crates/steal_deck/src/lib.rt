@@ -19,7 +19,7 @@
 //! No clause says why a steal answers `Lost`, nor that a push succeeds after the first 64 of a deck, nor that a steal
 //! takes an entry wherever one is left. The tests show a steal that takes one, and many pushes that succeed.
 //!
-//! The owner pushes three tasks, and a thief steals the oldest. `closed_deck_gives_what_is_left` in the tests of `worked_joins` runs it:
+//! The owner pushes three tasks, and a thief steals the oldest. `closed_deck_gives_what_is_left` in the tests of `test_joins` runs it:
 //!
 //! ```
 //! let mut deck = Deck::new(alloc)?;
@@ -42,7 +42,7 @@ mod remains;
 mod rule;
 mod thief;
 
-pub use deck::Deck;
+pub use deck::{Deck, Refused};
 pub use memory::Memory;
 pub use remains::Remains;
 pub use thief::{Steal, Thief};

@@ -13,8 +13,8 @@ use Rattle.serial_meaning.specs.contracts.answer.Answer as answer
 use Rattle.serial_meaning.specs.contracts.answer_key.AnswerKey as key
 use Rattle.serial_meaning.specs.contracts.answer_key.AnswerTagged.TheImpl.{ghosts}
 use Rattle.serial_meaning.specs.declared.keep.Keep.{Ghosts}
-use Rattle.strand_family.specs.contracts.family.Family as family
-use Rattle.strand_family.specs.contracts.family.Family.TheInside as family_inside
+use Rattle.strand_family.specs.contracts.links.Links as links
+use Rattle.strand_family.specs.contracts.links.Links.TheInside as links_inside
 
 module _ (K : RattleType) (keeps : Ghosts K.Denot) (dict : Dict) where
   pub give_sends : IsSend (give.the_row (answer.the_row K keeps) key.the_row (ghosts K keeps dict))
@@ -23,8 +23,8 @@ module _ (K : RattleType) (keeps : Ghosts K.Denot) (dict : Dict) where
   join_sends : IsSend (join.the_row (answer.the_row K keeps) key.the_row (ghosts K keeps dict))
   join_sends = join_shared.the_send (answer.the_row K keeps) key.the_row (ghosts K keeps dict) (answer_sends K keeps)
 
-  family_inside_sends : IsSend (family_inside.the_row K keeps)
-  family_inside_sends = declared_send (family_inside.the_type K keeps) (shared_plan_sends, (origin_shared.the_send, (give_sends, (join_sends, tt))))
+  links_inside_sends : IsSend (links_inside.the_row K keeps)
+  links_inside_sends = declared_send (links_inside.the_type K keeps) (shared_plan_sends, (origin_shared.the_send, (give_sends, (join_sends, tt))))
 
-  pub family_sends : IsSend (family.the_row K keeps)
-  family_sends = view_send (family_inside.the_row K keeps) _ _ _ _ family_inside_sends
+  pub links_sends : IsSend (links.the_row K keeps)
+  links_sends = view_send (links_inside.the_row K keeps) _ _ _ _ links_inside_sends

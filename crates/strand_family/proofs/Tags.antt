@@ -1,13 +1,13 @@
 -- Tags of children.
-use Rattle.std.proofs.Common.{◌≡◌, ℕ, zero, suc, List, [], ◌∷◌, ◌++◌, Some, length, refl, sym, ap, ◌∙◌}
+use Rattle.std.proofs.Common.{◌≡◌, ℕ, zero, suc, List, [], ◌∷◌, ◌++◌, Option, Some, length, refl, sym, ap, ◌∙◌}
 use Rattle.std.specs.Prelude.{slice_get}
-use Rattle.meet_block.specs.Joined.{Joined, LookAnswers}
+use Rattle.meet_block.specs.Joined.{Joined, JoinView, LookAnswers}
 use Rattle.meet_block.specs.declared.join.Look.{Look}
 use Rattle.meet_block.specs.declared.join.Look.TheVariants.{Ready, NotYet}
 use Rattle.serial_meaning.specs.Answer.{AnswerTag}
 use Rattle.serial_meaning.specs.Plan.{PlanView}
 use Rattle.serial_meaning.specs.declared.origin.Origin.{Origin}
-use Rattle.strand_family.specs.Family.{FamilyView, FamilyLooks, tag, tags, origins}
+use Rattle.strand_family.specs.Links.{LinksView, LooksAtChildren, tag, tags, origins}
 
 pub origins_append : (ts us : List AnswerTag) → origins (ts ++ us) ≡ origins ts ++ origins us
 origins_append [] us = refl
@@ -22,8 +22,8 @@ length_origins [] = refl
 length_origins (t ∷ ts) = ap suc (length_origins ts)
 
 -- one more tag of the plan
-pub hand_keeps : (plan : PlanView) (ts : List AnswerTag) (t : AnswerTag) → ts ≡ tags plan (origins ts) → t.plan ≡ plan → ts ++ t ∷ [] ≡ tags plan (origins (ts ++ t ∷ []))
-hand_keeps plan ts t h e =
+pub give_keeps : (plan : PlanView) (ts : List AnswerTag) (t : AnswerTag) → ts ≡ tags plan (origins ts) → t.plan ≡ plan → ts ++ t ∷ [] ≡ tags plan (origins (ts ++ t ∷ []))
+give_keeps plan ts t h e =
     ap (λ (l : List AnswerTag). l ++ t ∷ []) h ∙ ap (λ (p : PlanView). tags plan (origins ts) ++ tag p t.origin ∷ []) e
     ∙ sym (tags_append plan (origins ts) (t.origin ∷ [])) ∙ ap (tags plan) (sym (origins_append ts (t ∷ [])))
 
@@ -42,9 +42,18 @@ plan_at plan ts i t h g = plan_of plan (origins ts) i t (ap (λ (l : List Answer
 
 -- A look
 
-abbrev seen : PlanView → Origin → Joined AnswerTag → FamilyView
-seen plan o j = record { plan = plan; origin = o; children = origins j.tags; taken = j.taken; ready = j.ready; loads = j.loads }
+abbrev seen : PlanView → Origin → Option ℕ → JoinView AnswerTag → LinksView
+seen plan o give j = record {
+  plan = plan;
+  origin = o;
+  children = origins j.children.tags;
+  taken = j.children.taken;
+  ready = j.children.ready;
+  loads = j.children.loads;
+  joins = record { parents = give; own = j.name };
+}
 
-pub looked : (plan : PlanView) (o : Origin) (before after : Joined AnswerTag) (result : Look) → LookAnswers before after result → FamilyLooks (seen plan o before) (seen plan o after) result
-looked plan o before after Ready h = ((h.0, ap (λ (j : Joined AnswerTag). j.loads) h.1), rw h.1 refl)
-looked plan o before after (NotYet n) h = ((h.2.0, n, h.0, ap (λ (j : Joined AnswerTag). j.loads) h.2.1), rw h.2.1 refl)
+pub looked : (plan : PlanView) (o : Origin) (give : Option ℕ) (before after : JoinView AnswerTag) (result : Look) → LookAnswers before.children after.children result → after.name ≡ before.name →
+    LooksAtChildren (seen plan o give before) (seen plan o give after) result
+looked plan o give before after Ready h e = ((h.0, ap (λ (j : Joined AnswerTag). j.loads) h.1), rw (h.1, e) refl)
+looked plan o give before after (NotYet n) h e = ((h.2.0, n, h.0, ap (λ (j : Joined AnswerTag). j.loads) h.2.1), rw (h.2.1, e) refl)

@@ -1,2 +1,2 @@
-pub mod Family
+pub mod Links
 pub mod Origins

@@ -3,11 +3,11 @@
 //! How a task runs is in `strand_machine`.
 #![tactic(auto)]
 
-mod family;
+mod links;
 mod memory;
 mod origin;
 mod start;
 
-pub use family::Family;
+pub use links::Links;
 pub use memory::Memory;
 pub use origin::{iteration_args, part_of, path, share_origin, share_values};

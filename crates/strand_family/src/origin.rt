@@ -6,9 +6,9 @@ ghost use Rattle.serial_meaning.specs.Eval.{path_of};
 ghost use Rattle.strand_family.specs.Origins.{loop_part};
 
 use crate::memory::Memory;
+use contract_views::Items;
 use loop_range::IterRange;
 use ped_path::Ped;
-use script_grammar::Items;
 use serial_meaning::{Origin, Value};
 use std::alloc::Global;
 

@@ -19,7 +19,7 @@ pub(crate) fn stands_before(at: &Pedigree, origin: &Origin) -> bool
     }
 }
 
-// Compares the pedigree with the path of iteration `k`, which is nowhere in memory.
+// Compares the pedigree with the path of iteration `k`, without making that path.
 fn compare_iteration(at: &Pedigree, path: &Ped, k: u64) -> Ordering
     ensures { result ≡ slice_cmp nat_cmp at.now (path.now ++ k ∷ []) }
 {

@@ -1,7 +1,8 @@
 ghost use Rattle.std.specs.Prelude.{◌≡◌, ℕ, [], ◌∷◌, ◌++◌, IfOk, OnOk, OnErr, Some, None, true, false, length, slice_get, slice_set};
 ghost use Rattle.std.specs.Arc.{arc_value};
+ghost use Rattle.meet_block.specs.Gives.{give_of};
 ghost use Rattle.serial_meaning.specs.Answer.{IsAnswer};
-ghost use Rattle.strand_family.specs.Family.{tag, family_with_child, FamilyLooks};
+ghost use Rattle.strand_family.specs.Links.{tag, links_with_child, task_give, LooksAtChildren};
 
 use crate::memory::Memory;
 use crate::start::stands_before;
@@ -13,42 +14,43 @@ use std::sync::Arc;
 
 /// A task's links to others: its plan and origin, the give by which it answers its parent, and the join of its children.
 #[derive(Drop)]
-pub struct Family<K: Keep = All> {
+pub struct Links<K: Keep = All> {
     plan: Arc<Plan>,
     origin: Origin,
     give: Give<Answer<K>>,
     join: Join<Answer<K>>,
 }
 
-impl<K: Keep> Model for Family<K> {
+impl<K: Keep> Model for Links<K> {
     ghost use Rattle.std.specs.Prelude.{◌≡◌, map};
     ghost use Rattle.std.specs.Arc.{arc_value};
     ghost use Rattle.std.specs.Coded.{codes};
     ghost use Rattle.serial_meaning.specs.contracts.plan.Plan as plan_type;
-    ghost use Rattle.strand_family.specs.Family.{FamilyView, tag, tags, origins};
+    ghost use Rattle.strand_family.specs.Links.{LinksView, tag, tags, origins};
 
-    ghost Value = { FamilyView };
+    ghost Value = { LinksView };
 
     ghost coded = { Prim.hlevel (codes, plan_type.the_row.coded) };
 
     ghost view = { λ f. record {
       plan = arc_value f.plan;
       origin = f.origin;
-      children = origins f.join.tags;
-      taken = f.join.taken;
-      ready = f.join.ready;
-      loads = f.join.loads;
+      children = origins f.join.children.tags;
+      taken = f.join.children.taken;
+      ready = f.join.children.ready;
+      loads = f.join.children.loads;
+      joins = record { parents = f.give.join; own = f.join.name };
     } };
 
-    ghost invariant = { λ f. (f.give ≡ tag (arc_value f.plan) f.origin)
-        × (f.join.tags ≡ tags (arc_value f.plan) (origins f.join.tags)) };
+    ghost invariant = { λ f. (f.give.tag ≡ tag (arc_value f.plan) f.origin)
+        × (f.join.children.tags ≡ tags (arc_value f.plan) (origins f.join.children.tags)) };
 }
 
-impl<K: Keep> Family<K> {
+impl<K: Keep> Links<K> {
     ghost use Rattle.std.specs.Prelude.{◌↔◌, IsTrue};
     ghost use Rattle.ped_path.specs.Path.{IsBefore};
     ghost use Rattle.serial_meaning.specs.Answer.{start_of};
-    ghost use Rattle.strand_family.specs.Family.{FamilyView, childless};
+    ghost use Rattle.strand_family.specs.Links.{AreJoinNames, LinksView, childless};
 
     /// The links of a task without children. It takes no memory yet.
     pub fn new(
@@ -56,17 +58,18 @@ impl<K: Keep> Family<K> {
         plan: Arc<Plan>,
         origin: Origin,
         give: Give<Answer<K>>,
-    ) -> Result<Family<K>, Memory>
-        requires { give ≡ tag (arc_value plan) origin }
-        ensures { IfOk result (λ family. family ≡ childless (arc_value plan) origin) }
+    ) -> Result<Links<K>, Memory>
+        requires { give.tag ≡ tag (arc_value plan) origin }
+        ensures childless { IfOk result (λ links. links ≡ childless (arc_value plan) origin links.joins) }
+        ensures joins { IfOk result (λ links. AreJoinNames give.join links.joins) }
     {
         // Where nobody waits for a task's value, its runner takes the children's values itself too.
-        let join = if give.is_alone() {
-            Join::alone()
+        let join = if give.is_detached() {
+            Join::detached()
         } else {
             Join::new(alloc)?
         };
-        Ok(Family {
+        Ok(Links {
             plan,
             origin,
             give,
@@ -81,7 +84,7 @@ impl<K: Keep> Family<K> {
         &self.plan
     }
 
-    /// The handle of the task's plan.
+    /// The task's own handle of its plan.
     pub fn shared_plan(&self) -> &Arc<Plan>
         ensures { arc_value result.now ≡ self.now.plan }
     {
@@ -103,6 +106,15 @@ impl<K: Keep> Family<K> {
         self.plan = plan;
     }
 
+    /// Moves the path of a loop's task, which its parts share, to memory of its own, where there is some.
+    pub fn unshare_path(&mut self, alloc: Global)
+        ensures { self.new ≡ self.old }
+    {
+        if let Origin::Loop { path, .. } = &mut self.origin {
+            path.unshare(alloc);
+        }
+    }
+
     /// Whether the fault precedes all that the origin answers for.
     pub fn stands_after(&self, by: &Fault) -> bool
         ensures { IsTrue result ↔ IsBefore by.now.at (start_of self.now.origin) }
@@ -110,19 +122,23 @@ impl<K: Keep> Family<K> {
         stands_before(&by.at, &self.origin)
     }
 
-    /// What the task began as.
+    /// The origin that the task answers.
     pub fn origin(&self) -> &Origin
         ensures { result.now ≡ self.now.origin }
     {
         &self.origin
     }
 
-    /// The give for one more child, named by a key of the task's plan.
-    #[tactic(auto, using(crate::proofs::Tags::origins_append, crate::proofs::Tags::hand_keeps))]
-    pub fn hand(&mut self, alloc: Global, child: &AnswerKey) -> Result<Give<Answer<K>>, Memory>
+    /// The give for one more child, whose key has the task's plan.
+    #[tactic(auto, using(crate::proofs::Tags::origins_append, crate::proofs::Tags::give_keeps))]
+    pub fn give_for_child(
+        &mut self,
+        alloc: Global,
+        child: &AnswerKey,
+    ) -> Result<Give<Answer<K>>, Memory>
         requires { child.now.plan ≡ self.old.plan }
-        ensures give { IfOk result (λ give. give ≡ child.now) }
-        ensures handed { OnOk result (self.new ≡ family_with_child self.old child.now.origin) }
+        ensures give { IfOk result (λ give. give ≡ give_of child.now self.old.joins.own) }
+        ensures added { OnOk result (self.new ≡ links_with_child self.old child.now.origin) }
     {
         Ok(self.join.hand(alloc, child)?)
     }
@@ -137,7 +153,7 @@ impl<K: Keep> Family<K> {
 
     /// Whether all children have answered.
     pub fn look(&mut self) -> Look
-        ensures { FamilyLooks self.old self.new result }
+        ensures { LooksAtChildren self.old self.new result }
     {
         self.join.look()
     }
@@ -159,9 +175,9 @@ impl<K: Keep> Family<K> {
     pub fn answer(self, out: Out<K>, outcome: Outcome) -> (Answer<K>, Give<Answer<K>>)
         requires { IsAnswer self.plan self.origin out outcome }
         ensures answer { result.0 ≡ record { plan = self.plan; origin = self.origin; out = out; outcome = outcome } }
-        ensures give { result.1 ≡ tag self.plan self.origin }
+        ensures give { result.1 ≡ task_give self.plan self.origin self.joins }
     {
-        let Family {
+        let Links {
             plan,
             origin,
             give,
