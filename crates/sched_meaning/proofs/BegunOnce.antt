@@ -1,7 +1,7 @@
 pub mod Begun
 pub mod Shows
 pub mod Presents
-pub mod Handed
+pub mod Starts
 pub mod Regions
 pub mod Changing
 pub mod Loads

@@ -45,11 +45,11 @@ new_core plan n = record {
 
 -- the children whose answers a task hasn't taken
 abbrev pub awaited : Task → List Origin
-awaited t = map (λ p. p.child) t.trace.handed
+awaited t = map (λ p. p.child) t.trace.unmerged
 
 -- a task that has taken the evaluations of these children
 abbrev pub gone_on : Task → Task
-gone_on t = on (evaluations (eval t.plan) t.trace.handed) t
+gone_on t = on (evaluations (eval t.plan) t.trace.unmerged) t
 
 abbrev pub current_tasks : Option Task → List Task
 current_tasks None = []

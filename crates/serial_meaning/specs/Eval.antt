@@ -5,7 +5,7 @@ use Rattle.std.specs.Int.{w64, int_wrapping_add}
 use Rattle.serial_meaning.specs.Runs.{Run, done, ◌then◌}
 use Rattle.serial_meaning.specs.Functions.{function_at, function_number, main_name}
 use Rattle.serial_meaning.specs.Plan.{PlanView, functions_of}
-use Rattle.serial_meaning.specs.Exec.{Manner, instance}
+use Rattle.serial_meaning.specs.Exec.{Interpretation, instance}
 use Rattle.serial_meaning.specs.declared.value.Value.{Value}
 use Rattle.serial_meaning.specs.declared.value.Value.TheVariants.{Int}
 use Rattle.serial_meaning.specs.declared.event.Fault.{Fault}
@@ -23,7 +23,7 @@ first_value (v ∷ vs) = v
 
 -- A spawn runs its child at once and takes its value, a loop runs its iterations, a sync has nothing to wait for, and the first fault
 -- ends everything.
-abbrev pub serial : (Origin → Evaluation) → Manner Event Fault (Unit {0})
+abbrev pub serial : (Origin → Evaluation) → Interpretation Event Fault (Unit {0})
 serial child = record {
   event = λ e. e;
   opens = λ j. [];

@@ -1,7 +1,7 @@
 -- What statements do (docs/LANGUAGE.md, "Steps", "Instances and ranks" and "Parallel loops").
 --
 -- There is one text for the serial elision and for the open tree. They differ in how children, loops and syncs are taken, which is
--- a `Manner`.
+-- an `Interpretation`.
 use Rattle.std.specs.Prelude.{ℕ, zero, suc, ◌+◌, ◌-◌, Bool, true, false, nat_lt, List, [], ◌∷◌, ◌++◌, Option, Some, None, Result, Ok, Err, length, if◌then◌else◌}
 use Rattle.std.specs.Prelude.{ℤ, pos, negsuc, ◌-ℤ◌}
 use Rattle.std.specs.Int.{w64, cast_signed}
@@ -18,13 +18,13 @@ use Rattle.script_grammar.specs.declared.tree.Act.{Act, out-Act}
 use Rattle.script_grammar.specs.declared.tree.Act.TheOpen as act
 use Rattle.script_grammar.specs.declared.tree.Act.TheOpen.{Act-F}
 use Rattle.serial_meaning.specs.Runs.{Run, done, run_ends_by, happens, ◌then◌}
-use Rattle.serial_meaning.specs.Values.{Env, slot_of, items_of, as_integer, is_true, at_index, value_of, values_of}
+use Rattle.serial_meaning.specs.Values.{Env, content_of, items_of, as_integer, is_true, at_index, value_of, values_of}
 use Rattle.serial_meaning.specs.Functions.{function_number, function_at, any_spawns}
 use Rattle.serial_meaning.specs.Plan.{PlanView, functions_of, drawn}
 use Rattle.serial_meaning.specs.declared.value.Value.{Value}
 use Rattle.serial_meaning.specs.declared.value.Value.TheVariants.{Int, Id}
-use Rattle.serial_meaning.specs.declared.environment.Slot.{Slot}
-use Rattle.serial_meaning.specs.declared.environment.Slot.TheVariants.{Scalar, Array}
+use Rattle.serial_meaning.specs.declared.environment.Content.{Content}
+use Rattle.serial_meaning.specs.declared.environment.Content.TheVariants.{Scalar, Array}
 use Rattle.serial_meaning.specs.declared.event.FaultKind.{FaultKind}
 use Rattle.serial_meaning.specs.declared.event.FaultKind.TheVariants.{Index, Depth, Calls, Budget}
 use Rattle.serial_meaning.specs.declared.event.Fault.{Fault}
@@ -43,7 +43,7 @@ pub record State (K : Type 0) : Type 0 where
 
 -- how events, faults, children, loops, syncs and the ends of scopes are taken: I are a run's items, E its bad ends, and K what is known of
 -- spawned children; a scope is given by the pedigree of the strand that came to it
-pub record Manner (I E K : Type 0) : Type 0 where
+pub record Interpretation (I E K : Type 0) : Type 0 where
   pub event : Event → I
   pub opens : List ℕ → List I
   pub closes : List ℕ → List I
@@ -56,9 +56,9 @@ pub record Manner (I E K : Type 0) : Type 0 where
 -- Variables
 
 -- a variable's new value; a new name stands at the end
-abbrev pub with_slot : Env → List ℕ → Slot → Env
-with_slot [] name slot = record { name = name; slot = slot } ∷ []
-with_slot (v ∷ vs) name slot = if bytes_eq v.name name then record v { slot = slot } ∷ vs else v ∷ with_slot vs name slot
+abbrev pub with_content : Env → List ℕ → Content → Env
+with_content [] name content = record { name = name; content = content } ∷ []
+with_content (v ∷ vs) name content = if bytes_eq v.name name then record v { content = content } ∷ vs else v ∷ with_content vs name content
 
 abbrev pub zeros : ℕ → List ℤ
 zeros zero = []
@@ -83,7 +83,7 @@ with_front (x ∷ xs) (v ∷ vs) = as_integer v ∷ with_front xs vs
 abbrev pub bound : List Param → List Value → Env
 bound [] vs = []
 bound (p ∷ ps) [] = []
-bound (p ∷ ps) (v ∷ vs) = record { name = p.name.bytes; slot = Scalar v } ∷ bound ps vs
+bound (p ∷ ps) (v ∷ vs) = record { name = p.name.bytes; content = Scalar v } ∷ bound ps vs
 
 -- a number that isn't negative, and 0 for the others
 abbrev pub count_of : ℤ → ℕ
@@ -93,7 +93,7 @@ count_of (negsuc n) = 0
 -- whether a loop's target, if there is one, has at least n items
 abbrev pub has_room : Option Name → ℕ → Env → Bool
 has_room None n env = true
-has_room (Some x) n env = nat_lt n (length (items_of (slot_of env x.bytes)) + 1)
+has_room (Some x) n env = nat_lt n (length (items_of (content_of env x.bytes)) + 1)
 
 -- the pedigrees in the iterations of a loop, if there are any, are within the depth
 abbrev pub loop_fits : PlanView → List ℕ → ℕ → Bool
@@ -103,14 +103,14 @@ loop_fits plan path (suc n) = nat_lt (length path + 2) plan.limits.depth
 -- the target's items replaced by the iterations' values
 abbrev pub with_loop_values : Option Name → List Value → Env → Env
 with_loop_values None vs env = env
-with_loop_values (Some x) vs env = with_slot env x.bytes (Array (with_front (items_of (slot_of env x.bytes)) vs))
+with_loop_values (Some x) vs env = with_content env x.bytes (Array (with_front (items_of (content_of env x.bytes)) vs))
 
 module _ {K : Type 0} where
   abbrev pub set_scalar : State K → Name → Value → State K
-  set_scalar s x v = record s { env = with_slot s.env x.bytes (Scalar v) }
+  set_scalar s x v = record s { env = with_content s.env x.bytes (Scalar v) }
 
   abbrev pub set_array : State K → Name → List ℤ → State K
-  set_array s x xs = record s { env = with_slot s.env x.bytes (Array xs) }
+  set_array s x xs = record s { env = with_content s.env x.bytes (Array xs) }
 
   -- the pedigree of the strand
   abbrev pub strand : List ℕ → State K → List ℕ
@@ -129,7 +129,7 @@ abbrev pub all_happen : {I E A : Type 0} → List I → A → Run I E A
 all_happen items a = record { items = items; ending = Ok a }
 
 -- at the present path `path`
-module _ {I E K : Type 0} (how : Manner I E K) (plan : PlanView) (path : List ℕ) where
+module _ {I E K : Type 0} (how : Interpretation I E K) (plan : PlanView) (path : List ℕ) where
   -- the instance ends by a fault of its own
   abbrev pub fault : {A : Type 0} → FaultKind → State K → Run I E A
   fault kind s = run_ends_by (how.own (record { kind = kind; at = strand path s }))
@@ -230,7 +230,7 @@ module _ {I E K : Type 0} (how : Manner I E K) (plan : PlanView) (path : List �
   abbrev pub store : Name → Expr → Expr → State K → Run I E (State K)
   store x i e s =
       unless_fault (value_of i s.env) s λ k.
-      let xs = items_of (slot_of s.env x.bytes) in
+      let xs = items_of (content_of s.env x.bytes) in
       found (at_index xs (as_integer k)) s
       (unless_fault (value_of e s.env) s λ v.
       done (set_array s x (set_item xs (as_integer k) v)))
@@ -279,7 +279,7 @@ module _ {I E K : Type 0} (how : Manner I E K) (plan : PlanView) (path : List �
   each one [] s = done s
   each one (st ∷ sts) s = one st s then each one sts
 
-module _ {I E K : Type 0} (how : Manner I E K) (plan : PlanView) where
+module _ {I E K : Type 0} (how : Interpretation I E K) (plan : PlanView) where
   -- A statement pays a step before it enters a block, an iteration, a call or a scope. So n levels of these are enough for n steps, and one more
   -- statement finds no step. That makes the meaning total, whatever the script. Nothing above depends on the levels: the laws of
   -- `exec` give its equations without them.

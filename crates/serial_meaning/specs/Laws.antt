@@ -6,11 +6,15 @@ use Rattle.ped_path.specs.Path.{IsBefore}
 use Rattle.loop_range.specs.Range.{Range}
 use Rattle.script_grammar.specs.declared.tree.Expr.{Expr}
 use Rattle.script_grammar.specs.declared.tree.Stmt.{Stmt}
+use Rattle.serial_meaning.specs.Answer.{AnswerView}
+use Rattle.serial_meaning.specs.Keeping.{kept_of}
+use Rattle.serial_meaning.specs.Prints.{is_print}
+use Rattle.serial_meaning.specs.Render.{answer_text}
 use Rattle.serial_meaning.specs.Runs.{done, ◌then◌}
-use Rattle.serial_meaning.specs.Values.{Env, slot_of, value_of}
+use Rattle.serial_meaning.specs.Values.{Env, content_of, value_of}
 use Rattle.serial_meaning.specs.Names.{names_in}
 use Rattle.serial_meaning.specs.Plan.{PlanView, drawn}
-use Rattle.serial_meaning.specs.Exec.{State, Manner, statement, exec}
+use Rattle.serial_meaning.specs.Exec.{State, Interpretation, statement, exec}
 use Rattle.serial_meaning.specs.Eval.{Evaluation, serial, eval, main_origin, elision}
 use Rattle.serial_meaning.specs.Open.{Child, put_off_all, loop_end, node_of, faults}
 use Rattle.serial_meaning.specs.declared.value.Value.{Value}
@@ -19,12 +23,13 @@ use Rattle.serial_meaning.specs.declared.event.Event.{Event}
 use Rattle.serial_meaning.specs.declared.event.Event.TheVariants as event
 use Rattle.serial_meaning.specs.declared.origin.Origin.{Origin}
 use Rattle.serial_meaning.specs.declared.origin.Origin.TheVariants.{Loop}
+use Rattle.serial_meaning.specs.declared.plan.Show.TheVariants.{Plain}
 
 -- The equations of statements
 
 -- Statements in a row are the first and then the others, and an iteration of a `while` puts its body and the loop before them. No number
 -- of levels stands here.
-pub record Equations {I E K : Type 0} (how : Manner I E K) (plan : PlanView) (path : List ℕ) : Type 0 where
+pub record Equations {I E K : Type 0} (how : Interpretation I E K) (plan : PlanView) (path : List ℕ) : Type 0 where
   pub nothing : (calls : ℕ) (s : State K) → exec how plan path calls [] s ≡ done s
   pub first : (calls : ℕ) (st : Stmt) (sts : List Stmt) (s : State K) →
       exec how plan path calls (st ∷ sts) s ≡ (statement how plan path (exec how plan) calls st s then exec how plan path calls sts)
@@ -64,7 +69,7 @@ DrawsAreDotMix = (plan : PlanView) (j : List ℕ) (n : ℕ) → Contains (elisio
 -- Two environments that agree on the variables that an expression names give it the same value or fault.
 abbrev pub ValuesDependOnNames : Type 0
 ValuesDependOnNames =
-    (e : Expr) (env other : Env) → All (λ name. slot_of env name ≡ slot_of other name) (names_in e) → value_of e env ≡ value_of e other
+    (e : Expr) (env other : Env) → All (λ name. content_of env name ≡ content_of other name) (names_in e) → value_of e env ≡ value_of e other
 
 -- Faults
 
@@ -98,3 +103,10 @@ EndsWithin fs (Err f) = Contains fs f
 -- A fault by which an origin of the plan ends is one of the open tree.
 abbrev pub OriginsEndWithinFaults : Type 0
 OriginsEndWithinFaults = (plan : PlanView) (o : Origin) → IsOriginOf plan o → EndsWithin (faults plan) (eval plan o).ending
+
+-- Printed lines
+
+-- Where values alone are printed, two answers with the same prints that end alike print the same text.
+abbrev pub PlainTextDependsOnPrints : Type 0
+PlainTextDependsOnPrints =
+    (a b : AnswerView) → a.plan.show ≡ Plain → b.plan.show ≡ Plain → kept_of is_print a.out ≡ kept_of is_print b.out → a.outcome ≡ b.outcome → answer_text a ≡ answer_text b

@@ -9,7 +9,7 @@ use Rattle.script_grammar.specs.declared.tree.Kind.TheVariants as kind
 use Rattle.serial_meaning.specs.Runs.{Run, done, run_ends_by, happens, ◌then◌}
 use Rattle.serial_meaning.specs.Functions.{function_at}
 use Rattle.serial_meaning.specs.Plan.{PlanView, functions_of}
-use Rattle.serial_meaning.specs.Exec.{Manner, instance}
+use Rattle.serial_meaning.specs.Exec.{Interpretation, instance}
 use Rattle.serial_meaning.specs.Eval.{Evaluation, first_value, iteration, by_depth, eval_below, depth_left, main_origin}
 use Rattle.serial_meaning.specs.declared.value.Value.{Value}
 use Rattle.serial_meaning.specs.declared.value.Value.TheVariants.{Int, Id}
@@ -43,17 +43,17 @@ least None f = f
 least (Some g) f = lesser g f
 
 -- what stands for the value of a child that faults; a valid script doesn't read it
-abbrev pub filler_of : Kind → Value
-filler_of kind.Int = Int (pos 0)
-filler_of kind.Id = Id (0 ∷ [])
+abbrev pub placeholder_of : Kind → Value
+placeholder_of kind.Int = Int (pos 0)
+placeholder_of kind.Id = Id (0 ∷ [])
 
-abbrev pub answer_filler : Option Function → Value
-answer_filler (Some f) = filler_of f.answer
-answer_filler None = Int (pos 0)
+abbrev pub answer_placeholder : Option Function → Value
+answer_placeholder (Some f) = placeholder_of f.answer
+answer_placeholder None = Int (pos 0)
 
-abbrev pub filler : PlanView → Origin → Value
-filler plan (Instance function args path) = answer_filler (function_at (functions_of plan) function)
-filler plan (Loop function rest first path range) = Int (pos 0)
+abbrev pub placeholder : PlanView → Origin → Value
+placeholder plan (Instance function args path) = answer_placeholder (function_at (functions_of plan) function)
+placeholder plan (Loop function rest first path range) = Int (pos 0)
 
 -- the value of a spawned child, and the least fault of the children so far
 abbrev pub put_off : Value → Option Fault → Result (List Value) Fault → Value × Option Fault
@@ -77,14 +77,14 @@ is_empty_loop (Instance function args path) = false
 is_empty_loop (Loop function rest first path range) = is_zero (range.hi - range.lo)
 
 -- A child is an item. What is known of spawned children is the least fault among them. A loop without an iteration is no item.
-abbrev pub put_off_all : PlanView → (Origin → Evaluation) → Manner Item NodeFault (Option Fault)
+abbrev pub put_off_all : PlanView → (Origin → Evaluation) → Interpretation Item NodeFault (Option Fault)
 put_off_all plan child = record {
   event = Happened;
   opens = λ j. Opened j ∷ [];
   closes = λ j. Closed j ∷ [];
   own = Own;
   none = None;
-  spawn = λ o faulted. happens (Child o) (put_off (filler plan o) faulted (child o).ending);
+  spawn = λ o faulted. happens (Child o) (put_off (placeholder plan o) faulted (child o).ending);
   loop = λ o. if is_empty_loop o then done [] else record { items = Child o ∷ []; ending = loop_end (child o).ending };
   sync = unless_child_faulted;
 }

@@ -18,8 +18,8 @@ use Rattle.script_grammar.specs.declared.tree.ProductSign.TheVariants as sign
 use Rattle.serial_meaning.specs.Runs.{◌>>=◌}
 use Rattle.serial_meaning.specs.declared.value.Value.{Value}
 use Rattle.serial_meaning.specs.declared.value.Value.TheVariants.{Int, Id}
-use Rattle.serial_meaning.specs.declared.environment.Slot.{Slot}
-use Rattle.serial_meaning.specs.declared.environment.Slot.TheVariants.{Scalar, Array}
+use Rattle.serial_meaning.specs.declared.environment.Content.{Content}
+use Rattle.serial_meaning.specs.declared.environment.Content.TheVariants.{Scalar, Array}
 use Rattle.serial_meaning.specs.declared.environment.Variable.{Variable}
 use Rattle.serial_meaning.specs.declared.event.FaultKind.{FaultKind}
 use Rattle.serial_meaning.specs.declared.event.FaultKind.TheVariants.{Divide, Index}
@@ -32,18 +32,18 @@ Val = Result Value FaultKind
 abbrev pub Env : Type 0
 Env = List Variable
 
-abbrev pub slot_of : Env → List ℕ → Option Slot
-slot_of [] name = None
-slot_of (v ∷ vs) name = if bytes_eq v.name name then Some v.slot else slot_of vs name
+abbrev pub content_of : Env → List ℕ → Option Content
+content_of [] name = None
+content_of (v ∷ vs) name = if bytes_eq v.name name then Some v.content else content_of vs name
 
 -- A valid script reads no scalar as an array, no Int as an Id, and no name that isn't known. What stands here for these cases is
 -- never used.
-abbrev pub scalar : Option Slot → Value
+abbrev pub scalar : Option Content → Value
 scalar (Some (Scalar v)) = v
 scalar (Some (Array xs)) = Int (pos 0)
 scalar None = Int (pos 0)
 
-abbrev pub items_of : Option Slot → List ℤ
+abbrev pub items_of : Option Content → List ℤ
 items_of (Some (Scalar v)) = []
 items_of (Some (Array xs)) = xs
 items_of None = []
@@ -122,8 +122,8 @@ products env v (p ∷ ps) =
 -- one node, with what its parts give in their places
 abbrev pub value_at : Expr-F Meaning (ProductSign × Meaning) (Bool × Meaning) → Meaning
 value_at (node.Number n) env = Ok (Int n.value)
-value_at (node.Var x) env = Ok (scalar (slot_of env x.bytes))
-value_at (node.Item x i) env = i env >>= λ v. item (items_of (slot_of env x.bytes)) (as_integer v)
+value_at (node.Var x) env = Ok (scalar (content_of env x.bytes))
+value_at (node.Item x i) env = i env >>= λ v. item (items_of (content_of env x.bytes)) (as_integer v)
 value_at (node.Neg at e) env = e env >>= λ v. Ok (Int (int_wrapping_neg w64 (as_integer v)))
 value_at (node.Same at a b) env =
     a env >>= λ x. b env >>= λ y. Ok (truth (bytes_eq (object x) (object y)))

@@ -7,7 +7,7 @@ use crate::origin::Origin;
 use crate::out::Out;
 use crate::plan::Plan;
 use crate::value::Value;
-use script_grammar::Items;
+use contract_views::Items;
 use std::marker::Model;
 use std::sync::Arc;
 
@@ -19,13 +19,13 @@ pub enum Outcome {
     /// The values of a loop's iterations, in order.
     Values(Items<Value>),
     Fault(Fault),
-    /// The origin wasn't run to its end, since a fault of the plan stands before the first pedigree that it answers for: before an
-    /// instance's path, or before the path of a loop's first iteration. What it would have done comes after that fault in the serial
-    /// elision, which so never comes to it.
+    /// The origin wasn't run to its end, because a fault of the plan precedes the first pedigree that it answers for:
+    /// an instance's path, or the path of a loop's first iteration. The serial elision ends at that fault and never
+    /// gets to this origin.
     Cut { by: Fault },
 }
 
-/// What an origin gave under a plan. It is the serial meaning of the origin, or a cut: a value of this type can't be made with any
+/// What an origin gave under a plan. It is the serial meaning of the origin, or a cut: no value of this type has any
 /// other events or outcome. The events of a cut mean nothing.
 #[derive(Drop)]
 pub struct Answer<K: Keep = All> {

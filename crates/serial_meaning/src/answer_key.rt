@@ -2,12 +2,12 @@ use crate::answer::Answer;
 use crate::keep::Keep;
 use crate::origin::Origin;
 use crate::plan::Plan;
-use meet_block::Tagged;
+use contract_views::Tagged;
 use std::marker::Model;
 use std::sync::Arc;
 
-/// What an answer answers: a plan, and an origin of it. A parent hands out its children by these, and each answer comes back with its
-/// own. It is seen as the plan itself and the origin, wherever the plan is kept.
+/// What an answer is the answer to: an origin of a plan. A parent begins its children by these keys, and each answer
+/// comes back with its own. Contracts see the plan and the origin, and not where the plan is in memory.
 #[derive(Drop)]
 pub struct AnswerKey {
     pub plan: Arc<Plan>,

@@ -4,8 +4,8 @@ ghost use Rattle.serial_meaning.specs.Prints.{is_print, has_print};
 use crate::event::Event;
 use std::marker::Model;
 
-/// Events after which none are put any more, and whether one of them is a print, so that a reader of prints may pass them all by. It is
-/// seen as the list of them.
+/// A closed list of events: none is added at its end. It knows whether one of them is a print, so that a reader of
+/// prints can skip it. Contracts see the list.
 #[derive(Drop)]
 pub struct Chunk {
     events: Vec<Event>,
@@ -46,7 +46,7 @@ impl Chunk {
         self.prints
     }
 
-    /// Puts an event before its others, or gives it back where there is no memory.
+    // Puts an event in front, or returns it where there is no memory.
     pub(crate) fn put_first(&mut self, event: Event) -> Result<(), Event>
         ensures ok { OnOk result (self.new ≡ event ∷ self.old) }
         ensures err { IfErr result (λ back. (back ≡ event) × (self.new ≡ self.old)) }
@@ -58,7 +58,7 @@ impl Chunk {
     }
 }
 
-/// Puts an event before all others, or gives it back where there is no memory.
+// Puts an event in front of all others, or returns it where there is no memory.
 pub(crate) fn put_first(events: &mut Vec<Event>, event: Event) -> Result<(), Event>
     ensures ok { OnOk result (events.new.items ≡ event ∷ events.old.items) }
     ensures err { IfErr result (λ back. (back ≡ event) × (events.new.items ≡ events.old.items)) }

@@ -1,9 +1,9 @@
 use crate::value::Value;
-use script_grammar::Items;
+use contract_views::Items;
 
 /// What a variable of a function holds.
 #[derive(Drop)]
-pub enum Slot {
+pub enum Content {
     Scalar(Value),
     /// An array's items.
     Array(Items<i64>),
@@ -13,5 +13,5 @@ pub enum Slot {
 #[derive(Drop)]
 pub struct Variable {
     pub name: Items<u8>,
-    pub slot: Slot,
+    pub content: Content,
 }

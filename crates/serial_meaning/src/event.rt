@@ -20,7 +20,7 @@ pub enum Event {
     Loop(Pedigree),
 }
 
-/// What an event says that isn't a print, without its pedigree: enough to make it where it is kept.
+/// An event that isn't a print, without its pedigree: enough to make the event where it is kept.
 #[derive(Clone, Copy, Debug, PartialEq, Eq)]
 pub enum EventKind {
     /// A random number.
@@ -57,7 +57,7 @@ pub enum FaultKind {
     Index,
     /// A spawn, a scope or a loop whose pedigrees would be longer than the plan allows.
     Depth,
-    /// One call more than 256 open ones in an instance.
+    /// A call in an instance that already has 256 open calls.
     Calls,
     /// A statement that costs a step where none is left.
     Budget,
@@ -71,7 +71,7 @@ pub struct Fault {
 }
 
 impl Fault {
-    /// The same fault, over the same memory.
+    /// The same fault; its pedigree shares its memory.
     pub fn share(&self) -> Result<Fault, Memory>
         ensures { IfOk result (λ fault. fault ≡ self.now) }
     {

@@ -21,7 +21,7 @@ pub trait Keep {
 /// All events.
 pub struct All;
 
-/// The prints alone: all that a run shows whose plan shows values alone.
+/// Prints only: all that is printed of a run whose plan shows values only.
 pub struct Prints;
 
 impl Keep for All {
@@ -35,7 +35,7 @@ impl Keep for All {
 
     #[inline(always)]
     fn keeps_kind(kind: EventKind) -> bool {
-        let _ = kind;
+        let _any = kind;
         true
     }
 }

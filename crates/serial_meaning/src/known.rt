@@ -7,8 +7,8 @@ use crate::plan::Plan;
 use std::marker::Model;
 use std::sync::Arc;
 
-/// A fault that is known to be one of its plan's, so that what stands after it may be cut. A value of this type can't be made with
-/// any other fault. It may be read by several threads.
+/// A fault that is known to be one of the plan's, so that tasks after it may be cut. No value of this type holds any
+/// other fault. Several threads may read it.
 #[derive(Drop)]
 pub struct Known {
     pub plan: Arc<Plan>,
@@ -33,7 +33,7 @@ impl Model for Known {
 }
 
 impl Known {
-    /// Joins a plan and one of its faults, by which a task of that plan ended. It takes no memory.
+    /// Pairs a plan with one of its faults, by which a task of that plan ended. It takes no memory.
     pub fn new(plan: Arc<Plan>, fault: Fault) -> Known
         requires { Contains (faults (arc_value plan)) fault }
         ensures { result ≡ record { plan = arc_value plan; fault = fault } }

@@ -1,10 +1,11 @@
-//! Laws of the meaning, each the contract of a function that does nothing. A proof that wants a law calls it.
+//! Laws of the meaning, each the contract of a function that does nothing. A proof that needs a law calls it.
 
 ghost use Rattle.serial_meaning.specs.Cuts.{CutsStandBefore, MainIsNotCut, WholeAnswersAreEvals};
-ghost use Rattle.serial_meaning.specs.Laws.{DrawsAreDotMix, ElisionHasEquations, FaultIsLeast, LoopsEndAlike, OpenTreeHasEquations, OriginsEndWithinFaults, PedigreesRise, ValuesDependOnNames};
+ghost use Rattle.serial_meaning.specs.Laws.{DrawsAreDotMix, ElisionHasEquations, FaultIsLeast, LoopsEndAlike, OpenTreeHasEquations, OriginsEndWithinFaults, PedigreesRise, PlainTextDependsOnPrints, ValuesDependOnNames};
 
-/// What statements do, in the serial elision, is the first and then the others, blocks and calls by the same meaning: the equations
-/// hold with no bound on levels. That the meaning is total is its form: it is a function, by recursion on the steps and the depth.
+/// In the serial elision, statements do what the first does and then what the others do, and blocks and calls follow
+/// the same equations at any level. The meaning is total by its form: it is a function, by recursion on the steps and
+/// the depth.
 #[tactic(auto, using(crate::proofs::Equations::ExecLaws::elision_has_equations))]
 pub fn elision_has_equations()
     ensures { ElisionHasEquations }
@@ -16,7 +17,7 @@ pub fn open_tree_has_equations()
     ensures { OpenTreeHasEquations }
 {}
 
-/// Of two events of the serial elision that are no printing, the earlier one's pedigree is before the later one's.
+/// Of two events of the serial elision that aren't prints, the earlier one's pedigree precedes the later one's.
 pub fn pedigrees_rise()
     ensures { PedigreesRise }
 {}
@@ -31,8 +32,8 @@ pub fn fault_is_least()
     ensures { FaultIsLeast }
 {}
 
-/// A loop ends by the first fault of its iterations, both in the elision and where a node of the open tree goes by it; its own node ends
-/// by the least. That is the same fault, or none.
+/// A loop ends by the first fault of its iterations, in the elision and in a node of the open tree that passes it; its
+/// own node ends by the least one. Both are the same fault, or none.
 pub fn loops_end_alike()
     ensures { LoopsEndAlike }
 {}
@@ -47,17 +48,22 @@ pub fn values_depend_on_names()
     ensures { ValuesDependOnNames }
 {}
 
-/// An answer that is no cut is its origin's serial meaning.
+/// An answer that isn't a cut is its origin's serial meaning.
 pub fn whole_answers_are_evals()
     ensures { WholeAnswersAreEvals }
 {}
 
-/// The answer of `main` is no cut: nothing stands before the empty path.
+/// The answer of `main` is never a cut: nothing precedes the empty path.
 pub fn main_is_not_cut()
     ensures { MainIsNotCut }
 {}
 
-/// The fault by which an origin is cut stands before every pedigree that the origin answers for.
+/// The fault by which an origin is cut precedes every pedigree that the origin answers for.
 pub fn cuts_stand_before()
     ensures { CutsStandBefore }
+{}
+
+/// Where values alone are printed, a run's text depends on its prints and its outcome alone: no other event has a part in it.
+pub fn plain_text_depends_on_prints()
+    ensures { PlainTextDependsOnPrints }
 {}

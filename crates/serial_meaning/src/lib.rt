@@ -1,6 +1,6 @@
-//! What a script means: the types in which runs are told, the definitions of their meaning, and the printed lines.
+//! What a script means: the types that describe runs, the definitions of their meaning, and the printed lines.
 //!
-//! The definitions stand in `specs/`, and docs/LANGUAGE.md says the same for people.
+//! The definitions are in `specs/`; docs/LANGUAGE.md says the same in prose.
 #![tactic(auto)]
 
 pub mod answer;
@@ -25,7 +25,7 @@ pub mod value;
 pub use answer::{Answer, Outcome, Strand};
 pub use answer_key::AnswerKey;
 pub use chunk::Chunk;
-pub use environment::{Slot, Variable};
+pub use environment::{Content, Variable};
 pub use event::{Event, EventKind, Fault, FaultKind};
 pub use keep::{All, Keep, Prints};
 pub use known::Known;
@@ -38,8 +38,8 @@ pub use value::Value;
 
 fn is_shared<T: Send + Sync>() {}
 
-/// Plans, origins, events and answers may be sent to other threads and read by several at once. The body asks for it, so that a
-/// field which forbids it fails the build.
+// Plans, origins, events and answers may be sent to other threads and read by several at once. A field that forbids it
+// makes this fail to compile.
 fn all_are_shared() {
     is_shared::<Out>();
     is_shared::<Fault>();

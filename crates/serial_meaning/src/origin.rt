@@ -1,12 +1,12 @@
 ghost use Rattle.std.specs.Prelude.{◌≡◌, ◌↔◌, IsTrue};
 
 use crate::value::{Value, same_values};
+use contract_views::Items;
 use loop_range::IterRange;
 use ped_path::Ped;
-use script_grammar::Items;
 
-/// What a task begins as: an instance of a function, or iterations of a parallel loop. Functions go by their place in the script,
-/// from 0.
+/// What a task begins as: an instance of a function, or iterations of a parallel loop. Functions are numbered in the
+/// order of the script, from 0.
 #[derive(Drop)]
 pub enum Origin {
     Instance {
@@ -28,7 +28,7 @@ pub enum Origin {
 impl Origin {
     ghost use Rattle.serial_meaning.specs.declared.origin.Origin.TheVariants.{Instance, Loop};
 
-    /// Whether both begin the same: all their fields are equal.
+    /// Whether all fields are equal.
     pub fn same(&self, other: &Origin) -> bool
         ensures { IsTrue result ↔ (self.now ≡ other.now) }
     {

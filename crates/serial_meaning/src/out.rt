@@ -8,25 +8,25 @@ use crate::chunk::{Chunk, put_first};
 use crate::event::{Event, EventKind};
 use crate::keep::{All, Keep};
 use crate::memory::Memory;
-use meet_block::KnownList;
+use contract_views::KnownList;
 use ped_path::{Ped, Pedigree};
 use std::alloc::Global;
 use std::marker::{Model, PhantomData};
 use std::{mem, slice};
 
-/// How many events are moved at most where a list is put after another one.
+// The most events that are moved when a list is appended to another.
 const MOST_MOVED: usize = 8;
 
-/// For how many events a list takes memory where a second one comes. Most lists come to so few.
+// The capacity that a list takes with its second event. Most lists need no more.
 const FIRST_ROOM: usize = 5;
 
-/// How many events a chunk has room for at most, but for those that were put before its first one.
+// The most events that a chunk has room for, apart from those put in front of its first one.
 const MOST_ROOM: usize = 12;
 
-/// A list of events. One alone stands in place. More are kept in chunks, which are moved and not copied where a list of more than a few events is put
-/// after another one.
+/// A list of events. A single event is stored inline. More are stored in chunks, which are moved and not copied when a
+/// list of more than a few events is appended to another.
 ///
-/// Of its events those are in memory that `K` keeps, and by itself it keeps all. Contracts see all of them.
+/// Only the events that `K` keeps are in memory, by default all. Contracts see all of them.
 #[derive(Drop)]
 pub struct Out<K: Keep = All> {
     count: u64,
@@ -35,16 +35,16 @@ pub struct Out<K: Keep = All> {
     marker: PhantomData<K>,
 }
 
-/// Where the events stand.
+// How the events are stored.
 #[derive(Drop)]
 enum Kept {
     Nothing,
-    /// One alone, and what takes memory when others come to it.
+    // A single event, and the allocator for when more come.
     One(Global, Event),
     Listed(Chunks),
 }
 
-/// Full chunks, and the last one, which grows.
+// Full chunks, and the last one, which grows.
 #[derive(Drop)]
 struct Chunks {
     alloc: Global,
@@ -65,14 +65,14 @@ impl<K: Keep> Model for Out<K> {
     ghost invariant = { λ o. (o.count ≡ length o.whole.items) × (kept_events o.kept ≡ kept_of K.kept o.whole.items) };
 }
 
-/// The list of which nothing is known yet but these, and none.
+// Takes the known list out and leaves an empty one.
 fn taken(whole: &mut KnownList<Event>) -> KnownList<Event>
     ensures { result ≡ whole.old }
 {
     mem::replace(whole, KnownList::none())
 }
 
-/// An event that is at hand for contracts alone.
+// An event that exists in contracts only.
 #[inline(always)]
 fn unmade(path: &Ped, rank: u64, kind: EventKind) -> KnownList<Event>
     ghost event: { Event }
@@ -96,7 +96,7 @@ impl<K: Keep> Out<K> {
         }
     }
 
-    /// Puts an event at the end. It also answers `Memory` where 2^64 - 1 events stand here.
+    /// Appends an event. Also `Memory` where the list has 2^64 - 1 events already.
     #[inline(always)]
     pub fn push(&mut self, alloc: Global, event: Event) -> Result<(), Memory>
         ensures ok { OnOk result (self.new ≡ self.old ++ event ∷ []) }
@@ -111,8 +111,8 @@ impl<K: Keep> Out<K> {
         Ok(())
     }
 
-    /// Puts the event of this kind at the end whose pedigree is this rank on this path. It is made only where it is kept. It also answers
-    /// `Memory` where 2^64 - 1 events stand here.
+    /// Appends the event of this kind whose pedigree is this path and rank. It is made only where it is kept. Also
+    /// `Memory` where the list has 2^64 - 1 events already.
     #[inline(always)]
     pub fn push_at(
         &mut self,
@@ -136,8 +136,8 @@ impl<K: Keep> Out<K> {
         Ok(())
     }
 
-    /// Puts the other list's events at the end, and drops them where it answers `Memory`. It also answers so where there would be
-    /// more than 2^64 - 1 events.
+    /// Appends the other list's events. On `Memory` they are dropped. Also `Memory` where there would be more than
+    /// 2^64 - 1 events.
     #[inline(always)]
     pub fn append(&mut self, other: Out<K>) -> Result<(), Memory>
         ensures ok { OnOk result (self.new ≡ self.old ++ other) }
@@ -163,7 +163,7 @@ impl<K: Keep> Out<K> {
         self.count
     }
 
-    /// The full chunks and the last one of the events that are kept, where there is any.
+    /// The full chunks of the events that are kept, and the one that grows, if any event is kept.
     pub fn kept_chunks(&self) -> Option<(&[Chunk], &[Event])>
         ensures some { IfSome result (λ parts. joined parts.0.now ++ parts.1.now ≡ kept_of K.kept self.now) }
         ensures none { IfNone result (kept_of K.kept self.now ≡ []) }
@@ -180,16 +180,17 @@ impl Out<All> {
         Out::none()
     }
 
-    /// The event at this index, from 0. There is none exactly where the index is not below the length.
+    /// The event at this index, from 0. None exactly where the index isn't below the length.
     ///
-    /// It is for who looks at single events: of a run of `fn main() { print 1; print 2; return 0; }` `get(1)` is the second print, and `get(2)` none.
+    /// For reading single events: of a run of `fn main() { print 1; print 2; return 0; }` `get(1)` is the second print,
+    /// and `get(2)` none.
     pub fn get(&self, i: u64) -> Option<&Event>
         ensures { option_copied result ≡ slice_get self.now i }
     {
         self.kept.get(i)
     }
 
-    /// The full chunks and the last one, where there is any event.
+    /// The full chunks and the one that grows, if there is any event.
     pub fn chunks(&self) -> Option<(&[Chunk], &[Event])>
         ensures some { IfSome result (λ parts. joined parts.0.now ++ parts.1.now ≡ self.now) }
         ensures none { IfNone result (self.now ≡ []) }
@@ -202,7 +203,7 @@ impl Kept {
     ghost use Rattle.std.specs.Prelude.{true};
     ghost use Rattle.serial_meaning.specs.Chunks.{kept_events, chunks_events, has_one};
 
-    /// Puts an event at the end, or drops it.
+    // Appends an event, or drops it where it isn't kept.
     #[inline(always)]
     fn push_if(&mut self, keeps: bool, alloc: Global, event: Event) -> Result<(), Memory>
         ensures ok { OnOk result (kept_events self.new ≡ kept_events self.old ++ keep_if keeps event []) }
@@ -252,7 +253,7 @@ impl Kept {
         }
     }
 
-    /// Puts an event after one that stands alone. The room of its locals is written here, and not where it isn't needed.
+    // Appends to a single event. It is a function of its own so that its callers reserve no stack for its locals.
     #[inline(never)]
     fn push_second(&mut self, alloc: Global, event: Event) -> Result<(), Memory>
         requires { has_one self.old ≡ true }
@@ -287,7 +288,7 @@ impl Kept {
         }
     }
 
-    /// Puts these events at the end.
+    // Appends these events.
     fn append_list(&mut self, others: Chunks) -> Result<(), Memory>
         ensures ok { OnOk result (kept_events self.new ≡ kept_events self.old ++ chunks_events others) }
         ensures err { OnErr result (kept_events self.new ≡ kept_events self.old) }
@@ -302,7 +303,7 @@ impl Kept {
         }
     }
 
-    /// Puts these events after one that stands alone. That one goes to their front, so that they stay where they are.
+    // Appends these events to a single one, which goes to their front so that they stay where they are.
     #[inline(never)]
     fn append_to_one(&mut self, mut others: Chunks) -> Result<(), Memory>
         requires { has_one self.old ≡ true }
@@ -328,7 +329,7 @@ impl Kept {
 impl Chunks {
     ghost use Rattle.serial_meaning.specs.Chunks.{chunks_events};
 
-    /// Room for so many more events at the end: in the last chunk, or in a new one where that has grown enough.
+    // Makes room for this many more events: in the last chunk, or in a new one where that is full.
     #[tactic(auto, using(crate::proofs::ChunkLemmas::joined_next))]
     #[inline(always)]
     fn make_room(&mut self, more: usize) -> Result<(), Memory>
@@ -348,7 +349,7 @@ impl Chunks {
         Ok(())
     }
 
-    /// Puts an event at the end. Where the last chunk has room, it takes no call.
+    // Appends an event, without a further call where the last chunk has room.
     #[inline(always)]
     fn push(&mut self, event: Event) -> Result<(), Memory>
         ensures ok { OnOk result (chunks_events self.new ≡ chunks_events self.old ++ event ∷ []) }
@@ -361,7 +362,7 @@ impl Chunks {
         self.push_growing(event)
     }
 
-    /// The same, and makes room for it first.
+    // The same, making room for it first.
     #[inline(never)]
     fn push_growing(&mut self, event: Event) -> Result<(), Memory>
         ensures ok { OnOk result (chunks_events self.new ≡ chunks_events self.old ++ event ∷ []) }
@@ -372,7 +373,7 @@ impl Chunks {
         Ok(())
     }
 
-    /// Puts an event before all others, or gives it back where there is no memory.
+    // Puts an event in front of all others, or returns it where there is no memory.
     fn put_first(&mut self, event: Event) -> Result<(), Event>
         ensures ok { OnOk result (chunks_events self.new ≡ event ∷ chunks_events self.old) }
         ensures err { IfErr result (λ back. back ≡ event) }
@@ -384,8 +385,8 @@ impl Chunks {
         }
     }
 
-    /// Puts the other chunks after these, whose last one grows no more. A few events are moved to the end of that one, so that
-    /// there are fewer chunks to go on with.
+    // Appends the other chunks; the last one of these then grows no more. Where the others are a few events, these are
+    // moved into it, so that there are fewer chunks.
     fn append(&mut self, others: Chunks) -> Result<(), Memory>
         ensures ok { OnOk result (chunks_events self.new ≡ chunks_events self.old ++ chunks_events others) }
         ensures err { OnErr result (chunks_events self.new ≡ chunks_events self.old) }
@@ -397,7 +398,7 @@ impl Chunks {
         }
     }
 
-    /// Puts events at the end of the last chunk.
+    // Moves events to the end of the last chunk.
     fn take_in(&mut self, mut events: Vec<Event>) -> Result<(), Memory>
         ensures ok { OnOk result (chunks_events self.new ≡ chunks_events self.old ++ events.items) }
         ensures err { OnErr result (chunks_events self.new ≡ chunks_events self.old) }
@@ -407,7 +408,7 @@ impl Chunks {
         Ok(())
     }
 
-    /// Puts the other chunks after these.
+    // Appends the other chunks as they are.
     #[tactic(auto, using(crate::proofs::ChunkLemmas::joined_after))]
     fn follow(&mut self, others: Chunks) -> Result<(), Memory>
         ensures ok { OnOk result (chunks_events self.new ≡ chunks_events self.old ++ chunks_events others) }

@@ -1,6 +1,6 @@
 ghost use Rattle.std.specs.Prelude.{◌≡◌, ◌≤◌, ◌↔◌, IsTrue, true, length, IfOk, option_copied, option_map, slice_get};
 ghost use Rattle.std.specs.Arc.{arc_value};
-ghost use Rattle.script_check.specs.Places.{finds_all, finds_callee, table_of_places, variable_names};
+ghost use Rattle.script_check.specs.Slots.{finds_all, finds_callee, table_of_slots, variable_names};
 ghost use Rattle.script_check.specs.Spawns.{spawns_in};
 ghost use Rattle.serial_meaning.specs.Plan.{IsPlan, functions_of};
 ghost use Rattle.serial_meaning.specs.Functions.{function_number};
@@ -8,22 +8,23 @@ ghost use Rattle.serial_meaning.specs.Eval.{main_origin};
 
 use crate::memory::Memory;
 use crate::origin::Origin;
+use contract_views::Items;
 use dotmix::Gamma;
 use ped_path::Ped;
 use script_check::Checked;
 use script_grammar::laws::functions_are_few;
-use script_grammar::{Function, Items, Name, NameText};
+use script_grammar::{Function, Name, NameText};
 use std::alloc::Global;
 use std::marker::Model;
 use std::sync::Arc;
 
-/// How many ranks a pedigree has at most, whatever the limits of a run.
+/// The most ranks of a pedigree, whatever the limits of a run.
 pub const MOST_DEPTH: u32 = 512;
 
 /// The limits of a run.
 #[derive(Clone, Copy, Debug, PartialEq, Eq)]
 pub struct Limits {
-    /// How long a pedigree may be, from 1 to `MOST_DEPTH`.
+    /// The length of the longest pedigree, from 1 to `MOST_DEPTH`.
     pub depth: u32,
     /// How many steps an instance has, from 1 to 4294967295.
     pub budget: u32,
@@ -38,8 +39,9 @@ pub enum Show {
     Log,
 }
 
-/// All that the meaning of a run depends on. The script is valid, there are as many coefficients as the depth, and the limits and
-/// the rounds are in range. No number of workers stands here, nor anything else that could let the answer depend on them.
+/// All that the meaning of a run depends on. The script is valid, there are as many coefficients as the depth, and the
+/// limits and the rounds are in range. It has no number of workers, nor anything else that could make the answer depend
+/// on them.
 #[derive(Drop)]
 pub struct Plan {
     pub checked: Checked,
@@ -79,7 +81,7 @@ impl Plan {
         }
     }
 
-    /// One more handle of the same plan, with a count of its own. All but the plan's own numbers is over the same memory.
+    /// Another handle of the same plan, with a reference count of its own. All but the plan's numbers is shared.
     pub fn again(&self, alloc: Global) -> Result<Arc<Plan>, Memory>
         ensures { IfOk result (λ plan. arc_value plan ≡ self.now) }
     {
@@ -104,30 +106,31 @@ impl Plan {
         self.checked.script().functions.as_slice()
     }
 
-    /// Whether the word `spawn` stands in the text of the function at this place, if there is one.
+    /// Whether the word `spawn` is in the text of the function with this index, if there is one.
     pub fn spawns(&self, function: u32) -> bool
         ensures { result ≡ spawns_in (slice_get (functions_of self.now) function) }
     {
         self.checked.spawns(function)
     }
 
-    /// The names of the variables of the function at this place, if there is one: of its parameters, and then of its `let` statements.
+    /// The names of the variables of the function with this index, if there is one: of its parameters, and then of its
+    /// `let` statements.
     pub fn names(&self, function: u32) -> Option<&Items<NameText>>
         ensures { option_copied result ≡ option_map variable_names (slice_get (functions_of self.now) function) }
     {
         self.checked.names(function)
     }
 
-    /// For each place of the text where a variable is named its place, which is its place among the names of its function's variables.
+    /// Maps a name's byte offset to its variable's slot, its index among the names of its function's variables.
     #[inline(always)]
-    pub fn places(&self) -> &[u16]
-        ensures table { result.now ≡ table_of_places (functions_of self.now) }
+    pub fn slots(&self) -> &[u16]
+        ensures table { result.now ≡ table_of_slots (functions_of self.now) }
         ensures found { finds_all result.now (functions_of self.now) ≡ true }
     {
-        self.checked.places()
+        self.checked.slots()
     }
 
-    /// The place of the function that is called by this name of the text. No name is compared.
+    /// The index of the function that this name of the text calls. No name is compared.
     #[inline(always)]
     pub fn callee(&self, name: &Name) -> u32
         requires { finds_callee (functions_of self.now) name.now ≡ true }
@@ -166,7 +169,7 @@ impl Plan {
     }
 }
 
-/// The place of the first function of this name, or the number of functions where there is none.
+/// The index of the first function with this name, or the number of functions where there is none.
 pub fn function_number(functions: &[Function], name: &[u8]) -> u32
     requires { length functions.now ≤ 1024 }
     ensures { result ≡ function_number functions.now name.now }

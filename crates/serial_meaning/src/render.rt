@@ -20,15 +20,15 @@ use itoa::Buffer;
 use ped_path::{Pedigree, write_pedigree};
 use std::alloc::Global;
 
-/// The three forms in which events are printed.
+// The three forms in which events are printed.
 #[derive(Clone, Copy, Debug, PartialEq, Eq)]
 enum Column {
     Run(Show),
     Strand,
 }
 
-/// What a run prints: the lines of its events in order, and at the end a line of its fault. Which events have a line is for the
-/// plan's show to say.
+/// What a run prints: the lines of its events in order, and at the end the line of its fault, if it has one. The plan's
+/// `show` says which events have a line.
 pub fn render_run(alloc: Global, answer: &Answer) -> Result<Vec<u8>, Memory>
     requires { IsWhole answer.now.outcome }
     ensures { IfOk result (λ text. text.items ≡ answer_text answer.now) }
@@ -36,7 +36,7 @@ pub fn render_run(alloc: Global, answer: &Answer) -> Result<Vec<u8>, Memory>
     render_kept(alloc, answer)
 }
 
-/// The same of an answer that keeps its prints alone, where the plan shows values alone.
+/// The same for an answer that keeps prints only, where the plan shows values only.
 pub fn render_plain(alloc: Global, answer: &Answer<Prints>) -> Result<Vec<u8>, Memory>
     requires whole { IsWhole answer.now.outcome }
     requires plain { answer.now.plan.show ≡ Plain }
@@ -45,7 +45,7 @@ pub fn render_plain(alloc: Global, answer: &Answer<Prints>) -> Result<Vec<u8>, M
     render_kept(alloc, answer)
 }
 
-/// What a run prints whose answer keeps each event that has a line.
+/// The same for an answer that keeps each event that has a line.
 pub fn render_kept<K: Keep>(alloc: Global, answer: &Answer<K>) -> Result<Vec<u8>, Memory>
     requires whole { IsWhole answer.now.outcome }
     requires lines { KeepsLines K.kept answer.now.plan.show }
@@ -60,7 +60,7 @@ pub fn render_kept<K: Keep>(alloc: Global, answer: &Answer<K>) -> Result<Vec<u8>
     Ok(text)
 }
 
-/// What a strand prints: a line of each of its events, and at the end a line of its own fault.
+/// What a strand prints: a line for each of its events, and at the end the line of its own fault, if it has one.
 pub fn render_strand(alloc: Global, strand: &Strand) -> Result<Vec<u8>, Memory>
     ensures { IfOk result (λ text. text.items ≡ strand_text strand.now) }
 {
@@ -72,7 +72,7 @@ pub fn render_strand(alloc: Global, strand: &Strand) -> Result<Vec<u8>, Memory>
     Ok(text)
 }
 
-/// The lines of a run's events, of which each is kept that has one.
+// The lines of a run's events; each event that has a line is kept.
 fn write_kept<K: Keep>(show: Show, events: &Out<K>, text: &mut Vec<u8>) -> Result<(), Memory>
     requires { KeepsLines K.kept show }
     ensures { OnOk result (text.new.items ≡ text.old.items ++ flat_map (event_line show) events.now) }
@@ -80,7 +80,7 @@ fn write_kept<K: Keep>(show: Show, events: &Out<K>, text: &mut Vec<u8>) -> Resul
     write_events(Column::Run(show), events, text)
 }
 
-/// The lines of a strand's events.
+// The lines of a strand's events.
 fn write_strand(events: &Out, text: &mut Vec<u8>) -> Result<(), Memory>
     ensures { OnOk result (text.new.items ≡ text.old.items ++ flat_map strand_line events.now) }
 {
@@ -108,7 +108,7 @@ fn write_chunks(column: Column, chunks: &[Chunk], text: &mut Vec<u8>) -> Result<
     Ok(())
 }
 
-/// Whether it is known that none of its events has a line.
+// Whether it is known that none of its events has a line.
 #[tactic(auto, using(crate::proofs::PlainLines::plain_of_none))]
 fn is_silent(column: Column, chunk: &Chunk) -> bool
     ensures { result ≡ true → flat_map (line_in column) chunk.now ≡ [] }

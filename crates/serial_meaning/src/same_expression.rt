@@ -74,7 +74,7 @@ fn same_product_parts(parts: &[ProductPart], others: &[ProductPart]) -> bool
     true
 }
 
-/// Whether both lists have the same expressions.
+// Whether both lists have the same expressions.
 pub(crate) fn same_exprs(exprs: &[Expr], others: &[Expr]) -> bool
     ensures { IsTrue result ↔ (exprs.now ≡ others.now) }
 {

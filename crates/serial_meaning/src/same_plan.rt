@@ -68,8 +68,8 @@ fn same_gamma(gamma: &Gamma, other: &Gamma) -> bool
 }
 
 impl Plan {
-    /// Whether both say the same of a run: script, coefficients, limits, what is shown and rounds. It takes no memory, and looks at all of
-    /// both, so a caller may look first whether they are one value.
+    /// Whether both are the same plan: script, coefficients, limits, show and rounds. It compares all of both, so a
+    /// caller may first ask whether they are one value in memory. It takes no memory.
     pub fn same(&self, other: &Plan) -> bool
         ensures { IsTrue result ↔ (self.now ≡ other.now) }
     {

@@ -33,7 +33,7 @@ fn same_target(target: &Option<Name>, other: &Option<Name>) -> bool
     }
 }
 
-/// Whether an act is the loop of these parts.
+// Whether an act is the loop of these parts.
 fn is_loop(
     act: &Act,
     var: &Name,

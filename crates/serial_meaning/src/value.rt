@@ -21,7 +21,7 @@ impl Value {
         })
     }
 
-    /// Whether both are one integer, or one id.
+    /// Whether both are the same integer, or the same id.
     pub fn same(&self, other: &Value) -> bool
         ensures { IsTrue result ↔ (self.now ≡ other.now) }
     {
@@ -33,7 +33,7 @@ impl Value {
     }
 }
 
-/// Whether both lists have the same values.
+// Whether both lists have the same values.
 pub(crate) fn same_values(values: &[Value], others: &[Value]) -> bool
     ensures { IsTrue result ↔ (values.now ≡ others.now) }
 {

@@ -17,19 +17,19 @@ use Rattle.strand_meaning.specs.Rest.{GaveValues, evaluations}
 
 -- the trace of a task once these children's evaluations are merged into it
 abbrev pub merged_of : Task → List AwaitedChild → Trace
-merged_of t ps = merged_answers ps (evaluations (eval t.plan) ps) (record t.trace { handed = [] })
+merged_of t ps = merged_answers ps (evaluations (eval t.plan) ps) (record t.trace { unmerged = [] })
 
 -- A child's cut may be its parent's, where the children before it gave values.
 abbrev pub CutsPass : Type 0
 CutsPass =
-    (t : Task) (front : List AwaitedChild) (p : AwaitedChild) (later : List AwaitedChild) (by : Fault) → IsTask t → t.trace.fault ≡ None → t.trace.handed ≡ front ++ p ∷ later →
+    (t : Task) (front : List AwaitedChild) (p : AwaitedChild) (later : List AwaitedChild) (by : Fault) → IsTask t → t.trace.fault ≡ None → t.trace.unmerged ≡ front ++ p ∷ later →
     GaveValues (eval t.plan) front → IsCut t.plan p.child by → IsCut t.plan t.origin by
 
 -- A child's fault is its parent's, where the children before it gave values: what was merged up to it is the parent's evaluation,
 -- whatever the later children gave.
 abbrev pub FaultsPass : Type 0
 FaultsPass =
-    (t : Task) (front : List AwaitedChild) (p : AwaitedChild) (later : List AwaitedChild) (f : Fault) → IsTask t → t.trace.fault ≡ None → t.trace.handed ≡ front ++ p ∷ later →
+    (t : Task) (front : List AwaitedChild) (p : AwaitedChild) (later : List AwaitedChild) (f : Fault) → IsTask t → t.trace.fault ≡ None → t.trace.unmerged ≡ front ++ p ∷ later →
     GaveValues (eval t.plan) front → (eval t.plan p.child).ending ≡ Err f → IsEval t.plan t.origin (merged_of t (front ++ p ∷ [])).prefix (outcome.Fault f) × Contains (faults t.plan) f
 
 -- All children
@@ -68,5 +68,5 @@ IsByFaultOf plan (outcome.Cut f) = Contains (faults plan) f
 -- was merged up to there. Where that is a fault, the answers after it may be cuts.
 abbrev pub AnswersEnd : Type 0
 AnswersEnd =
-    (t : Task) (answers : List AnswerView) (ended : Outcome) → IsTask t → AreAnswersOf t.plan t.trace.handed answers → ended_after (by_fault t.trace.fault) answers ≡ Some ended →
-    IsAnswer t.plan t.origin (merged_answers t.trace.handed (answer_evaluations answers) (record t.trace { handed = [] })).prefix ended × IsByFaultOf t.plan ended
+    (t : Task) (answers : List AnswerView) (ended : Outcome) → IsTask t → AreAnswersOf t.plan t.trace.unmerged answers → ended_after (by_fault t.trace.fault) answers ≡ Some ended →
+    IsAnswer t.plan t.origin (merged_answers t.trace.unmerged (answer_evaluations answers) (record t.trace { unmerged = [] })).prefix ended × IsByFaultOf t.plan ended

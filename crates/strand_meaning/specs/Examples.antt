@@ -21,7 +21,7 @@ pub data Mark : Type 0 where
 abbrev pub marked : (Task → List Mark) → PlanView → MoveOrStop → List Mark
 marked go plan (Passes next) = go next
 marked go plan (Stops (Spawn child rest)) = ToChild ∷ go rest
-marked go plan (Stops (Wait rest)) = ToWait ∷ go (on (evaluations (eval plan) rest.trace.handed) rest)
+marked go plan (Stops (Wait rest)) = ToWait ∷ go (on (evaluations (eval plan) rest.trace.unmerged) rest)
 marked go plan (Stops (End out ended)) = ToEnd ∷ []
 
 abbrev pub marks : ℕ → Task → List Mark
@@ -54,8 +54,8 @@ FaultWaitsForAChild =
     ≡ ToChild ∷ ToWait ∷ ToEnd ∷ []
 
 -- A loop is begun as one child, and waited for at once.
-abbrev pub LoopsAreHandedOutWhole : Type 0
-LoopsAreHandedOutWhole =
+abbrev pub LoopsBeginWhole : Type 0
+LoopsBeginWhole =
     main_marks 8
     (f_of_number
     ∷ function (codes "main") [] (stated (act.Pfor (name_node (codes "i")) (number 0) (number 3) None (applied (codes "f") [])) ∷ []) (number 0)
@@ -63,7 +63,7 @@ LoopsAreHandedOutWhole =
     ≡ ToChild ∷ ToWait ∷ ToEnd ∷ []
 
 -- A loop's task begins half as a child while two iterations are left, runs the last one itself, and waits.
-abbrev pub LoopTasksHandOutHalves : Type 0
-LoopTasksHandOutHalves =
+abbrev pub LoopTasksBeginHalves : Type 0
+LoopTasksBeginHalves =
     (let plan = plan_of (f_of_number ∷ []) 20 in marks 12 (start plan (Loop 0 [] (pos 0) (0 ∷ []) (record { lo = 0; hi = 3 }))))
     ≡ ToChild ∷ ToChild ∷ ToWait ∷ ToEnd ∷ []

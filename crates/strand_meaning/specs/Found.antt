@@ -1,6 +1,6 @@
 -- The slots of the variables that the values of a task's children go to are in the plan's tables.
 use Rattle.std.specs.Prelude.{◌≡◌, ℕ, true, List, [], ◌∷◌, Option, Some, None, length, map}
-use Rattle.script_check.specs.Places.{every_in_target, finds_all, has_place, table_of_places, variable_names}
+use Rattle.script_check.specs.Slots.{every_in_target, finds_all, has_slot, table_of_slots, variable_names}
 use Rattle.script_grammar.specs.declared.tree.Function.{Function}
 use Rattle.script_grammar.specs.declared.tree.Name.{Name}
 use Rattle.serial_meaning.specs.Functions.{function_at}
@@ -32,7 +32,7 @@ variables_in (Some f) = variable_names f
 -- The plan's table has the variable's slot in this function, if there is a target.
 abbrev pub FindsTargetIn : PlanView → Option Name → ℕ → Type 0
 FindsTargetIn plan target function =
-    every_in_target (has_place (table_of_places (functions_of plan)) (variables_in (function_at (functions_of plan) function))) target ≡ true
+    every_in_target (has_slot (table_of_slots (functions_of plan)) (variables_in (function_at (functions_of plan) function))) target ≡ true
 
 -- the same for the frame with this many below it, if there is one
 abbrev pub FindsAt : PlanView → ℕ → Option Name → List ℕ → Type 0
@@ -55,4 +55,4 @@ FindsTargets plan functions (p ∷ ps) = FindsDestination plan functions p.desti
 
 -- the plan's tables have everything that its functions name
 abbrev pub IsFoundPlan : PlanView → Type 0
-IsFoundPlan plan = finds_all (table_of_places (functions_of plan)) (functions_of plan) ≡ true
+IsFoundPlan plan = finds_all (table_of_slots (functions_of plan)) (functions_of plan) ≡ true

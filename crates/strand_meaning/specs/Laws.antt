@@ -58,7 +58,7 @@ StopsAreSound = (t : Task) (stop : Stop) → IsTask t → IsNext t stop → IsSo
 
 -- A task that takes its children's evaluations as their answers keeps the invariant.
 abbrev pub AnswersKeepTasks : Type 0
-AnswersKeepTasks = (t : Task) → IsTask t → IsTask (on (evaluations (eval t.plan) t.trace.handed) t)
+AnswersKeepTasks = (t : Task) → IsTask t → IsTask (on (evaluations (eval t.plan) t.trace.unmerged) t)
 
 abbrev pub on_reached : (Machine → Machine) → Result Reached Fault → Result Reached Fault
 on_reached change (Ok (Stands m)) = Ok (Stands (change m))
@@ -80,7 +80,7 @@ MovesLeaveUnfilledAlone =
 -- The unfilled variables of each frame of a task are in the set with which validity judges the statement that the frame is at; at
 -- an implied sync, and at the `return` that implies it, in the set that validity has behind the statements before it.
 abbrev pub UnfilledIsPending : Type 0
-UnfilledIsPending = (t : Task) → IsTask t → UnfilledArePendingIn t.plan t.trace.handed t.remaining
+UnfilledIsPending = (t : Task) → IsTask t → UnfilledArePendingIn t.plan t.trace.unmerged t.remaining
 
 -- a task of the same plan and origin
 abbrev pub IsSameTask : Task → Task → Type 0
@@ -107,7 +107,7 @@ AnswersAreEvaluations = (plan : PlanView) (o : Origin) (out : List Event) (ended
 
 -- Answers leave no more stops than the wait did.
 abbrev pub AnswersLeaveNoMore : Type 0
-AnswersLeaveNoMore = (t : Task) → IsTask t → t.waiting ≡ true → stops_left (on (evaluations (eval t.plan) t.trace.handed) t) ≤ stops_left t
+AnswersLeaveNoMore = (t : Task) → IsTask t → t.waiting ≡ true → stops_left (on (evaluations (eval t.plan) t.trace.unmerged) t) ≤ stops_left t
 
 -- The rest of a task at a stop has its plan and its origin.
 abbrev pub StopsKeepOrigins : Type 0
@@ -143,7 +143,7 @@ ObservationGoesOn = (t : Task) (observation later : Observation) (stop : Stop) �
 
 -- A task that takes its children's answers shows nothing.
 abbrev pub AnswersShowNothing : Type 0
-AnswersShowNothing = (t : Task) (observation : Observation) → IsTask t → IsInstanceOrigin t.origin → IsOnWay observation t → IsOnWay observation (on (evaluations (eval t.plan) t.trace.handed) t)
+AnswersShowNothing = (t : Task) (observation : Observation) → IsTask t → IsInstanceOrigin t.origin → IsOnWay observation t → IsOnWay observation (on (evaluations (eval t.plan) t.trace.unmerged) t)
 
 -- There is a way to the next stop on which the task is observed.
 abbrev pub StopsAreShown : Type 0

@@ -58,7 +58,7 @@ stops_of plan o waiting awaiting (Runs stage) = remaining_stops plan o waiting a
 stops_of plan o waiting awaiting (Finished v gone_on) = remaining_stops plan o waiting awaiting (Finished v gone_on)
 
 abbrev pub stops_left : Task → ℕ
-stops_left t = stops_of t.plan t.origin t.waiting t.trace.handed t.remaining
+stops_left t = stops_of t.plan t.origin t.waiting t.trace.unmerged t.remaining
 
 -- Moves
 

@@ -16,16 +16,16 @@ use Rattle.serial_meaning.specs.Runs.{Run, done, run_ends_by, happens}
 use Rattle.serial_meaning.specs.Values.{Env, value_of}
 use Rattle.serial_meaning.specs.Functions.{function_number, function_at}
 use Rattle.serial_meaning.specs.Plan.{PlanView, functions_of}
-use Rattle.serial_meaning.specs.Exec.{State, Manner, BlockMeaning, with_slot, bound, unless_fault, paid, implied, sync_at, goes_out, statement}
-use Rattle.serial_meaning.specs.Open.{filler, is_empty_loop}
+use Rattle.serial_meaning.specs.Exec.{State, Interpretation, BlockMeaning, with_content, bound, unless_fault, paid, implied, sync_at, goes_out, statement}
+use Rattle.serial_meaning.specs.Open.{placeholder, is_empty_loop}
 use Rattle.serial_meaning.specs.declared.value.Value.{Value}
 use Rattle.serial_meaning.specs.declared.value.Value.TheVariants.{Int}
-use Rattle.serial_meaning.specs.declared.environment.Slot.TheVariants.{Scalar}
+use Rattle.serial_meaning.specs.declared.environment.Content.TheVariants.{Scalar}
 use Rattle.serial_meaning.specs.declared.event.Fault.{Fault}
 use Rattle.serial_meaning.specs.declared.event.Event.{Event}
 use Rattle.serial_meaning.specs.declared.origin.Origin.{Origin}
 
--- The manner
+-- The interpretation
 
 -- where a child's value goes: into a variable, if any, of the frame with this many below it, which spawned it; into an array, if
 -- any, of the innermost frame, whose loop it is; or among the values of the loop that it is a part of
@@ -39,7 +39,7 @@ pub data Effect : Type 0 where
   Opens : List ℕ → Effect
   Closes : List ℕ → Effect
   Emitted : Event → Effect
-  Handed : Origin → Destination → Effect
+  Starts : Origin → Destination → Effect
   Syncs : Effect
   Loops : Effect
 
@@ -51,7 +51,7 @@ pub data Exit : Type 0 where
 
 abbrev pub loop_effects : Bool → Origin → Destination → List Effect
 loop_effects true o destination = []
-loop_effects false o destination = Handed o destination ∷ Loops ∷ []
+loop_effects false o destination = Starts o destination ∷ Loops ∷ []
 
 abbrev pub sync_effects : Bool → List Effect
 sync_effects true = Syncs ∷ []
@@ -59,14 +59,14 @@ sync_effects false = []
 
 -- Children are begun, with a placeholder for a spawned child's value. A loop's values aren't put in yet. The state tells whether
 -- there was a spawn since the last sync, and only then a sync waits.
-abbrev pub handing : PlanView → Destination → Manner Effect Exit Bool
-handing plan destination = record {
+abbrev pub parallel : PlanView → Destination → Interpretation Effect Exit Bool
+parallel plan destination = record {
   event = Emitted;
   opens = λ j. Opens j ∷ [];
   closes = λ j. Closes j ∷ [];
   own = Faulted;
   none = false;
-  spawn = λ o k. happens (Handed o destination) (filler plan o, true);
+  spawn = λ o k. happens (Starts o destination) (placeholder plan o, true);
   loop = λ o. record { items = loop_effects (is_empty_loop o) o destination; ending = Ok [] };
   sync = λ k. record { items = sync_effects k; ending = Ok false };
 }
@@ -168,7 +168,7 @@ with_returning m s = record m { rank = s.rank; steps = s.steps; top = record m.t
 
 abbrev pub with_scalar : Option Name → Value → Env → Env
 with_scalar None v env = env
-with_scalar (Some x) v env = with_slot env x.bytes (Scalar v)
+with_scalar (Some x) v env = with_content env x.bytes (Scalar v)
 
 -- the value of a frame that ended goes to the one below it, which continues
 abbrev pub back_in_caller : List Frame → Option Name → Value → ℕ → ℕ → Reached
@@ -206,17 +206,17 @@ module _ (plan : PlanView) where
 
   module _ (path : List ℕ) where
     abbrev pub act_run : Machine → Stmt → Act-F Act Stmt → Run Effect Exit (State Bool)
-    act_run m st a = statement (handing plan (child_destination (length m.below) a)) plan (here_of path m) inside (length m.below) st (state_of m)
+    act_run m st a = statement (parallel plan (child_destination (length m.below) a)) plan (here_of path m) inside (length m.below) st (state_of m)
 
     -- the step of a return and the sync that it implies
     abbrev pub return_run : Machine → Run Effect Exit (State Bool)
     return_run m =
-        let how = handing plan (Spawned (length m.below) None) in
+        let how = parallel plan (Spawned (length m.below) None) in
         paid how plan (here_of path m) (state_of m) λ s. implied how plan (here_of path m) (spawns_in (function_at (functions_of plan) m.top.function)) s
 
     -- the value of a return
     abbrev pub value_run : Option Function → Machine → Run Effect Exit (Value × State Bool)
-    value_run (Some f) m = unless_fault (handing plan (Spawned (length m.below) None)) plan (here_of path m) (value_of f.result m.top.env) (state_of m) λ v. done (v, state_of m)
+    value_run (Some f) m = unless_fault (parallel plan (Spawned (length m.below) None)) plan (here_of path m) (value_of f.result m.top.env) (state_of m) λ v. done (v, state_of m)
     value_run None m = done (Int (pos 0), state_of m)
 
     abbrev pub statement_move : Machine → Stmt → List Stmt → Run Effect Fault Reached
@@ -231,11 +231,11 @@ module _ (plan : PlanView) where
     -- at the end of the innermost scope: its sync; and then the way out
     abbrev pub level_move : Machine → Level → List Level → Bool → Run Effect Fault Reached
     level_move m l ls false =
-        let how = handing plan (Spawned (length m.below) None) in
+        let how = parallel plan (Spawned (length m.below) None) in
         let r = sync_at how plan (present path m.below) (here_of path m) (state_of m) in
         record { items = r.items; ending = reached (with_leaving m) (λ inner s. m) r.ending }
     level_move m l ls true =
-        let how = handing plan (Spawned (length m.below) None) in
+        let how = parallel plan (Spawned (length m.below) None) in
         let r = goes_out how plan (inside_of (present path m.below) ls) l.rank (state_of m) in
         record { items = r.items; ending = reached (out_of_level m l ls) (λ inner s. m) r.ending }
 

@@ -7,7 +7,7 @@ use Rattle.serial_meaning.specs.Open.{Item, Happened, Child, Opened, Closed, Nod
 use Rattle.serial_meaning.specs.declared.event.Fault.{Fault}
 use Rattle.serial_meaning.specs.declared.origin.Origin.{Origin}
 use Rattle.serial_meaning.specs.declared.origin.Origin.TheVariants.{Instance, Loop}
-use Rattle.strand_meaning.specs.Machine.{Effect, Opens, Closes, Emitted, Handed, Syncs, Loops, Reached, move}
+use Rattle.strand_meaning.specs.Machine.{Effect, Opens, Closes, Emitted, Starts, Syncs, Loops, Reached, move}
 use Rattle.strand_meaning.specs.Trace.{AwaitedChild}
 use Rattle.strand_meaning.specs.Task.{Stage, Running, AtSync, AtLoop, Ended, Remaining, Splits, Runs, Finished, Task, own_instance, Passes, Stops, Stop, Spawn, Wait, End, step}
 use Rattle.strand_meaning.specs.Rest.{children_of, rest_open}
@@ -27,7 +27,7 @@ remaining_node plan o awaiting (Runs stage) = rest_open plan (children_of plan o
 remaining_node plan o awaiting (Finished v gone_on) = done []
 
 abbrev pub node_left : Task → Node
-node_left t = remaining_node t.plan t.origin t.trace.handed t.remaining
+node_left t = remaining_node t.plan t.origin t.trace.unmerged t.remaining
 
 -- Observations
 
@@ -54,7 +54,7 @@ effect_items [] = []
 effect_items (Opens j ∷ ts) = Opened j ∷ effect_items ts
 effect_items (Closes j ∷ ts) = Closed j ∷ effect_items ts
 effect_items (Emitted e ∷ ts) = Happened e ∷ effect_items ts
-effect_items (Handed o destination ∷ ts) = Child o ∷ effect_items ts
+effect_items (Starts o destination ∷ ts) = Child o ∷ effect_items ts
 effect_items (Syncs ∷ ts) = effect_items ts
 effect_items (Loops ∷ ts) = effect_items ts
 

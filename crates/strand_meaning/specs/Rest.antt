@@ -153,4 +153,4 @@ remaining_run plan o awaiting (Finished v gone_on) values = done (values ++ v �
 
 -- A trace with each child's evaluation in its place, followed by what remains, up to the first fault.
 abbrev pub finish : Task → Evaluation
-finish t = prefix_run t.trace then λ u. awaited_run (eval t.plan) t.trace.handed t.values then remaining_run t.plan t.origin t.trace.handed t.remaining
+finish t = prefix_run t.trace then λ u. awaited_run (eval t.plan) t.trace.unmerged t.values then remaining_run t.plan t.origin t.trace.unmerged t.remaining

@@ -176,7 +176,7 @@ IsSoundRemaining plan o awaiting (Runs stage) = IsInstanceOrLoop o × IsSoFar pl
 IsSoundRemaining plan o awaiting (Finished v true) = IsLoop o × (awaiting ≡ [])
 IsSoundRemaining plan o awaiting (Finished v false) = IsLoop o × AreHalves awaiting
 
--- Children as they were handed out
+-- Children as they were begun
 
 -- A part of the task's loop, from one of its iterations on. Where the children before it give values, so does each iteration before
 -- it: a fault by which the loop then ends is in the part or behind it.
@@ -216,8 +216,8 @@ pub record IsTask (t : Task) : Type 0 where
   pub finishes : finish t ≡ eval t.plan t.origin
   pub known : IsOriginOf t.plan t.origin
   pub clear : IsClearPlan t.plan
-  pub awaiting : AreSoundChildren t.plan t.origin t.trace.handed
-  pub shown : t.trace.fault ≡ None → AreShownBy t.plan t.origin [] t.trace.prefix t.trace.handed
-  pub remaining : IsSoundRemaining t.plan t.origin t.trace.handed t.remaining
-  pub pending : UnfilledArePendingIn t.plan t.trace.handed t.remaining
-  pub found : IsFoundPlan t.plan → FindsTargets t.plan (functions_left t.remaining) t.trace.handed
+  pub awaiting : AreSoundChildren t.plan t.origin t.trace.unmerged
+  pub shown : t.trace.fault ≡ None → AreShownBy t.plan t.origin [] t.trace.prefix t.trace.unmerged
+  pub remaining : IsSoundRemaining t.plan t.origin t.trace.unmerged t.remaining
+  pub pending : UnfilledArePendingIn t.plan t.trace.unmerged t.remaining
+  pub found : IsFoundPlan t.plan → FindsTargets t.plan (functions_left t.remaining) t.trace.unmerged

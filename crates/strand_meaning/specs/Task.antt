@@ -9,15 +9,15 @@ use Rattle.serial_meaning.specs.Exec.{with_loop_values}
 use Rattle.serial_meaning.specs.Eval.{Evaluation, first_value, iteration, path_of}
 use Rattle.serial_meaning.specs.Open.{NodeFault, Own, ChildFaulted, least}
 use Rattle.serial_meaning.specs.declared.value.Value.{Value}
-use Rattle.serial_meaning.specs.declared.environment.Slot.{Slot}
-use Rattle.serial_meaning.specs.declared.environment.Slot.TheVariants.{Scalar}
+use Rattle.serial_meaning.specs.declared.environment.Content.{Content}
+use Rattle.serial_meaning.specs.declared.environment.Content.TheVariants.{Scalar}
 use Rattle.serial_meaning.specs.declared.event.Fault.{Fault}
 use Rattle.serial_meaning.specs.declared.event.Event.{Event}
 use Rattle.serial_meaning.specs.declared.origin.Origin.{Origin}
 use Rattle.serial_meaning.specs.declared.origin.Origin.TheVariants.{Instance, Loop}
 use Rattle.serial_meaning.specs.declared.answer.Outcome.{Outcome}
 use Rattle.serial_meaning.specs.declared.answer.Outcome.TheVariants as outcome
-use Rattle.strand_meaning.specs.Machine.{Destination, Spawned, Looped, Half, Effect, Opens, Closes, Emitted, Handed, Syncs, Loops, Frame, Machine, Reached, Stands, Gives, function_begun, move}
+use Rattle.strand_meaning.specs.Machine.{Destination, Spawned, Looped, Half, Effect, Opens, Closes, Emitted, Starts, Syncs, Loops, Frame, Machine, Reached, Stands, Gives, function_begun, move}
 use Rattle.strand_meaning.specs.Trace.{AwaitedChild, Trace, no_trace, with_effects, add_child, merged_answers}
 
 -- what an instance is at: it runs; it waits at a sync, or for a loop; or it has ended, with a value or as a node of the open tree
@@ -82,7 +82,7 @@ stage_after [] m = Running m
 stage_after (Opens j ∷ ts) m = stage_after ts m
 stage_after (Closes j ∷ ts) m = stage_after ts m
 stage_after (Emitted e ∷ ts) m = stage_after ts m
-stage_after (Handed o destination ∷ ts) m = stage_after ts m
+stage_after (Starts o destination ∷ ts) m = stage_after ts m
 stage_after (Syncs ∷ ts) m = AtSync m
 stage_after (Loops ∷ ts) m = AtLoop m
 
@@ -91,7 +91,7 @@ child_in [] = None
 child_in (Opens j ∷ ts) = child_in ts
 child_in (Closes j ∷ ts) = child_in ts
 child_in (Emitted e ∷ ts) = child_in ts
-child_in (Handed o destination ∷ ts) = Some o
+child_in (Starts o destination ∷ ts) = Some o
 child_in (Syncs ∷ ts) = child_in ts
 child_in (Loops ∷ ts) = child_in ts
 
@@ -133,7 +133,7 @@ stage_step t (Running m) = let r = move t.plan (path_of (own_instance t.origin))
 stage_step t (AtSync m) = waits t
 stage_step t (AtLoop m) = waits t
 stage_step t (Ended (Ok v)) = returned t t.origin v
-stage_step t (Ended (Err (Own f))) = faults_after t.trace.handed t f
+stage_step t (Ended (Err (Own f))) = faults_after t.trace.unmerged t f
 stage_step t (Ended (Err (ChildFaulted f))) = ends t (outcome.Fault f)
 
 -- While two iterations of a loop are left, half of them is begun as a child. The task runs the last one itself.
@@ -187,9 +187,9 @@ changed height change m =
     if nat_eq height (length m.below) then record m { top = change m.top } else record m { below = changed_at height change m.below }
 
 -- a variable's new value, if the variable exists
-abbrev pub replaced : Env → List ℕ → Slot → Env
-replaced [] name slot = []
-replaced (v ∷ vs) name slot = if bytes_eq v.name name then record v { slot = slot } ∷ vs else v ∷ replaced vs name slot
+abbrev pub replaced : Env → List ℕ → Content → Env
+replaced [] name content = []
+replaced (v ∷ vs) name content = if bytes_eq v.name name then record v { content = content } ∷ vs else v ∷ replaced vs name content
 
 abbrev pub with_answer : Option Name → Value → Env → Env
 with_answer None v env = env
@@ -250,8 +250,8 @@ all_values (p ∷ ps) (answer ∷ answers) values = all_values ps answers (more_
 -- The task once its wait is over, with the answers of its children, in order.
 abbrev pub on : List Evaluation → Task → Task
 on answers t =
-    let awaiting = t.trace.handed in record t {
-      trace = merged_answers awaiting answers (record t.trace { handed = [] });
+    let awaiting = t.trace.unmerged in record t {
+      trace = merged_answers awaiting answers (record t.trace { unmerged = [] });
       values = all_values awaiting answers t.values;
       remaining = resumed_remaining awaiting answers t.remaining;
       waiting = false;

@@ -5,7 +5,7 @@ use Rattle.serial_meaning.specs.declared.value.Value.{Value}
 use Rattle.serial_meaning.specs.declared.event.Fault.{Fault}
 use Rattle.serial_meaning.specs.declared.event.Event.{Event}
 use Rattle.serial_meaning.specs.declared.origin.Origin.{Origin}
-use Rattle.strand_meaning.specs.Machine.{Destination, Effect, Opens, Closes, Emitted, Handed, Syncs, Loops}
+use Rattle.strand_meaning.specs.Machine.{Destination, Effect, Opens, Closes, Emitted, Starts, Syncs, Loops}
 
 -- a child whose answer isn't taken, where its value goes, and the task's own events behind it, up to the next child
 pub record AwaitedChild : Type 0 where
@@ -18,10 +18,10 @@ pub record AwaitedChild : Type 0 where
 pub record Trace : Type 0 where
   pub prefix : List Event
   pub fault : Option Fault
-  pub handed : List AwaitedChild
+  pub unmerged : List AwaitedChild
 
 abbrev pub no_trace : Trace
-no_trace = record { prefix = []; fault = None; handed = [] }
+no_trace = record { prefix = []; fault = None; unmerged = [] }
 
 -- An event of the task's own
 
@@ -35,14 +35,14 @@ after_last p (q ∷ qs) e = p ∷ after_last q qs e
 
 abbrev pub emit_at : List AwaitedChild → Event → Trace → Trace
 emit_at [] e trace = record trace { prefix = prefix_unless trace.fault trace.prefix (e ∷ []) }
-emit_at (p ∷ ps) e trace = record trace { handed = after_last p ps e }
+emit_at (p ∷ ps) e trace = record trace { unmerged = after_last p ps e }
 
 abbrev pub emit : Event → Trace → Trace
-emit e trace = emit_at trace.handed e trace
+emit e trace = emit_at trace.unmerged e trace
 
 -- one child more
 abbrev pub add_child : Origin → Destination → Trace → Trace
-add_child o destination trace = record trace { handed = trace.handed ++ record { child = o; destination = destination; after = [] } ∷ [] }
+add_child o destination trace = record trace { unmerged = trace.unmerged ++ record { child = o; destination = destination; after = [] } ∷ [] }
 
 -- the effects of a move
 abbrev pub with_effects : List Effect → Trace → Trace
@@ -50,7 +50,7 @@ with_effects [] trace = trace
 with_effects (Opens j ∷ ts) trace = with_effects ts trace
 with_effects (Closes j ∷ ts) trace = with_effects ts trace
 with_effects (Emitted e ∷ ts) trace = with_effects ts (emit e trace)
-with_effects (Handed o destination ∷ ts) trace = with_effects ts (add_child o destination trace)
+with_effects (Starts o destination ∷ ts) trace = with_effects ts (add_child o destination trace)
 with_effects (Syncs ∷ ts) trace = with_effects ts trace
 with_effects (Loops ∷ ts) trace = with_effects ts trace
 
@@ -58,9 +58,9 @@ with_effects (Loops ∷ ts) trace = with_effects ts trace
 
 -- the answer's events, and if it is no fault then those behind the child
 abbrev pub merged_answer_unless : Option Fault → List Event → AwaitedChild → List Event → Result (List Value) Fault → Trace
-merged_answer_unless (Some f) prefix p events ending = record { prefix = prefix; fault = Some f; handed = [] }
-merged_answer_unless None prefix p events (Ok vs) = record { prefix = prefix ++ (events ++ p.after); fault = None; handed = [] }
-merged_answer_unless None prefix p events (Err f) = record { prefix = prefix ++ events; fault = Some f; handed = [] }
+merged_answer_unless (Some f) prefix p events ending = record { prefix = prefix; fault = Some f; unmerged = [] }
+merged_answer_unless None prefix p events (Ok vs) = record { prefix = prefix ++ (events ++ p.after); fault = None; unmerged = [] }
+merged_answer_unless None prefix p events (Err f) = record { prefix = prefix ++ events; fault = Some f; unmerged = [] }
 
 -- a trace without children, once a child's answer was taken
 abbrev pub merged_answer : AwaitedChild → Evaluation → Trace → Trace

@@ -13,9 +13,9 @@ use Rattle.serial_meaning.specs.declared.value.Value.{Value}
 use Rattle.serial_meaning.specs.declared.value.Value.TheVariants.{Int}
 use Rattle.serial_meaning.specs.declared.event.FaultKind.{FaultKind}
 use Rattle.strand_values.specs.Gives.{Calculates, integer_result, integral}
-use Rattle.strand_values.specs.declared.halt.Halt.{Halt}
+use Rattle.strand_values.specs.declared.evaluation_error.EvaluationError.{EvaluationError}
 use Rattle.strand_values.proofs.NumberLemmas.{product_counts, sum_is, value_of_product, value_of_sum}
-use Rattle.strand_values.specs.declared.halt.Halt.TheVariants as halt
+use Rattle.strand_values.specs.declared.evaluation_error.EvaluationError.TheVariants as error
 
 summand : (p : SumPart) → sum_part p ≡ (p.minus, value_of p.operand)
 summand p = search (rules, the_lemmas)
@@ -24,18 +24,18 @@ factor : (p : ProductPart) → product_part p ≡ (p.sign, value_of p.operand)
 factor p = search (rules, the_lemmas)
 
 -- what is answered where a step failed so
-failed : (r : Result ℤ Halt) (h : Halt) → IsErrAnd r (λ e. e ≡ h) → integral r ≡ Err h
+failed : (r : Result ℤ EvaluationError) (h : EvaluationError) → IsErrAnd r (λ e. e ≡ h) → integral r ≡ Err h
 failed (Ok n) h g = absurd g
 failed (Err k) h g = ap (λ e. Err e) g
 
-given : (r : Result ℤ Halt) (h : Halt) (d : Val) → IsErrAnd r (λ e. e ≡ h) → Calculates {A = Value} (Err h) d → Calculates (integral r) d
+given : (r : Result ℤ EvaluationError) (h : EvaluationError) (d : Val) → IsErrAnd r (λ e. e ≡ h) → Calculates {A = Value} (Err h) d → Calculates (integral r) d
 given r h d so g = subst (λ x. Calculates {A = Value} x d) (sym (failed r h so)) g
 
 -- an operand that counts as no number ends a chain
-ended : (f : Val → Val) (w : Val) (h : Halt) → ((kind : FaultKind) → f (Err kind) ≡ Err kind) → Calculates {A = ℤ} (Err h) (integer_result w) → Calculates {A = Value} (Err h) (f w)
-ended f w halt.Memory out g = tt
-ended f (Ok v) (halt.Fault kind) out g = absurd (cc)
-ended f (Err k) (halt.Fault kind) out g = let same : k ≡ kind = cc in out k ∙ ap (λ e. Err e) same
+ended : (f : Val → Val) (w : Val) (h : EvaluationError) → ((kind : FaultKind) → f (Err kind) ≡ Err kind) → Calculates {A = ℤ} (Err h) (integer_result w) → Calculates {A = Value} (Err h) (f w)
+ended f w error.Memory out g = tt
+ended f (Ok v) (error.Fault kind) out g = absurd (cc)
+ended f (Err k) (error.Fault kind) out g = let same : k ≡ kind = cc in out k ∙ ap (λ e. Err e) same
 
 module _ (env : Env) where
   at_sum : (rest : List SumPart) (i : ℕ) (p : SumPart) (v : Value) → i < length rest → p ≡ get_or rest i p →
@@ -90,13 +90,13 @@ module _ (env : Env) where
   product_if_any first rest p n m (Err kind) one is left right gives = tt
 
   -- an operand without one ends it
-  pub sum_ends : (rest : List SumPart) (i : ℕ) (p : SumPart) (n : ℤ) (d : Val) (h : Halt) (r : Result ℤ Halt) → i < length rest → p ≡ get_or rest i p →
+  pub sum_ends : (rest : List SumPart) (i : ℕ) (p : SumPart) (n : ℤ) (d : Val) (h : EvaluationError) (r : Result ℤ EvaluationError) → i < length rest → p ≡ get_or rest i p →
       Calculates {A = ℤ} (Err h) (integer_result (value_of p.operand env)) → IsErrAnd r (λ e. e ≡ h) → d ≡ sums env (Int n) (map sum_part (drop i rest)) → Calculates (integral r) d
   sum_ends rest i p n d h r k e g so from =
       let f : Val → Val = λ w. w >>= λ y. added p.minus n (as_integer y) >>= λ z. sums env z (map sum_part (drop (suc i) rest)) in
       given r h d so (subst (λ x. Calculates {A = Value} (Err h) x) (sym (from ∙ at_sum rest i p (Int n) k e)) (ended f (value_of p.operand env) h (λ kind. refl) g))
 
-  pub product_ends : (rest : List ProductPart) (i : ℕ) (p : ProductPart) (n : ℤ) (d : Val) (h : Halt) (r : Result ℤ Halt) → i < length rest → p ≡ get_or rest i p →
+  pub product_ends : (rest : List ProductPart) (i : ℕ) (p : ProductPart) (n : ℤ) (d : Val) (h : EvaluationError) (r : Result ℤ EvaluationError) → i < length rest → p ≡ get_or rest i p →
       Calculates {A = ℤ} (Err h) (integer_result (value_of p.operand env)) → IsErrAnd r (λ e. e ≡ h) → d ≡ products env (Int n) (map product_part (drop i rest)) → Calculates (integral r) d
   product_ends rest i p n d h r k e g so from =
       let f : Val → Val = λ w. w >>= λ y. product p.sign n (as_integer y) >>= λ z. products env z (map product_part (drop (suc i) rest)) in
@@ -107,8 +107,8 @@ module _ (env : Env) where
   stops f g (Ok y) m kind h e = let same : as_integer y ≡ m = cc in rw (same, e) refl
 
   -- and so does a division by 0
-  pub product_stops : (rest : List ProductPart) (i : ℕ) (p : ProductPart) (n : ℤ) (d : Val) (m : ℤ) (kind : FaultKind) (r : Result ℤ Halt) → i < length rest → p ≡ get_or rest i p →
-      integer_result (value_of p.operand env) ≡ Ok m → product p.sign n m ≡ Err kind → IsErrAnd r (λ e. e ≡ halt.Fault kind) → d ≡ products env (Int n) (map product_part (drop i rest)) → Calculates (integral r) d
+  pub product_stops : (rest : List ProductPart) (i : ℕ) (p : ProductPart) (n : ℤ) (d : Val) (m : ℤ) (kind : FaultKind) (r : Result ℤ EvaluationError) → i < length rest → p ≡ get_or rest i p →
+      integer_result (value_of p.operand env) ≡ Ok m → product p.sign n m ≡ Err kind → IsErrAnd r (λ e. e ≡ error.Fault kind) → d ≡ products env (Int n) (map product_part (drop i rest)) → Calculates (integral r) d
   product_stops rest i p n d m kind r k e w stop so from =
       let whole = from ∙ at_product rest i p (Int n) k e ∙ stops (product p.sign n) (λ z. products env z (map product_part (drop (suc i) rest))) (value_of p.operand env) m kind w stop in
-      given r (halt.Fault kind) d so whole
+      given r (error.Fault kind) d so whole

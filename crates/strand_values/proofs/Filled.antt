@@ -1,4 +1,4 @@
--- The variables of an environment by their places: what a name's place has, and what filling it makes of them.
+-- The variables of an environment by their slots: what a name's slot has, and what filling it makes of them.
 use Rattle.std.proofs.Common.{◌≡◌, ℕ, zero, suc, ◌<◌, Bool, true, false, cond, List, [], ◌∷◌, ◌++◌, Option, Some, None, length, get_or, replicate, slice_get, slice_set, nat_eq, refl, sym, ap, ◌∙◌, ⊎_elim, arith, eqb-true, eq-eqb, ne_eqb, get_or-set_same, get_or-set_other, length-set}
 use Rattle.std.specs.Prelude.{All, IsSome}
 use Rattle.std.specs.Str.{bytes_eq}
@@ -8,16 +8,16 @@ use Rattle.std.proofs.lemmas.List.{get_or_read, length-replicate}
 use Rattle.std.proofs.lemmas.List.Quantifiers.{position-Some}
 use Rattle.std.proofs.lemmas.Option.{none-some, same_Some, slice_get-get_or, slice_get_within}
 use Rattle.script_grammar.specs.declared.tree.Name.{Name}
-use Rattle.script_check.specs.Places.{agree, has_place, place_in}
-use Rattle.serial_meaning.specs.Exec.{with_slot}
-use Rattle.serial_meaning.specs.Values.{Env, slot_of}
-use Rattle.serial_meaning.specs.declared.environment.Slot.{Slot}
+use Rattle.script_check.specs.Slots.{agree, has_slot, slot_in}
+use Rattle.serial_meaning.specs.Exec.{with_content}
+use Rattle.serial_meaning.specs.Values.{Env, content_of}
+use Rattle.serial_meaning.specs.declared.environment.Content.{Content}
 use Rattle.serial_meaning.specs.declared.environment.Variable.{Variable}
-use Rattle.strand_values.specs.Environments.{EnvironmentView, IsEnvironment, IsOwnPlace, filled_once, held, held_at, filled_variables, times_filled, with_filled, with_held, with_variables}
+use Rattle.strand_values.specs.Environments.{EnvironmentView, IsEnvironment, IsOwnSlot, filled_once, held, held_at, filled_variables, times_filled, with_filled, with_held, with_variables}
 use Rattle.strand_values.specs.declared.entry.Entry.{Entry}
 use Rattle.strand_values.specs.declared.entry.Entry.TheVariants as entry
 
--- Lists of places
+-- Lists of slots
 
 all-push : (P : ℕ → Type 0) (js : List ℕ) (i : ℕ) → All P js → P i → All P (js ++ i ∷ [])
 all-push P [] i all p zero d h = p
@@ -41,14 +41,14 @@ times-push : (j i : ℕ) (js : List ℕ) → times_filled j (js ++ i ∷ []) ≡
 times-push j i [] = refl
 times-push j i (k ∷ js) = ap (λ (n : ℕ). cond (nat_eq j k) (suc n) n) (times-push j i js) ∙ both_counted (nat_eq j k) (nat_eq j i) (times_filled j js)
 
-none_either : (b : Bool) (o : Option Slot) → o ≡ None → cond b None o ≡ o
+none_either : (b : Bool) (o : Option Content) → o ≡ None → cond b None o ≡ o
 none_either true o e = sym e
 none_either false o e = refl
 
-some_times : (n : ℕ) (o : Option Slot) → o ≡ cond (nat_eq (suc n) 0) None o
+some_times : (n : ℕ) (o : Option Content) → o ≡ cond (nat_eq (suc n) 0) None o
 some_times n o = sym (cond-false (nat_eq (suc n) 0) None o (ne_eqb (suc n) 0 (λ e. absurd (omega (arith, e)))))
 
-module _ (names : List (List ℕ)) (x : List ℕ) (i : ℕ) (at : place_in names x ≡ Some i) where
+module _ (names : List (List ℕ)) (x : List ℕ) (i : ℕ) (at : slot_in names x ≡ Some i) where
   is_within : i < length names
   is_within = let p = position-Some (λ (other : List ℕ). bytes_eq other x) names i [] at in p.0
 
@@ -58,11 +58,11 @@ module _ (names : List (List ℕ)) (x : List ℕ) (i : ℕ) (at : place_in names
   pub is_named : get_or names i [] ≡ x
   is_named = (bytes_decides (get_or names i []) x).0 has_name
 
-  pub is_place : IsOwnPlace names i
-  is_place = ap (λ (name : List ℕ). place_in names name) is_named ∙ at
+  pub is_slot : IsOwnSlot names i
+  is_slot = ap (λ (name : List ℕ). slot_in names name) is_named ∙ at
 
-  -- a place that is that of its own name has this name exactly where it is this place
-  named : (j : ℕ) → IsOwnPlace names j → bytes_eq (get_or names j []) x ≡ nat_eq i j
+  -- a slot that is that of its own name has this name exactly where it is this slot
+  named : (j : ℕ) → IsOwnSlot names j → bytes_eq (get_or names j []) x ≡ nat_eq i j
   named j own = ⊎_elim same other (cases_eq i j)
     where
       same : i ≡ j → bytes_eq (get_or names j []) x ≡ nat_eq i j
@@ -71,29 +71,29 @@ module _ (names : List (List ℕ)) (x : List ℕ) (i : ℕ) (at : place_in names
       other : (i ≡ j → ⊥) → bytes_eq (get_or names j []) x ≡ nat_eq i j
       other n =
           false_from_ne_true (bytes_eq (get_or names j []) x)
-          (λ e. n (same_Some i j (sym at ∙ ap (λ (name : List ℕ). place_in names name) (sym ((bytes_decides (get_or names j []) x).0 e)) ∙ own)))
+          (λ e. n (same_Some i j (sym at ∙ ap (λ (name : List ℕ). slot_in names name) (sym ((bytes_decides (get_or names j []) x).0 e)) ∙ own)))
           ∙ sym (ne_eqb i j n)
 
   module _ (entries : List Entry) where
-    -- what the place holds, where it came to be filled
-    abbrev seen : List ℕ → Option Slot
+    -- what the slot holds, where it came to be filled
+    abbrev seen : List ℕ → Option Content
     seen js = cond (nat_eq (times_filled i js) 0) None (held_at entries i)
 
-    slot_shown : (js : List ℕ) → All (IsOwnPlace names) js → slot_of (filled_variables names entries js) x ≡ seen js
-    slot_shown [] own = refl
-    slot_shown (j ∷ js) own = by (slot_shown js (rest_of (IsOwnPlace names) j js own)) (held_at entries j) refl (nat_eq i j) refl
+    content_shown : (js : List ℕ) → All (IsOwnSlot names) js → content_of (filled_variables names entries js) x ≡ seen js
+    content_shown [] own = refl
+    content_shown (j ∷ js) own = by (content_shown js (rest_of (IsOwnSlot names) j js own)) (held_at entries j) refl (nat_eq i j) refl
       where
         is : bytes_eq (get_or names j []) x ≡ nat_eq i j
-        is = named j (first_of (IsOwnPlace names) j js own)
+        is = named j (first_of (IsOwnSlot names) j js own)
 
-        by : slot_of (filled_variables names entries js) x ≡ seen js → (o : Option Slot) → held_at entries j ≡ o → (b : Bool) → nat_eq i j ≡ b →
-            slot_of (with_held (get_or names j []) o (filled_variables names entries js)) x ≡ cond (nat_eq (cond b (suc (times_filled i js)) (times_filled i js)) 0) None (held_at entries i)
+        by : content_of (filled_variables names entries js) x ≡ seen js → (o : Option Content) → held_at entries j ≡ o → (b : Bool) → nat_eq i j ≡ b →
+            content_of (with_held (get_or names j []) o (filled_variables names entries js)) x ≡ cond (nat_eq (cond b (suc (times_filled i js)) (times_filled i js)) 0) None (held_at entries i)
         by rest None e false n = rest
         by rest None e true n = rest ∙ none_either (nat_eq (times_filled i js) 0) (held_at entries i) (ap (λ k. held_at entries k) (eqb-true i j n) ∙ e) ∙ some_times (times_filled i js) (held_at entries i)
         by rest (Some s) e false n = cond-false (bytes_eq (get_or names j []) x) _ _ (is ∙ n) ∙ rest
         by rest (Some s) e true n = cond-true (bytes_eq (get_or names j []) x) _ _ (is ∙ n) ∙ sym (ap (λ k. held_at entries k) (eqb-true i j n) ∙ e) ∙ some_times (times_filled i js) (held_at entries i)
 
-    module _ (put : Entry) (s : Slot) (holds : held put ≡ Some s) (within : i < length entries) where
+    module _ (put : Entry) (s : Content) (holds : held put ≡ Some s) (within : i < length entries) where
       abbrev after : List Entry
       after = slice_set entries i put
 
@@ -118,23 +118,23 @@ module _ (names : List (List ℕ)) (x : List ℕ) (i : ℕ) (at : place_in names
               ∙ ap (λ (vs : Env). with_held (get_or names j []) (held_at entries j) vs) (rest none)
 
       -- another variable in front
-      past : (j : ℕ) → IsOwnPlace names j → nat_eq i j ≡ false → (vs ws : Env) → vs ≡ with_slot ws x s →
-          with_held (get_or names j []) (held_at after j) vs ≡ with_slot (with_held (get_or names j []) (held_at entries j) ws) x s
+      past : (j : ℕ) → IsOwnSlot names j → nat_eq i j ≡ false → (vs ws : Env) → vs ≡ with_content ws x s →
+          with_held (get_or names j []) (held_at after j) vs ≡ with_content (with_held (get_or names j []) (held_at entries j) ws) x s
       past j own n vs ws e = ap (λ o. with_held (get_or names j []) o vs) (elsewhere j (apart j n)) ∙ by (held_at entries j)
         where
-          by : (o : Option Slot) → with_held (get_or names j []) o vs ≡ with_slot (with_held (get_or names j []) o ws) x s
+          by : (o : Option Content) → with_held (get_or names j []) o vs ≡ with_content (with_held (get_or names j []) o ws) x s
           by None = e
-          by (Some t) = ap (λ (l : Env). let v : Variable = record { name = get_or names j []; slot = t } in v ∷ l) e ∙ sym (cond-false (bytes_eq (get_or names j []) x) _ _ (named j own ∙ n))
+          by (Some t) = ap (λ (l : Env). let v : Variable = record { name = get_or names j []; content = t } in v ∷ l) e ∙ sym (cond-false (bytes_eq (get_or names j []) x) _ _ (named j own ∙ n))
 
-      -- a variable that is there takes the slot in its place
-      set_filled : (js : List ℕ) → All (IsOwnPlace names) js → times_filled i js ≡ 1 → (old : Slot) → held_at entries i ≡ Some old → filled_variables names after js ≡ with_slot (filled_variables names entries js) x s
+      -- a variable that is there takes the content of its slot
+      set_filled : (js : List ℕ) → All (IsOwnSlot names) js → times_filled i js ≡ 1 → (old : Content) → held_at entries i ≡ Some old → filled_variables names after js ≡ with_content (filled_variables names entries js) x s
       set_filled [] own once old was = absurd (omega (arith, once))
-      set_filled (j ∷ js) own once old was = by (λ h. set_filled js (rest_of (IsOwnPlace names) j js own) h old was) (nat_eq i j) refl once
+      set_filled (j ∷ js) own once old was = by (λ h. set_filled js (rest_of (IsOwnSlot names) j js own) h old was) (nat_eq i j) refl once
         where
-          its : IsOwnPlace names j
-          its = first_of (IsOwnPlace names) j js own
+          its : IsOwnSlot names j
+          its = first_of (IsOwnSlot names) j js own
 
-          by : (times_filled i js ≡ 1 → filled_variables names after js ≡ with_slot (filled_variables names entries js) x s) → (b : Bool) → nat_eq i j ≡ b → cond b (suc (times_filled i js)) (times_filled i js) ≡ 1 → filled_variables names after (j ∷ js) ≡ with_slot (filled_variables names entries (j ∷ js)) x s
+          by : (times_filled i js ≡ 1 → filled_variables names after js ≡ with_content (filled_variables names entries js) x s) → (b : Bool) → nat_eq i j ≡ b → cond b (suc (times_filled i js)) (times_filled i js) ≡ 1 → filled_variables names after (j ∷ js) ≡ with_content (filled_variables names entries (j ∷ js)) x s
           by rest false n once = past j its n _ _ (rest once)
           by rest true n once =
               let same : j ≡ i = sym (eqb-true i j n) in
@@ -142,38 +142,38 @@ module _ (names : List (List ℕ)) (x : List ℕ) (i : ℕ) (at : place_in names
               let front : held_at after j ≡ Some s = ap (λ k. held_at after k) same ∙ here in
               let before : held_at entries j ≡ Some old = ap (λ k. held_at entries k) same ∙ was in
               ap (λ o. with_held (get_or names j []) o (filled_variables names after js)) front
-              ∙ ap (λ (l : Env). let v : Variable = record { name = get_or names j []; slot = s } in v ∷ l) (without js none)
-              ∙ sym (ap (λ o. with_slot (with_held (get_or names j []) o (filled_variables names entries js)) x s) before ∙ cond-true (bytes_eq (get_or names j []) x) _ _ (named j its ∙ n))
+              ∙ ap (λ (l : Env). let v : Variable = record { name = get_or names j []; content = s } in v ∷ l) (without js none)
+              ∙ sym (ap (λ o. with_content (with_held (get_or names j []) o (filled_variables names entries js)) x s) before ∙ cond-true (bytes_eq (get_or names j []) x) _ _ (named j its ∙ n))
 
       -- one that wasn't there stands at the end
-      set_vacant : (js : List ℕ) → All (IsOwnPlace names) js → times_filled i js ≡ 0 → filled_variables names after (js ++ i ∷ []) ≡ with_slot (filled_variables names entries js) x s
-      set_vacant [] own none = ap (λ o. with_held (get_or names i []) o []) here ∙ ap (λ (y : List ℕ). let v : Variable = record { name = y; slot = s } in v ∷ []) is_named
-      set_vacant (j ∷ js) own none = by (set_vacant js (rest_of (IsOwnPlace names) j js own)) (nat_eq i j) refl none
+      set_vacant : (js : List ℕ) → All (IsOwnSlot names) js → times_filled i js ≡ 0 → filled_variables names after (js ++ i ∷ []) ≡ with_content (filled_variables names entries js) x s
+      set_vacant [] own none = ap (λ o. with_held (get_or names i []) o []) here ∙ ap (λ (y : List ℕ). let v : Variable = record { name = y; content = s } in v ∷ []) is_named
+      set_vacant (j ∷ js) own none = by (set_vacant js (rest_of (IsOwnSlot names) j js own)) (nat_eq i j) refl none
         where
-          by : (times_filled i js ≡ 0 → filled_variables names after (js ++ i ∷ []) ≡ with_slot (filled_variables names entries js) x s) → (b : Bool) → nat_eq i j ≡ b → cond b (suc (times_filled i js)) (times_filled i js) ≡ 0 → filled_variables names after (j ∷ (js ++ i ∷ [])) ≡ with_slot (filled_variables names entries (j ∷ js)) x s
+          by : (times_filled i js ≡ 0 → filled_variables names after (js ++ i ∷ []) ≡ with_content (filled_variables names entries js) x s) → (b : Bool) → nat_eq i j ≡ b → cond b (suc (times_filled i js)) (times_filled i js) ≡ 0 → filled_variables names after (j ∷ (js ++ i ∷ [])) ≡ with_content (filled_variables names entries (j ∷ js)) x s
           by rest true n none = absurd (omega (arith, none))
-          by rest false n none = past j (first_of (IsOwnPlace names) j js own) n _ _ (rest none)
+          by rest false n none = past j (first_of (IsOwnSlot names) j js own) n _ _ (rest none)
 
   -- The same of an environment
 
   module _ (entries : List Entry) (filled : List ℕ) (is : IsEnvironment names entries filled) where
-    -- a variable's slot is what its place holds
-    pub slot_held : slot_of (filled_variables names entries filled) x ≡ held_at entries i
-    slot_held = slot_shown entries filled is.own ∙ by (held_at entries i) refl
+    -- a variable's content is what its slot holds
+    pub content_held : content_of (filled_variables names entries filled) x ≡ held_at entries i
+    content_held = content_shown entries filled is.own ∙ by (held_at entries i) refl
       where
-        by : (o : Option Slot) → held_at entries i ≡ o → cond (nat_eq (times_filled i filled) 0) None (held_at entries i) ≡ held_at entries i
+        by : (o : Option Content) → held_at entries i ≡ o → cond (nat_eq (times_filled i filled) 0) None (held_at entries i) ≡ held_at entries i
         by None e = none_either (nat_eq (times_filled i filled) 0) (held_at entries i) e
         by (Some s) e = ap (λ (n : ℕ). cond (nat_eq n 0) None (held_at entries i)) (is.once i ∙ ap filled_once e)
 
     is_inside : i < length entries
     is_inside = omega (arith, is.one_for_each, is_within)
 
-    module _ (put : Entry) (s : Slot) (holds : held put ≡ Some s) where
-      -- what is put into its place is the variable's slot
-      put_shown : filled_variables names (slice_set entries i put) (with_filled filled i (held_at entries i)) ≡ with_slot (filled_variables names entries filled) x s
+    module _ (put : Entry) (s : Content) (holds : held put ≡ Some s) where
+      -- what is put into its slot is the variable's content
+      put_shown : filled_variables names (slice_set entries i put) (with_filled filled i (held_at entries i)) ≡ with_content (filled_variables names entries filled) x s
       put_shown = by (held_at entries i) refl
         where
-          by : (o : Option Slot) → held_at entries i ≡ o → filled_variables names (slice_set entries i put) (with_filled filled i o) ≡ with_slot (filled_variables names entries filled) x s
+          by : (o : Option Content) → held_at entries i ≡ o → filled_variables names (slice_set entries i put) (with_filled filled i o) ≡ with_content (filled_variables names entries filled) x s
           by None e = set_vacant entries put s holds is_inside filled is.own (is.once i ∙ ap filled_once e)
           by (Some old) e = set_filled entries put s holds is_inside filled is.own (is.once i ∙ ap filled_once e) old e
 
@@ -181,11 +181,11 @@ module _ (names : List (List ℕ)) (x : List ℕ) (i : ℕ) (at : place_in names
       put_stays : IsEnvironment names (slice_set entries i put) (with_filled filled i (held_at entries i))
       put_stays = record { one_for_each = length-set entries i put ∙ is.one_for_each; own = own_of (held_at entries i); once = λ j. ⊎_elim (same j) (other j) (cases_eq j i) }
         where
-          own_of : (o : Option Slot) → All (IsOwnPlace names) (with_filled filled i o)
-          own_of None = all-push (IsOwnPlace names) filled i is.own is_place
+          own_of : (o : Option Content) → All (IsOwnSlot names) (with_filled filled i o)
+          own_of None = all-push (IsOwnSlot names) filled i is.own is_slot
           own_of (Some old) = is.own
 
-          now : (o : Option Slot) → held_at entries i ≡ o → times_filled i (with_filled filled i o) ≡ 1
+          now : (o : Option Content) → held_at entries i ≡ o → times_filled i (with_filled filled i o) ≡ 1
           now None e = times-push i i filled ∙ ap (λ (b : Bool). cond b (suc (times_filled i filled)) (times_filled i filled)) (eq-eqb i i refl) ∙ ap suc (is.once i ∙ ap filled_once e)
           now (Some old) e = is.once i ∙ ap filled_once e
 
@@ -194,30 +194,30 @@ module _ (names : List (List ℕ)) (x : List ℕ) (i : ℕ) (at : place_in names
               ap (λ (k : ℕ). times_filled k (with_filled filled i (held_at entries i))) e ∙ now (held_at entries i) refl
               ∙ sym (ap (λ (k : ℕ). filled_once (held_at (slice_set entries i put) k)) e ∙ ap filled_once (here entries put s holds is_inside))
 
-          as_before : (j : ℕ) (o : Option Slot) → (j ≡ i → ⊥) → times_filled j (with_filled filled i o) ≡ times_filled j filled
+          as_before : (j : ℕ) (o : Option Content) → (j ≡ i → ⊥) → times_filled j (with_filled filled i o) ≡ times_filled j filled
           as_before j None n = times-push j i filled ∙ ap (λ (b : Bool). cond b (suc (times_filled j filled)) (times_filled j filled)) (ne_eqb j i n)
           as_before j (Some old) n = refl
 
           other : (j : ℕ) → (j ≡ i → ⊥) → times_filled j (with_filled filled i (held_at entries i)) ≡ filled_once (held_at (slice_set entries i put) j)
           other j n = as_before j (held_at entries i) n ∙ is.once j ∙ sym (ap filled_once (elsewhere entries put s holds is_inside j n))
 
-pub some_of : (o : Option Slot) → IsSome o → (s : Slot) × (o ≡ Some s)
+pub some_of : (o : Option Content) → IsSome o → (s : Content) × (o ≡ Some s)
 some_of None h = absurd (false≢true h)
 some_of (Some s) h = (s, refl)
 
--- A name without a place has no variable
+-- A name without a slot has no variable
 
-module _ (names : List (List ℕ)) (x : List ℕ) (none : place_in names x ≡ None) (entries : List Entry) where
-  not_shown : (js : List ℕ) → All (IsOwnPlace names) js → slot_of (filled_variables names entries js) x ≡ None
+module _ (names : List (List ℕ)) (x : List ℕ) (none : slot_in names x ≡ None) (entries : List Entry) where
+  not_shown : (js : List ℕ) → All (IsOwnSlot names) js → content_of (filled_variables names entries js) x ≡ None
   not_shown [] own = refl
-  not_shown (j ∷ js) own = by (not_shown js (rest_of (IsOwnPlace names) j js own)) (held_at entries j)
+  not_shown (j ∷ js) own = by (not_shown js (rest_of (IsOwnSlot names) j js own)) (held_at entries j)
     where
       apart : bytes_eq (get_or names j []) x ≡ false
       apart =
           false_from_ne_true (bytes_eq (get_or names j []) x)
-          (λ e. none-some j (sym none ∙ ap (λ (name : List ℕ). place_in names name) (sym ((bytes_decides (get_or names j []) x).0 e)) ∙ first_of (IsOwnPlace names) j js own))
+          (λ e. none-some j (sym none ∙ ap (λ (name : List ℕ). slot_in names name) (sym ((bytes_decides (get_or names j []) x).0 e)) ∙ first_of (IsOwnSlot names) j js own))
 
-      by : slot_of (filled_variables names entries js) x ≡ None → (o : Option Slot) → slot_of (with_held (get_or names j []) o (filled_variables names entries js)) x ≡ None
+      by : content_of (filled_variables names entries js) x ≡ None → (o : Option Content) → content_of (with_held (get_or names j []) o (filled_variables names entries js)) x ≡ None
       by rest None = rest
       by rest (Some s) = cond-false (bytes_eq (get_or names j []) x) _ _ apart ∙ rest
 
@@ -228,14 +228,14 @@ agreed None b h = absurd (false≢true h)
 agreed (Some i) None h = absurd (false≢true h)
 agreed (Some i) (Some j) h = (i, refl, ap Some (sym (eqb-true i j h)))
 
-module _ (table : List ℕ) (names : List (List ℕ)) (x : Name) (found : has_place table names x ≡ true) where
+module _ (table : List ℕ) (names : List (List ℕ)) (x : Name) (found : has_slot table names x ≡ true) where
   pub in_table : x.at < length table
-  in_table = let p = agreed (slice_get table x.at) (place_in names x.bytes) found in slice_get_within table x.at p.0 p.1
+  in_table = let p = agreed (slice_get table x.at) (slot_in names x.bytes) found in slice_get_within table x.at p.0 p.1
 
-  -- a table that has a name's place has it at the name's offset
-  pub place_found : place_in names x.bytes ≡ Some (get_or table x.at 0)
-  place_found =
-      let p = agreed (slice_get table x.at) (place_in names x.bytes) found in
+  -- a table that has a name's slot has it at the name's offset
+  pub slot_found : slot_in names x.bytes ≡ Some (get_or table x.at 0)
+  slot_found =
+      let p = agreed (slice_get table x.at) (slot_in names x.bytes) found in
       p.2 ∙ sym p.1 ∙ slice_get-get_or table x.at 0 in_table
 
 -- An environment that is seen
@@ -244,38 +244,38 @@ abbrev seen_as : List (List ℕ) → List Entry → List ℕ → EnvironmentView
 seen_as names entries filled = record { names = names; variables = filled_variables names entries filled }
 
 module _ (names : List (List ℕ)) (entries : List Entry) (filled : List ℕ) (is : IsEnvironment names entries filled) (env : EnvironmentView) (view_is : seen_as names entries filled ≡ env) where
-  pub entry_missing : (name : List ℕ) → place_in env.names name ≡ None → slot_of env.variables name ≡ None
+  pub entry_missing : (name : List ℕ) → slot_in env.names name ≡ None → content_of env.variables name ≡ None
   entry_missing name none =
-      sym (ap (λ (w : EnvironmentView). slot_of w.variables name) view_is)
-      ∙ not_shown names name (ap (λ (w : EnvironmentView). place_in w.names name) view_is ∙ none) entries filled is.own
+      sym (ap (λ (w : EnvironmentView). content_of w.variables name) view_is)
+      ∙ not_shown names name (ap (λ (w : EnvironmentView). slot_in w.names name) view_is ∙ none) entries filled is.own
 
-  module _ (place : ℕ) (name : List ℕ) (there : place_in env.names name ≡ Some place) where
-    at_place : place_in names name ≡ Some place
-    at_place = ap (λ (w : EnvironmentView). place_in w.names name) view_is ∙ there
+  module _ (slot : ℕ) (name : List ℕ) (there : slot_in env.names name ≡ Some slot) where
+    at_slot : slot_in names name ≡ Some slot
+    at_slot = ap (λ (w : EnvironmentView). slot_in w.names name) view_is ∙ there
 
-    pub entry_there : place < length entries
-    entry_there = is_inside names name place at_place entries filled is
+    pub entry_there : slot < length entries
+    entry_there = is_inside names name slot at_slot entries filled is
 
-    pub entry_holds : (e : Entry) → e ≡ get_or entries place e → held e ≡ slot_of env.variables name
+    pub entry_holds : (e : Entry) → e ≡ get_or entries slot e → held e ≡ content_of env.variables name
     entry_holds e read =
-        ap held (get_or_read entries place e entry_there read entry.Vacant)
-        ∙ sym (slot_held names name place at_place entries filled is)
-        ∙ ap (λ (w : EnvironmentView). slot_of w.variables name) view_is
+        ap held (get_or_read entries slot e entry_there read entry.Vacant)
+        ∙ sym (content_held names name slot at_slot entries filled is)
+        ∙ ap (λ (w : EnvironmentView). content_of w.variables name) view_is
 
-    module _ (e : Entry) (read : e ≡ get_or entries place e) (now : List ℕ) (listed_now : now ≡ with_filled filled place (held e)) (put : Entry) (s : Slot) (holds : held put ≡ Some s) where
-      listed_there : now ≡ with_filled filled place (held_at entries place)
-      listed_there = listed_now ∙ ap (λ (o : Option Slot). with_filled filled place o) (ap held (get_or_read entries place e entry_there read entry.Vacant))
+    module _ (e : Entry) (read : e ≡ get_or entries slot e) (now : List ℕ) (listed_now : now ≡ with_filled filled slot (held e)) (put : Entry) (s : Content) (holds : held put ≡ Some s) where
+      listed_there : now ≡ with_filled filled slot (held_at entries slot)
+      listed_there = listed_now ∙ ap (λ (o : Option Content). with_filled filled slot o) (ap held (get_or_read entries slot e entry_there read entry.Vacant))
 
-      pub entry_put : IsEnvironment names (slice_set entries place put) now
+      pub entry_put : IsEnvironment names (slice_set entries slot put) now
       entry_put =
-          let kept = put_stays names name place at_place entries filled is put s holds in
+          let kept = put_stays names name slot at_slot entries filled is put s holds in
           rw listed_there kept
 
-      pub seen_put : seen_as names (slice_set entries place put) now ≡ with_variables env (with_slot env.variables name s)
+      pub seen_put : seen_as names (slice_set entries slot put) now ≡ with_variables env (with_content env.variables name s)
       seen_put =
-          ap (λ (l : List ℕ). seen_as names (slice_set entries place put) l) listed_there
-          ∙ ap (λ (vs : Env). let w : EnvironmentView = record { names = names; variables = vs } in w) (put_shown names name place at_place entries filled is put s holds)
-          ∙ ap (λ (w : EnvironmentView). with_variables w (with_slot w.variables name s)) view_is
+          ap (λ (l : List ℕ). seen_as names (slice_set entries slot put) l) listed_there
+          ∙ ap (λ (vs : Env). let w : EnvironmentView = record { names = names; variables = vs } in w) (put_shown names name slot at_slot entries filled is put s holds)
+          ∙ ap (λ (w : EnvironmentView). with_variables w (with_content w.variables name s)) view_is
 
 -- Nothing is there yet
 

@@ -8,7 +8,7 @@ use Rattle.script_grammar.specs.declared.tree.Expr.TheOpen.{Expr-F}
 use Rattle.script_grammar.specs.declared.tree.Expr.TheVariants as expr
 use Rattle.script_grammar.specs.declared.tree.SumPart.{SumPart}
 use Rattle.script_grammar.specs.declared.tree.ProductPart.{ProductPart}
-use Rattle.script_check.specs.Places.{all_true, every_at, every_in, every_in_all, every_in_factor, every_in_summand}
+use Rattle.script_check.specs.Slots.{all_true, every_at, every_in, every_in_all, every_in_factor, every_in_summand}
 
 both : (a b : Bool) → (a && b) ≡ true → (a ≡ true) × (b ≡ true)
 both true b h = (refl, h)

@@ -5,8 +5,8 @@ use lib.IntN.{nat_abs}
 use Rattle.std.proofs.lemmas.List.{take-append-drop}
 use Rattle.serial_meaning.specs.Values.{as_integer, at_index, items_of}
 use Rattle.serial_meaning.specs.Exec.{with_item, set_item, with_front, zeros}
-use Rattle.serial_meaning.specs.declared.environment.Slot.{Slot}
-use Rattle.serial_meaning.specs.declared.environment.Slot.TheVariants.{Array}
+use Rattle.serial_meaning.specs.declared.environment.Content.{Content}
+use Rattle.serial_meaning.specs.declared.environment.Content.TheVariants.{Array}
 use Rattle.serial_meaning.specs.declared.value.Value.{Value}
 
 pub item_set : (xs : List ℤ) (i : ℕ) (n : ℤ) → slice_set xs i n ≡ with_item xs i n
@@ -59,13 +59,13 @@ stored xs (pos i) v h = refl
 stored xs (negsuc i) v h = absurd (not_some ℤ h)
 
 -- the same of the array that stands in a slot
-pub item_there : (s t : Option Slot) (k : ℤ) → s ≡ t → IsSome (at_index (items_of s) k) → IsSome (at_index (items_of t) k)
-item_there s t k e h = let P : Option Slot → Type 0 = λ u. IsSome (at_index (items_of u) k) in subst P e h
+pub item_there : (s t : Option Content) (k : ℤ) → s ≡ t → IsSome (at_index (items_of s) k) → IsSome (at_index (items_of t) k)
+item_there s t k e h = let P : Option Content → Type 0 = λ u. IsSome (at_index (items_of u) k) in subst P e h
 
-pub stored_there : (s t : Option Slot) (k : ℤ) (v : Value) → s ≡ t → IsSome (at_index (items_of s) k) → Array (with_item (items_of t) (nat_abs k) (as_integer v)) ≡ Array (set_item (items_of s) k v)
+pub stored_there : (s t : Option Content) (k : ℤ) (v : Value) → s ≡ t → IsSome (at_index (items_of s) k) → Array (with_item (items_of t) (nat_abs k) (as_integer v)) ≡ Array (set_item (items_of s) k v)
 stored_there s t k v e h = ap (λ xs. Array xs) (stored (items_of t) k v (item_there s t k e h) ∙ ap (λ u. set_item (items_of u) k v) (sym e))
 
 -- which is there, since it has an item
-pub array_there : (s : Option Slot) (k : ℤ) → IsSome (at_index (items_of s) k) → IsSome s
+pub array_there : (s : Option Content) (k : ℤ) → IsSome (at_index (items_of s) k) → IsSome s
 array_there None k h = absurd (no_index_of_none k h)
 array_there (Some t) k h = refl

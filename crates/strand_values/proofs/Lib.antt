@@ -1,5 +1,5 @@
 pub mod BoundLemmas
-pub mod ByPlaces
+pub mod BySlots
 pub mod Chains
 pub mod Filled
 pub mod FoundOperands

@@ -20,20 +20,20 @@ use Rattle.serial_meaning.specs.Values.{Val, Env, Meaning, as_integer, object, t
 use Rattle.serial_meaning.specs.declared.value.Value.{Value}
 use Rattle.serial_meaning.specs.declared.value.Value.TheVariants.{Int}
 use Rattle.strand_values.specs.Gives.{Calculates, integer_result, integral}
-use Rattle.strand_values.specs.declared.halt.Halt.{Halt}
-use Rattle.strand_values.specs.declared.halt.Halt.TheVariants as halt
+use Rattle.strand_values.specs.declared.evaluation_error.EvaluationError.{EvaluationError}
+use Rattle.strand_values.specs.declared.evaluation_error.EvaluationError.TheVariants as error
 
 -- an integer that is given is the number
-numbered_gives : (r : Result ℤ Halt) (d : Val) → Calculates (integral r) d → Calculates r (integer_result d)
+numbered_gives : (r : Result ℤ EvaluationError) (d : Val) → Calculates (integral r) d → Calculates r (integer_result d)
 numbered_gives (Ok n) d h = ap integer_result h
-numbered_gives (Err (halt.Fault kind)) d h = ap integer_result h
-numbered_gives (Err halt.Memory) d h = tt
+numbered_gives (Err (error.Fault kind)) d h = ap integer_result h
+numbered_gives (Err error.Memory) d h = tt
 
 -- a number is given as the integer that it is, where the value is one
-pub whole_gives : (r : Result ℤ Halt) (d : Val) → d ≡ integral (integer_result d) → Calculates r (integer_result d) → Calculates (integral r) d
+pub whole_gives : (r : Result ℤ EvaluationError) (d : Val) → d ≡ integral (integer_result d) → Calculates r (integer_result d) → Calculates (integral r) d
 whole_gives (Ok n) d e h = e ∙ ap integral h
-whole_gives (Err (halt.Fault kind)) d e h = e ∙ ap integral h
-whole_gives (Err halt.Memory) d e h = tt
+whole_gives (Err (error.Fault kind)) d e h = e ∙ ap integral h
+whole_gives (Err error.Memory) d e h = tt
 
 truth_is_int : (b : Bool) → let d : Val = Ok (truth b) in d ≡ integral (integer_result d)
 truth_is_int true = refl
@@ -58,7 +58,7 @@ sum_begins env (Err kind) n ps h = absurd (cc)
 sum_begins env (Ok v) n [] h = h
 sum_begins env (Ok v) n (p ∷ ps) h = let e : as_integer v ≡ n = cc in rw e refl
 
-pub sum_gives : (env : Env) (d : Val) (n : ℤ) (ps : List (Bool × Meaning)) (r : Result ℤ Halt) → integer_result d ≡ Ok n → Calculates (integral r) (sums env (Int n) ps) → Calculates r (integer_result (d >>= λ v. sums env v ps))
+pub sum_gives : (env : Env) (d : Val) (n : ℤ) (ps : List (Bool × Meaning)) (r : Result ℤ EvaluationError) → integer_result d ≡ Ok n → Calculates (integral r) (sums env (Int n) ps) → Calculates r (integer_result (d >>= λ v. sums env v ps))
 sum_gives env d n ps r h g = rw (sum_begins env d n ps h) (numbered_gives r (sums env (Int n) ps) g)
 
 product_begins : (env : Env) (d : Val) (n : ℤ) (ps : List (ProductSign × Meaning)) → integer_result d ≡ Ok n → integer_result (d >>= λ v. products env v ps) ≡ integer_result (products env (Int n) ps)
@@ -66,7 +66,7 @@ product_begins env (Err kind) n ps h = absurd (cc)
 product_begins env (Ok v) n [] h = h
 product_begins env (Ok v) n (p ∷ ps) h = let e : as_integer v ≡ n = cc in rw e refl
 
-pub product_gives : (env : Env) (d : Val) (n : ℤ) (ps : List (ProductSign × Meaning)) (r : Result ℤ Halt) → integer_result d ≡ Ok n → Calculates (integral r) (products env (Int n) ps) → Calculates r (integer_result (d >>= λ v. products env v ps))
+pub product_gives : (env : Env) (d : Val) (n : ℤ) (ps : List (ProductSign × Meaning)) (r : Result ℤ EvaluationError) → integer_result d ≡ Ok n → Calculates (integral r) (products env (Int n) ps) → Calculates r (integer_result (d >>= λ v. products env v ps))
 product_gives env d n ps r h g = rw (product_begins env d n ps h) (numbered_gives r (products env (Int n) ps) g)
 
 -- Where there is an operand more, the value is an integer

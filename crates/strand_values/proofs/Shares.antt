@@ -3,7 +3,7 @@
 use denote.Param.Send.{IsSend, IsSync, view_send, view_sync}
 use denote.Param.SendFields.{declared_send, declared_sync}
 use Rattle.std.proofs.Crossing.{Vec-send, Vec-sync, crosses}
-use Rattle.meet_block.proofs.known_list.KnownList.TheSendSync as log_shared
+use Rattle.contract_views.proofs.known_list.KnownList.TheSendSync as log_shared
 use Rattle.strand_values.proofs.entry.Entry.TheSendSync as entry_shared
 use Rattle.strand_values.specs.contracts.entry.Entry as entry
 use Rattle.strand_values.specs.contracts.environment.Environment as environment

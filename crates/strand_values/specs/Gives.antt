@@ -5,14 +5,14 @@ use Rattle.serial_meaning.specs.Values.{as_integer, is_true}
 use Rattle.serial_meaning.specs.declared.event.FaultKind.{FaultKind}
 use Rattle.serial_meaning.specs.declared.value.Value.{Value}
 use Rattle.serial_meaning.specs.declared.value.Value.TheVariants.{Int}
-use Rattle.strand_values.specs.declared.halt.Halt.{Halt}
-use Rattle.strand_values.specs.declared.halt.Halt.TheVariants as halt
+use Rattle.strand_values.specs.declared.evaluation_error.EvaluationError.{EvaluationError}
+use Rattle.strand_values.specs.declared.evaluation_error.EvaluationError.TheVariants as error
 
 -- A value or a fault is the defined one. Want of memory may come at any time.
-abbrev pub Calculates : {A : Type 0} → Result A Halt → Result A FaultKind → Type 0
+abbrev pub Calculates : {A : Type 0} → Result A EvaluationError → Result A FaultKind → Type 0
 Calculates (Ok a) defined = defined ≡ Ok a
-Calculates (Err (halt.Fault kind)) defined = defined ≡ Err kind
-Calculates (Err halt.Memory) defined = Unit {0}
+Calculates (Err (error.Fault kind)) defined = defined ≡ Err kind
+Calculates (Err error.Memory) defined = Unit {0}
 
 -- the number that a value counts as
 abbrev pub integer_result : {E : Type 0} → Result Value E → Result ℤ E

@@ -1,4 +1,4 @@
-pub mod ByPlaces
+pub mod BySlots
 pub mod Changes
 pub mod Environments
 pub mod Gives

@@ -8,12 +8,12 @@ use Rattle.std.specs.Cmp.Lexicographic.{slice_cmp}
 use Rattle.script_grammar.specs.declared.tree.Comparison.{Comparison}
 use Rattle.script_grammar.specs.declared.tree.ProductPart.{ProductPart}
 use Rattle.serial_meaning.specs.Runs.{◌>>=◌}
-use Rattle.serial_meaning.specs.Values.{Val, Env, slot_of, items_of, item, as_integer, object, truth, compared, products, product_part}
+use Rattle.serial_meaning.specs.Values.{Val, Env, content_of, items_of, item, as_integer, object, truth, compared, products, product_part}
 use Rattle.serial_meaning.specs.declared.value.Value.{Value}
 use Rattle.serial_meaning.specs.declared.value.Value.TheVariants.{Int}
 
 abbrev pub item_at : Env → List ℕ → Val → Val
-item_at env name index = index >>= λ v. item (items_of (slot_of env name)) (as_integer v)
+item_at env name index = index >>= λ v. item (items_of (content_of env name)) (as_integer v)
 
 abbrev pub negated : Val → Val
 negated operand = operand >>= λ v. Ok (Int (int_wrapping_neg w64 (as_integer v)))

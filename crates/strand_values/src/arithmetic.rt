@@ -7,7 +7,7 @@ ghost use Rattle.strand_values.specs.Gives.{integral};
 use script_grammar::{Comparison, ProductSign};
 use serial_meaning::FaultKind;
 
-/// A product, quotient or remainder modulo 2^64, and the fault `Divide` where the divisor is 0.
+// A product, quotient or remainder modulo 2^64, and the fault `Divide` where the divisor is 0.
 pub(crate) fn product(sign: ProductSign, x: i64, y: i64) -> Result<i64, FaultKind>
     ensures { integral result ≡ product sign x y }
 {
@@ -19,7 +19,7 @@ pub(crate) fn product(sign: ProductSign, x: i64, y: i64) -> Result<i64, FaultKin
     }
 }
 
-/// A sum, or a difference where `minus` is set, modulo 2^64.
+// A sum, or a difference where `minus` is set, modulo 2^64.
 pub(crate) fn sum(minus: bool, x: i64, y: i64) -> i64
     ensures { added minus x y ≡ Ok (Int result) }
 {

@@ -1,25 +1,25 @@
-// What stands in the place of a variable.
+// What a variable's slot holds.
 
 ghost use Rattle.std.specs.Prelude.{◌≡◌, ◌<◌, Some, is_none, length};
-ghost use Rattle.serial_meaning.specs.declared.environment.Slot.TheVariants.{Scalar, Array};
+ghost use Rattle.serial_meaning.specs.declared.environment.Content.TheVariants.{Scalar, Array};
 ghost use Rattle.serial_meaning.specs.declared.value.Value.TheVariants.{Int};
 ghost use Rattle.serial_meaning.specs.Values.{items_of};
 ghost use Rattle.serial_meaning.specs.Exec.{with_item, with_front};
 ghost use Rattle.strand_values.specs.Environments.{held};
 
 use crate::scalar::number;
+use contract_views::Items;
 use ped_path::Pedigree;
-use script_grammar::Items;
 use serial_meaning::Value;
 use std::alloc::Global;
 
-/// Nothing yet, or what the variable there holds.
+// Nothing yet, or what the variable holds.
 #[derive(Drop)]
 pub(crate) enum Entry {
     Vacant,
     Int(i64),
     Id(Pedigree),
-    /// An array's items.
+    // An array's items.
     Array(Items<i64>),
 }
 
@@ -62,7 +62,7 @@ impl Entry {
         }
     }
 
-    /// Writes values over an array's first items. What is no array becomes one of no items.
+    /// Writes values over an array's first items. What isn't an array becomes an empty one.
     pub fn set_front(&mut self, alloc: Global, values: &[Value])
         ensures { held self.new ≡ Some (Array (with_front (items_of (held self.old)) values.now)) }
     {

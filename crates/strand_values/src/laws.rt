@@ -1,8 +1,8 @@
 //! A law of environments, the contract of a function that does nothing.
 
-ghost use Rattle.strand_values.specs.ByPlaces.{PlacesMeanNames};
+ghost use Rattle.strand_values.specs.BySlots.{SlotsMeanNames};
 
-/// Where a table has the place of each variable of an expression, what stands in those places gives the value that the names give.
-pub fn places_mean_names()
-    ensures { PlacesMeanNames }
+/// Where a table has the slot of each variable of an expression, evaluating by slots gives the same value as by names.
+pub fn slots_mean_names()
+    ensures { SlotsMeanNames }
 {}

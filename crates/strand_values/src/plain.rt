@@ -1,10 +1,10 @@
-// Calculations of plain operands, which most expressions are: these are numbers, variables, and products of both. Their numbers take no recursion, and no
-// room for a fault.
+// Calculations of plain operands: numbers, variables, and products of both. Most expressions are such, and evaluate
+// without recursion or an error value.
 
 ghost use Rattle.std.specs.Prelude.{◌≡◌, Ok, IfSome, map, true};
 ghost use Rattle.serial_meaning.specs.Values.{value_of, sums, products, sum_part, product_part};
 ghost use Rattle.serial_meaning.specs.declared.value.Value.TheVariants.{Int};
-ghost use Rattle.script_check.specs.Places.{all_true, every_in_factor, every_in_summand, has_place};
+ghost use Rattle.script_check.specs.Slots.{all_true, every_in_factor, every_in_summand, has_slot};
 ghost use Rattle.strand_values.specs.Environments.{FindsExpression};
 ghost use Rattle.strand_values.specs.Gives.{integer_result};
 ghost use Rattle.strand_values.specs.Nodes as node;
@@ -14,52 +14,52 @@ use crate::environment::Environment;
 use crate::scalar::truth;
 use script_grammar::{Expr, ProductPart, SumPart};
 
-/// The integer that the expression is, where it is a number, a variable that holds one, or a calculation of plain operands. Otherwise, and where a fault is
-/// met, there is none. The first two take no call.
+// The value of an expression that is a number, a variable that holds an integer, or a calculation of plain operands.
+// None for other expressions, and where a fault is met. The first two take no call.
 #[inline(always)]
-pub(crate) fn plain(env: &Environment, places: &[u16], e: &Expr) -> Option<i64>
-    requires { FindsExpression places.now env.now e.now }
+pub(crate) fn plain(env: &Environment, slots: &[u16], e: &Expr) -> Option<i64>
+    requires { FindsExpression slots.now env.now e.now }
     ensures { IfSome result (λ n. value_of e.now env.now.variables ≡ Ok (Int n)) }
 {
     match e {
         Expr::Number(number) => Some(number.value),
-        Expr::Var(name) => env.integer_of(places, name),
-        _ => calculated(env, places, e),
+        Expr::Var(name) => env.integer_of(slots, name),
+        _ => calculated(env, slots, e),
     }
 }
 
-/// The same, for a loop over statements: a short calculation takes no call either.
+// The same, for a loop over statements: a short calculation takes no call either.
 #[inline(always)]
-pub(crate) fn plain_in_place(env: &Environment, places: &[u16], e: &Expr) -> Option<i64>
-    requires { FindsExpression places.now env.now e.now }
+pub(crate) fn plain_in_place(env: &Environment, slots: &[u16], e: &Expr) -> Option<i64>
+    requires { FindsExpression slots.now env.now e.now }
     ensures { IfSome result (λ n. value_of e.now env.now.variables ≡ Ok (Int n)) }
 {
     match e {
         Expr::Number(number) => Some(number.value),
-        Expr::Var(name) => env.integer_of(places, name),
-        _ => match short(env, places, e) {
+        Expr::Var(name) => env.integer_of(slots, name),
+        _ => match short(env, slots, e) {
             Some(number) => Some(number),
-            None => longer(env, places, e),
+            None => longer(env, slots, e),
         },
     }
 }
 
-/// The same of a calculation of plain operands.
+// The same for a calculation of plain operands.
 #[inline(never)]
-fn calculated(env: &Environment, places: &[u16], e: &Expr) -> Option<i64>
-    requires { FindsExpression places.now env.now e.now }
+fn calculated(env: &Environment, slots: &[u16], e: &Expr) -> Option<i64>
+    requires { FindsExpression slots.now env.now e.now }
     ensures { IfSome result (λ n. value_of e.now env.now.variables ≡ Ok (Int n)) }
 {
-    match short(env, places, e) {
+    match short(env, slots, e) {
         Some(number) => Some(number),
-        None => longer(env, places, e),
+        None => longer(env, slots, e),
     }
 }
 
-/// The same of a comparison of two leaves, and of a sum of two operands of which the second is a leaf. It takes no call.
+// The same for a comparison of two leaves, and for a sum of two operands whose second one is a leaf. It takes no call.
 #[inline(always)]
-fn short(env: &Environment, places: &[u16], e: &Expr) -> Option<i64>
-    requires { FindsExpression places.now env.now e.now }
+fn short(env: &Environment, slots: &[u16], e: &Expr) -> Option<i64>
+    requires { FindsExpression slots.now env.now e.now }
     ensures { IfSome result (λ n. value_of e.now env.now.variables ≡ Ok (Int n)) }
 {
     match e {
@@ -67,23 +67,23 @@ fn short(env: &Environment, places: &[u16], e: &Expr) -> Option<i64>
             let [part] = rest.as_slice() else {
                 return None;
             };
-            let right = leaf(env, places, &part.operand)?;
-            let left = short_operand(env, places, first.get())?;
+            let right = leaf(env, slots, &part.operand)?;
+            let left = short_operand(env, slots, first.get())?;
             Some(sum(part.minus, left, right))
         }
         Expr::Compare(left, how, right) => {
-            let left = leaf(env, places, left.get())?;
-            let right = leaf(env, places, right.get())?;
+            let left = leaf(env, slots, left.get())?;
+            let right = leaf(env, slots, right.get())?;
             Some(truth(compare(*how, left, right)))
         }
         _ => None,
     }
 }
 
-/// The number that a leaf or a product of two leaves counts as.
+// The value of a leaf or of a product of two leaves, as a number.
 #[inline(always)]
-fn short_operand(env: &Environment, places: &[u16], e: &Expr) -> Option<i64>
-    requires { FindsExpression places.now env.now e.now }
+fn short_operand(env: &Environment, slots: &[u16], e: &Expr) -> Option<i64>
+    requires { FindsExpression slots.now env.now e.now }
     ensures { IfSome result (λ n. integer_result (value_of e.now env.now.variables) ≡ Ok n) }
 {
     match e {
@@ -91,18 +91,18 @@ fn short_operand(env: &Environment, places: &[u16], e: &Expr) -> Option<i64>
             let [part] = rest.as_slice() else {
                 return None;
             };
-            let left = leaf(env, places, first.get())?;
-            let right = leaf(env, places, &part.operand)?;
+            let left = leaf(env, slots, first.get())?;
+            let right = leaf(env, slots, &part.operand)?;
             product(part.sign, left, right).ok()
         }
-        _ => leaf(env, places, e),
+        _ => leaf(env, slots, e),
     }
 }
 
-/// The same of any calculation of plain operands.
+// The same for any calculation of plain operands.
 #[inline(never)]
-fn longer(env: &Environment, places: &[u16], e: &Expr) -> Option<i64>
-    requires { FindsExpression places.now env.now e.now }
+fn longer(env: &Environment, slots: &[u16], e: &Expr) -> Option<i64>
+    requires { FindsExpression slots.now env.now e.now }
     ensures { IfSome result (λ n. value_of e.now env.now.variables ≡ Ok (Int n)) }
 {
     match e {
@@ -110,96 +110,96 @@ fn longer(env: &Environment, places: &[u16], e: &Expr) -> Option<i64>
             if rest.as_slice().is_empty() {
                 return None;
             }
-            let first = first_operand(env, places, first.get())?;
-            total(env, places, first, rest.as_slice())
+            let first = first_operand(env, slots, first.get())?;
+            total(env, slots, first, rest.as_slice())
         }
         Expr::Product(first, rest) => {
             if rest.as_slice().is_empty() {
                 return None;
             }
-            scaled(env, places, first.get(), rest.as_slice())
+            scaled(env, slots, first.get(), rest.as_slice())
         }
         Expr::Compare(left, how, right) => {
-            let left = first_operand(env, places, left.get())?;
-            let right = operand(env, places, right.get())?;
+            let left = first_operand(env, slots, left.get())?;
+            let right = operand(env, slots, right.get())?;
             Some(truth(compare(*how, left, right)))
         }
         _ => None,
     }
 }
 
-/// The number that a plain operand counts as. A number takes no call.
+// The value of a plain operand, as a number. A literal takes no call.
 #[inline(always)]
-fn operand(env: &Environment, places: &[u16], e: &Expr) -> Option<i64>
-    requires { FindsExpression places.now env.now e.now }
+fn operand(env: &Environment, slots: &[u16], e: &Expr) -> Option<i64>
+    requires { FindsExpression slots.now env.now e.now }
     ensures { IfSome result (λ n. integer_result (value_of e.now env.now.variables) ≡ Ok n) }
 {
     match e {
         Expr::Number(number) => Some(number.value),
-        _ => first_operand(env, places, e),
+        _ => first_operand(env, slots, e),
     }
 }
 
-/// The same of an operand that is seldom a number.
+// The same for an operand that is seldom a literal.
 #[inline(always)]
-fn first_operand(env: &Environment, places: &[u16], e: &Expr) -> Option<i64>
-    requires { FindsExpression places.now env.now e.now }
+fn first_operand(env: &Environment, slots: &[u16], e: &Expr) -> Option<i64>
+    requires { FindsExpression slots.now env.now e.now }
     ensures { IfSome result (λ n. integer_result (value_of e.now env.now.variables) ≡ Ok n) }
 {
     match e {
         Expr::Number(number) => Some(number.value),
-        Expr::Var(name) => Some(env.integer_or_zero(places, name)),
-        Expr::Product(first, rest) => scaled(env, places, first.get(), rest.as_slice()),
+        Expr::Var(name) => Some(env.integer_or_zero(slots, name)),
+        Expr::Product(first, rest) => scaled(env, slots, first.get(), rest.as_slice()),
         _ => None,
     }
 }
 
-/// The number that a number or a variable counts as.
+// The value of a literal or a variable, as a number.
 #[inline(always)]
-fn leaf(env: &Environment, places: &[u16], e: &Expr) -> Option<i64>
-    requires { FindsExpression places.now env.now e.now }
+fn leaf(env: &Environment, slots: &[u16], e: &Expr) -> Option<i64>
+    requires { FindsExpression slots.now env.now e.now }
     ensures { IfSome result (λ n. integer_result (value_of e.now env.now.variables) ≡ Ok n) }
 {
     match e {
         Expr::Number(number) => Some(number.value),
-        Expr::Var(name) => Some(env.integer_or_zero(places, name)),
+        Expr::Var(name) => Some(env.integer_or_zero(slots, name)),
         _ => None,
     }
 }
 
-/// A sum that begins with this number.
+// A sum that begins with this number.
 #[inline(always)]
-fn total(env: &Environment, places: &[u16], first: i64, rest: &[SumPart]) -> Option<i64>
-    requires { all_true (map (every_in_summand (has_place places.now env.now.names)) rest.now) ≡ true }
+fn total(env: &Environment, slots: &[u16], first: i64, rest: &[SumPart]) -> Option<i64>
+    requires { all_true (map (every_in_summand (has_slot slots.now env.now.names)) rest.now) ≡ true }
     ensures { IfSome result (λ n. sums env.now.variables (Int first) (map sum_part rest.now) ≡ Ok (Int n)) }
 {
     let mut total = first;
     for part in rest {
-        let right = operand(env, places, &part.operand)?;
+        let right = operand(env, slots, &part.operand)?;
         total = sum(part.minus, total, right);
     }
     Some(total)
 }
 
-/// The number that a product counts as.
-fn scaled(env: &Environment, places: &[u16], first: &Expr, rest: &[ProductPart]) -> Option<i64>
-    requires first { FindsExpression places.now env.now first.now }
-    requires rest { all_true (map (every_in_factor (has_place places.now env.now.names)) rest.now) ≡ true }
+// The value of a product, as a number.
+fn scaled(env: &Environment, slots: &[u16], first: &Expr, rest: &[ProductPart]) -> Option<i64>
+    requires first { FindsExpression slots.now env.now first.now }
+    requires rest { all_true (map (every_in_factor (has_slot slots.now env.now.names)) rest.now) ≡ true }
     ensures { IfSome result (λ n. integer_result (node.product_value env.now.variables (value_of first.now env.now.variables) rest.now) ≡ Ok n) }
 {
-    let first = leaf(env, places, first)?;
-    multiplied(env, places, first, rest)
+    let first = leaf(env, slots, first)?;
+    multiplied(env, slots, first, rest)
 }
 
-/// A product that begins with this number.
+// A product that begins with this number.
 #[inline(always)]
-fn multiplied(env: &Environment, places: &[u16], first: i64, rest: &[ProductPart]) -> Option<i64>
-    requires { all_true (map (every_in_factor (has_place places.now env.now.names)) rest.now) ≡ true }
+fn multiplied(env: &Environment, slots: &[u16], first: i64, rest: &[ProductPart]) -> Option<i64>
+    requires { all_true (map (every_in_factor (has_slot slots.now env.now.names)) rest.now) ≡ true }
     ensures { IfSome result (λ n. products env.now.variables (Int first) (map product_part rest.now) ≡ Ok (Int n)) }
 {
     let mut total = first;
     for part in rest {
-        let right = leaf(env, places, &part.operand)?;
+        let right = leaf(env, slots, &part.operand)?;
         total = product(part.sign, total, right).ok()?;
     }
     Some(total)

@@ -17,21 +17,22 @@ pub fn number(value: &Value) -> i64
     }
 }
 
-/// Whether a condition of this value holds: it isn't 0. It is for who has a value and no expression: 7 and -1 hold, and 0 and an object don't.
+/// Whether a condition of this value holds: it isn't 0. For a value without an expression: 7 and -1 hold, 0 and an
+/// object don't.
 pub fn is_true(value: &Value) -> bool
     ensures { result ≡ is_true value.now }
 {
     number(value) != 0
 }
 
-/// The value of a comparison: 1 or 0.
+// The value of a comparison: 1 or 0.
 pub(crate) fn truth(holds: bool) -> i64
     ensures { Int result ≡ truth holds }
 {
     if holds { 1 } else { 0 }
 }
 
-/// Whether both are one object. An integer, which no valid script takes for an id, counts as one with no rank.
+// Whether both are the same object. An integer, which no valid script takes for an id, counts as one with no rank.
 pub(crate) fn is_same(left: &Value, right: &Value) -> bool
     ensures { result ≡ bytes_eq (object left.now) (object right.now) }
 {
@@ -43,7 +44,7 @@ pub(crate) fn is_same(left: &Value, right: &Value) -> bool
     }
 }
 
-/// Whether the left object was made before the right one in serial order.
+// Whether the left object was made before the right one in serial order.
 #[tactic(auto, using(crate::proofs::ValueLemmas::before_none))]
 pub(crate) fn is_older(left: &Value, right: &Value) -> bool
     ensures { result ≡ is_lt (slice_cmp nat_cmp (object left.now) (object right.now)) }

@@ -4,11 +4,11 @@ use script_grammar::{Name, NameText};
 use std::marker::Model;
 use std::snapshot::Snapshot;
 
-/// The variable that a value goes to, by the offset of its name in the text. Contracts see it as the `Name` that it is.
+/// The variable that a value goes to, by the offset of its name in the text. Contracts see the `Name`.
 #[derive(Drop)]
 pub struct Target {
     at: u32,
-    /// The name's bytes. Only contracts look there, so they take no memory.
+    // The name's bytes. Only contracts read them, so they take no memory.
     text: Snapshot<NameText>,
 }
 
@@ -32,7 +32,7 @@ impl Target {
         }
     }
 
-    /// Where its name stands in the text.
+    // The offset of its name in the text.
     #[inline(always)]
     pub(crate) fn at(&self) -> u32
         ensures { result ≡ self.now.at }

@@ -1,5 +1,5 @@
 -- What a machine may still come to: the strands from its present one on, and those after each scope that it has open. A move adds none,
--- and it takes the present strand away where it hands out a child.
+-- and it takes the present strand away where it begins a child.
 use Rattle.std.proofs.Common.{◌≡◌, ℕ, zero, suc, ◌+◌, ◌≤◌, ◌⊎◌, inl, inr, Bool, true, false, nat_lt, List, [], ◌∷◌, ◌++◌, Option, Some, None, Result, Ok, Err, length, append-nil, append_assoc, refl, sym, ap, ◌∙◌, subst, arith, if◌then◌else◌}
 use Rattle.std.proofs.Common.{ℤ, ◌-ℤ◌}
 use Rattle.script_grammar.specs.declared.tree.CallText.{CallText}
@@ -12,10 +12,10 @@ use Rattle.script_grammar.specs.declared.tree.Act.{Act, out-Act}
 use Rattle.script_grammar.specs.declared.tree.Act.TheOpen as act
 use Rattle.script_grammar.specs.declared.tree.Act.TheOpen.{Act-F}
 use Rattle.serial_meaning.specs.Runs.{Run, done, continued, ◌then◌}
-use Rattle.serial_meaning.specs.Values.{value_of, values_of, slot_of, items_of, as_integer, is_true, at_index}
+use Rattle.serial_meaning.specs.Values.{value_of, values_of, content_of, items_of, as_integer, is_true, at_index}
 use Rattle.serial_meaning.specs.Functions.{function_number, function_at}
 use Rattle.serial_meaning.specs.Plan.{PlanView, functions_of}
-use Rattle.serial_meaning.specs.Exec.{State, Manner, strand, unless_fault, paid_from, tested, has_room, loop_fits, spawn, sync_at, implied, frame, called, right_side, found, looped, does, count_of}
+use Rattle.serial_meaning.specs.Exec.{State, Interpretation, strand, unless_fault, paid_from, tested, has_room, loop_fits, spawn, sync_at, implied, frame, called, right_side, found, looped, does, count_of}
 use Rattle.serial_meaning.specs.Eval.{path_of}
 use Rattle.serial_meaning.specs.Open.{is_empty_loop}
 use Rattle.serial_meaning.specs.declared.value.Value.{Value}
@@ -26,7 +26,7 @@ use Rattle.serial_meaning.specs.declared.event.Event.TheVariants as event
 use Rattle.serial_meaning.specs.declared.origin.Origin.{Origin}
 use Rattle.serial_meaning.specs.declared.origin.Origin.TheVariants as origin
 use Rattle.script_check.specs.Spawns.{spawns_in}
-use Rattle.strand_meaning.specs.Machine.{Destination, Spawned, Looped, Effect, Opens, Closes, Emitted, Handed, Syncs, Loops, Exit, Faulted, Inside, loop_effects, sync_effects, handing, inside, child_destination, Level, Frame, Machine, Reached, Stands, Gives, inside_of, present, here_of, state_of, with_left, with_leaving, with_returning, back_in_caller, machine_inside, reached, gives, act_run, return_run, value_run, statement_move, return_move, level_move, end_move, move_at, move}
+use Rattle.strand_meaning.specs.Machine.{Destination, Spawned, Looped, Effect, Opens, Closes, Emitted, Starts, Syncs, Loops, Exit, Faulted, Inside, loop_effects, sync_effects, parallel, inside, child_destination, Level, Frame, Machine, Reached, Stands, Gives, inside_of, present, here_of, state_of, with_left, with_leaving, with_returning, back_in_caller, machine_inside, reached, gives, act_run, return_run, value_run, statement_move, return_move, level_move, end_move, move_at, move}
 use Rattle.strand_meaning.specs.Task.{child_in}
 use Rattle.strand_meaning.proofs.SoundSteps.ChildrenFollowEvents.{present-below}
 
@@ -131,38 +131,38 @@ onward-below path m k q (inr x) = scopes-below path (m.top ∷ m.below) q x
 
 -- Ranks
 
--- how many children are handed out
-abbrev pub handed : List Effect → ℕ
-handed [] = 0
-handed (Opens j ∷ ts) = handed ts
-handed (Closes j ∷ ts) = handed ts
-handed (Emitted e ∷ ts) = handed ts
-handed (Handed o destination ∷ ts) = suc (handed ts)
-handed (Syncs ∷ ts) = handed ts
-handed (Loops ∷ ts) = handed ts
+-- how many children are begun
+abbrev pub unmerged : List Effect → ℕ
+unmerged [] = 0
+unmerged (Opens j ∷ ts) = unmerged ts
+unmerged (Closes j ∷ ts) = unmerged ts
+unmerged (Emitted e ∷ ts) = unmerged ts
+unmerged (Starts o destination ∷ ts) = suc (unmerged ts)
+unmerged (Syncs ∷ ts) = unmerged ts
+unmerged (Loops ∷ ts) = unmerged ts
 
-pub child-handed : (ts : List Effect) (o : Origin) → child_in ts ≡ Some o → 1 ≤ handed ts
-child-handed [] o h = absurd (cc)
-child-handed (Opens j ∷ ts) o h = child-handed ts o h
-child-handed (Closes j ∷ ts) o h = child-handed ts o h
-child-handed (Emitted e ∷ ts) o h = child-handed ts o h
-child-handed (Handed c destination ∷ ts) o h = omega arith
-child-handed (Syncs ∷ ts) o h = child-handed ts o h
-child-handed (Loops ∷ ts) o h = child-handed ts o h
+pub child-unmerged : (ts : List Effect) (o : Origin) → child_in ts ≡ Some o → 1 ≤ unmerged ts
+child-unmerged [] o h = absurd (cc)
+child-unmerged (Opens j ∷ ts) o h = child-unmerged ts o h
+child-unmerged (Closes j ∷ ts) o h = child-unmerged ts o h
+child-unmerged (Emitted e ∷ ts) o h = child-unmerged ts o h
+child-unmerged (Starts c destination ∷ ts) o h = omega arith
+child-unmerged (Syncs ∷ ts) o h = child-unmerged ts o h
+child-unmerged (Loops ∷ ts) o h = child-unmerged ts o h
 
--- A run at a present path that begins at the rank k: it ends at a rank after the children that it handed out. Where it goes inside, it
--- handed out none.
+-- A run at a present path that begins at the rank k: it ends at a rank after the children that it began. Where it goes inside, it
+-- began none.
 module _ (plan : PlanView) (path : List ℕ) (k : ℕ) (In : ℕ → Type 0) (stays : In k) where
   abbrev RankEnd : {A : Type 0} → (A → ℕ) → List Effect → Result A Exit → Type 0
-  RankEnd rank ts (Ok a) = k + handed ts ≤ rank a
+  RankEnd rank ts (Ok a) = k + unmerged ts ≤ rank a
   RankEnd rank ts (Err (Faulted f)) = Unit {0}
-  RankEnd rank ts (Err (Inside here calls sts s)) = (handed ts ≡ 0) × In s.rank
+  RankEnd rank ts (Err (Inside here calls sts s)) = (unmerged ts ≡ 0) × In s.rank
 
   abbrev Rises : {A : Type 0} → (A → ℕ) → Run Effect Exit A → Type 0
   Rises rank r = RankEnd rank r.items r.ending
 
-  abbrev what : Destination → Manner Effect Exit Bool
-  what destination = handing plan destination
+  abbrev what : Destination → Interpretation Effect Exit Bool
+  what destination = parallel plan destination
 
   abbrev of-state : State Bool → ℕ
   of-state s = s.rank
@@ -186,14 +186,14 @@ module _ (plan : PlanView) (path : List ℕ) (k : ℕ) (In : ℕ → Type 0) (st
   rises-then {A} {B} rank last r g same h = from r.items r.ending h
     where
       from : (ts : List Effect) (e : Result A Exit) → RankEnd rank ts e → Rises last (continued ts e (λ a. done (g a)))
-      from ts (Ok a) h = subst (λ (l : List Effect). k + handed l ≤ last (g a)) (sym (append-nil ts)) (subst (λ n. k + handed ts ≤ n) (sym (same a)) h)
+      from ts (Ok a) h = subst (λ (l : List Effect). k + unmerged l ≤ last (g a)) (sym (append-nil ts)) (subst (λ n. k + unmerged ts ≤ n) (sym (same a)) h)
       from ts (Err (Faulted f)) h = tt
       from ts (Err (Inside here calls sts s)) h = h
 
   rises-sync : (destination : Destination) (here : List ℕ) (s : State Bool) → s.rank ≡ k → Rises of-state (sync_at (what destination) plan path here s)
   rises-sync destination here s e = from s.spawned
     where
-      from : (b : Bool) → k + handed (Emitted (event.Sync (strand here s)) ∷ (sync_effects b ++ [])) ≤ s.rank + 1
+      from : (b : Bool) → k + unmerged (Emitted (event.Sync (strand here s)) ∷ (sync_effects b ++ [])) ≤ s.rank + 1
       from true = omega arith
       from false = omega arith
 
@@ -234,7 +234,7 @@ module _ (plan : PlanView) (path : List ℕ) (k : ℕ) (In : ℕ → Type 0) (st
       o : Origin
       o = origin.Loop (function_number (functions_of plan) c.name.bytes) vs lo (path ++ s.rank ∷ []) (record { lo = 0; hi = hi })
 
-      from : (b : Bool) → k + handed (Emitted (event.Loop (path ++ s.rank ∷ [])) ∷ (loop_effects b o destination ++ [])) ≤ s.rank + 1
+      from : (b : Bool) → k + unmerged (Emitted (event.Loop (path ++ s.rank ∷ [])) ∷ (loop_effects b o destination ++ [])) ≤ s.rank + 1
       from true = omega arith
       from false = omega arith
 
@@ -278,14 +278,14 @@ module _ (plan : PlanView) (path : List ℕ) (k : ℕ) where
   value_rank p = p.1.rank
 
   rises-does : (height : ℕ) (st : Stmt) (a : Act-F Act Stmt) (s : State Bool) → s.rank ≡ k →
-      Rises plan path k (Enters k a) (enters-here k a) state_rank (does (handing plan (child_destination height a)) plan path inside height st a s)
+      Rises plan path k (Enters k a) (enters-here k a) state_rank (does (parallel plan (child_destination height a)) plan path inside height st a s)
   rises-does height st (act.Let x r) s e =
-      let destination = Spawned height (Some x) in rises-then plan path k Same refl value_rank state_rank (right_side (handing plan destination) plan path inside height r s) _ (λ p. refl) (rises-right plan path k Same refl destination height r s e)
+      let destination = Spawned height (Some x) in rises-then plan path k Same refl value_rank state_rank (right_side (parallel plan destination) plan path inside height r s) _ (λ p. refl) (rises-right plan path k Same refl destination height r s e)
   rises-does height st (act.Array x n) s e = omega arith
   rises-does height st (act.Set x r) s e =
-      let destination = Spawned height (Some x) in rises-then plan path k Same refl value_rank state_rank (right_side (handing plan destination) plan path inside height r s) _ (λ p. refl) (rises-right plan path k Same refl destination height r s e)
+      let destination = Spawned height (Some x) in rises-then plan path k Same refl value_rank state_rank (right_side (parallel plan destination) plan path inside height r s) _ (λ p. refl) (rises-right plan path k Same refl destination height r s e)
   rises-does height st (act.Store x i v) s e =
-      rises-given plan path k Same refl state_rank destination (value_of i s.env) s _ (λ n. by_item (at_index (items_of (slot_of s.env x.bytes)) (as_integer n)) _ (rises-given plan path k Same refl state_rank destination (value_of v s.env) s _ (λ w. same)))
+      rises-given plan path k Same refl state_rank destination (value_of i s.env) s _ (λ n. by_item (at_index (items_of (content_of s.env x.bytes)) (as_integer n)) _ (rises-given plan path k Same refl state_rank destination (value_of v s.env) s _ (λ w. same)))
     where
       destination : Destination
       destination = Spawned height None
@@ -293,13 +293,13 @@ module _ (plan : PlanView) (path : List ℕ) (k : ℕ) where
       same : k + 0 ≤ s.rank
       same = omega arith
 
-      by_item : (o : Option ℤ) (r : Run Effect Exit (State Bool)) → Rises plan path k Same refl state_rank r → Rises plan path k Same refl state_rank (found (handing plan destination) plan path o s r)
+      by_item : (o : Option ℤ) (r : Run Effect Exit (State Bool)) → Rises plan path k Same refl state_rank r → Rises plan path k Same refl state_rank (found (parallel plan destination) plan path o s r)
       by_item None r h = tt
       by_item (Some old) r h = h
   rises-does height st (act.Spawn c) s e =
-      let destination = Spawned height None in rises-then plan path k Same refl value_rank state_rank (spawn (handing plan destination) plan path c s) _ (λ p. refl) (rises-spawn plan path k Same refl destination c s e)
+      let destination = Spawned height None in rises-then plan path k Same refl value_rank state_rank (spawn (parallel plan destination) plan path c s) _ (λ p. refl) (rises-spawn plan path k Same refl destination c s e)
   rises-does height st (act.Call c) s e =
-      let destination = Spawned height None in rises-then plan path k Same refl value_rank state_rank (called (handing plan destination) plan path inside height c s) _ (λ p. refl) (rises-called plan path k Same refl destination height c s e)
+      let destination = Spawned height None in rises-then plan path k Same refl value_rank state_rank (called (parallel plan destination) plan path inside height c s) _ (λ p. refl) (rises-called plan path k Same refl destination height c s e)
   rises-does height st act.Sync s e = rises-sync plan path k Same refl (Spawned height None) path s e
   rises-does height st (act.Print x) s e = rises-given plan path k Same refl state_rank (Spawned height None) (value_of x s.env) s _ (λ v. same)
     where
@@ -320,9 +320,9 @@ module _ (plan : PlanView) (path : List ℕ) (k : ℕ) where
 
 -- Moves
 
--- What is onward after a move was onward before it, and from the next rank on where a child was handed out.
+-- What is onward after a move was onward before it, and from the next rank on where a child was begun.
 abbrev pub MovesOn : List ℕ → Machine → List Effect → Result Reached Fault → Type 0
-MovesOn path m ts (Ok (Stands next)) = (q : Origin) → Onward path next next.rank q → Onward path m (m.rank + handed ts) q
+MovesOn path m ts (Ok (Stands next)) = (q : Origin) → Onward path next next.rank q → Onward path m (m.rank + unmerged ts) q
 MovesOn path m ts (Ok (Gives v)) = Unit {0}
 MovesOn path m ts (Err f) = Unit {0}
 
@@ -372,11 +372,11 @@ module _ (plan : PlanView) (path : List ℕ) (m : Machine) where
   reached-on : (In : ℕ → Type 0) (stays : In m.rank) (on : State Bool → Machine) (into : List Stmt → State Bool → Machine) →
       ((k : ℕ) (s : State Bool) (q : Origin) → k ≤ s.rank → Onward path (on s) (on s).rank q → Onward path m k q) → ((sts : List Stmt) (s : State Bool) → In s.rank → Keeps (into sts s)) →
       (ts : List Effect) (e : Result (State Bool) Exit) → RankEnd plan (here_of path m) m.rank In stays (λ s. s.rank) ts e → MovesOn path m ts (reached plan on into e)
-  reached-on In stays on into up goes ts (Ok s) h = λ q x. up (m.rank + handed ts) s q h x
+  reached-on In stays on into up goes ts (Ok s) h = λ q x. up (m.rank + unmerged ts) s q h x
   reached-on In stays on into up goes ts (Err (Faulted f)) h = tt
-  reached-on In stays on into up goes ts (Err (Inside here calls sts s)) h = λ q x. onward-lower path m.top.levels m.below (m.rank + handed ts) m.rank q (none h.0) (goes sts s h.1 q x)
+  reached-on In stays on into up goes ts (Err (Inside here calls sts s)) h = λ q x. onward-lower path m.top.levels m.below (m.rank + unmerged ts) m.rank q (none h.0) (goes sts s h.1 q x)
     where
-      none : handed ts ≡ 0 → m.rank + handed ts ≤ m.rank
+      none : unmerged ts ≡ 0 → m.rank + unmerged ts ≤ m.rank
       none z = omega arith
 
   -- the same scopes at a later rank
@@ -416,13 +416,13 @@ module _ (plan : PlanView) (path : List ℕ) (m : Machine) where
       destination : Destination
       destination = Spawned (length m.below) None
 
-      by_text : (b : Bool) (s : State Bool) → s.rank ≡ m.rank → Rises plan (here_of path m) m.rank Here refl (λ s. s.rank) (implied (handing plan destination) plan (here_of path m) b s)
+      by_text : (b : Bool) (s : State Bool) → s.rank ≡ m.rank → Rises plan (here_of path m) m.rank Here refl (λ s. s.rank) (implied (parallel plan destination) plan (here_of path m) b s)
       by_text true s e = rises-sync plan (here_of path m) m.rank Here refl destination (here_of path m) s e
       by_text false s e = omega arith
   return-on flat true = by_function (function_at (functions_of plan) m.top.function)
     where
       by_value : (f : Function) (o : Result Value FaultKind) →
-          let r : Run Effect Exit (Value × State Bool) = unless_fault (handing plan (Spawned (length m.below) None)) plan (here_of path m) o (state_of m) (λ v. done (v, state_of m)) in MovesOn path m r.items (gives plan m r.ending)
+          let r : Run Effect Exit (Value × State Bool) = unless_fault (parallel plan (Spawned (length m.below) None)) plan (here_of path m) o (state_of m) (λ v. done (v, state_of m)) in MovesOn path m r.items (gives plan m r.ending)
       by_value f (Ok v) = back-on flat m.below refl m.top.target v m.steps
       by_value f (Err kind) = tt
 
@@ -432,7 +432,7 @@ module _ (plan : PlanView) (path : List ℕ) (m : Machine) where
 
   level-on : (l : Level) (ls : List Level) → m.top.levels ≡ l ∷ ls → (b : Bool) → MovesOn path m (level_move plan path m l ls b).items (level_move plan path m l ls b).ending
   level-on l ls at false =
-      let r = sync_at (handing plan (Spawned (length m.below) None)) plan (present path m.below) (here_of path m) (state_of m) in
+      let r = sync_at (parallel plan (Spawned (length m.below) None)) plan (present path m.below) (here_of path m) (state_of m) in
       reached-on Here refl (with_leaving m) (λ sts s. m) rises-on no-inside r.items r.ending (rises-sync plan (present path m.below) m.rank Here refl (Spawned (length m.below) None) (here_of path m) (state_of m) refl)
   level-on l ls at true = λ q x. subst (λ (levels : List Level). OnwardAt path levels m.below (m.rank + 0) q) (sym at) (outer q x)
     where

@@ -11,7 +11,7 @@ use Rattle.serial_meaning.specs.declared.event.Fault.{Fault}
 use Rattle.serial_meaning.specs.declared.origin.Origin.{Origin}
 use Rattle.serial_meaning.specs.declared.origin.Origin.TheVariants.{Instance, Loop}
 use Rattle.serial_meaning.specs.declared.answer.Outcome.{Outcome}
-use Rattle.strand_meaning.specs.Machine.{Destination, Spawned, Looped, Half, Level, Frame, Effect, Opens, Closes, Emitted, Handed, Syncs, Loops, Machine, Reached, Stands, Gives, inside_of, present, here_of, function_begun, move}
+use Rattle.strand_meaning.specs.Machine.{Destination, Spawned, Looped, Half, Level, Frame, Effect, Opens, Closes, Emitted, Starts, Syncs, Loops, Machine, Reached, Stands, Gives, inside_of, present, here_of, function_begun, move}
 use Rattle.strand_meaning.specs.Trace.{AwaitedChild, add_child}
 use Rattle.strand_meaning.specs.Task.{Stage, Running, AtSync, AtLoop, Ended, Remaining, Splits, Runs, Finished, Task, start, begun_stage, own_instance, begins_last, MoveOrStop, Passes, Stops, Stop, Spawn, Wait, End, IsNext, Now, Later, stage_after, child_in, stops_at, passing, step_result, waits, ends_unless, faults_after, returned, stage_step, first_half, split_step, over_step, remaining_step, step, changed, changed_at, frame_with_answer, takes, pass_sync, resumed, takes_all, resumed_remaining}
 use Rattle.strand_meaning.specs.Rest.{evaluations}
@@ -19,9 +19,9 @@ use Rattle.strand_meaning.specs.Sound.{IsEndOf, IsSoundRemaining, IsTask}
 use Rattle.strand_meaning.specs.Laws.{IsSoundStep}
 use Rattle.strand_meaning.proofs.SoundSteps.StepsKeepTasks.{steps_are_sound}
 use Rattle.sched_meaning.specs.Core.{gone_on}
-use Rattle.sched_meaning.proofs.BegunOnce.Presents.{longer, same-rank, From, AfterLevels, AfterScopes, OnwardAt, Onward, onward-lower, onward-apart, onward-below, handed, child-handed, MovesOn, moves-on}
-use Rattle.sched_meaning.proofs.BegunOnce.Shows.{children, AtMostOne, MoveHands, strand_at, move_hands}
-use Rattle.sched_meaning.proofs.BegunOnce.Handed.{first, child-first}
+use Rattle.sched_meaning.proofs.BegunOnce.Presents.{longer, same-rank, From, AfterLevels, AfterScopes, OnwardAt, Onward, onward-lower, onward-apart, onward-below, unmerged, child-unmerged, MovesOn, moves-on}
+use Rattle.sched_meaning.proofs.BegunOnce.Shows.{children, AtMostOne, MoveStarts, strand_at, move_starts}
+use Rattle.sched_meaning.proofs.BegunOnce.Starts.{first, child-first}
 
 -- Regions
 
@@ -102,7 +102,7 @@ after-region w [] m q h = h
 after-region w (Opens j ∷ ts) m q h = after-region w ts m q h
 after-region w (Closes j ∷ ts) m q h = after-region w ts m q h
 after-region w (Emitted e ∷ ts) m q h = after-region w ts m q h
-after-region w (Handed o destination ∷ ts) m q h = after-region w ts m q h
+after-region w (Starts o destination ∷ ts) m q h = after-region w ts m q h
 after-region w (Syncs ∷ ts) m q h = h
 after-region w (Loops ∷ ts) m q h = h
 
@@ -154,13 +154,13 @@ module _ (t : Task) (is : IsTask t) where
     abbrev w : List ℕ
     w = path_of (own_instance t.origin)
 
-    region-at : (ts : List Effect) (k : Machine) (c : Option Origin) → child_in ts ≡ c → ((q : Origin) → Onward w k k.rank q → Onward w m (m.rank + handed ts) q) → AtMostOne t.plan w (strand_at w m) (children ts) →
+    region-at : (ts : List Effect) (k : Machine) (c : Option Origin) → child_in ts ≡ c → ((q : Origin) → Onward w k k.rank q → Onward w m (m.rank + unmerged ts) q) → AtMostOne t.plan w (strand_at w m) (children ts) →
         StepRegion t.origin (Runs (Running m)) (stops_at c (passing t ts (Runs (stage_after ts k))))
-    region-at ts k None e up hands = λ q h. onward-lower w m.top.levels m.below m.rank (m.rank + handed ts) q (omega arith) (up q (after-region w ts k q h))
-    region-at ts k (Some c) e up hands = record {
+    region-at ts k None e up starts = λ q h. onward-lower w m.top.levels m.below m.rank (m.rank + unmerged ts) q (omega arith) (up q (after-region w ts k q h))
+    region-at ts k (Some c) e up starts = record {
       own = inl (through-from here m.rank t.plan c named c (own-through here m.rank t.plan c named));
       below = λ q h. inl (through-from here m.rank t.plan c named q (through here m.rank t.plan c named q h));
-      later = λ q h. onward-lower w m.top.levels m.below m.rank (m.rank + handed ts) q (omega arith) (up q (after-region w ts k q h));
+      later = λ q h. onward-lower w m.top.levels m.below m.rank (m.rank + unmerged ts) q (omega arith) (up q (after-region w ts k q h));
       not_later = λ h. onward-apart w m m.rank [] c named (after c h);
       apart = λ q h g. (let x = through here m.rank t.plan c named q h in onward-apart w m m.rank x.more q x.path_is (after q g));
     }
@@ -169,25 +169,25 @@ module _ (t : Task) (is : IsTask t) where
         here = here_of w m
 
         named : path_of c ≡ here_of w m ++ m.rank ∷ []
-        named = child-named t.plan w (strand_at w m) (children ts) c (sym e ∙ child-first ts) hands
+        named = child-named t.plan w (strand_at w m) (children ts) c (sym e ∙ child-first ts) starts
 
         after : (q : Origin) → StageRegion w (stage_after ts k) q → Onward w m (suc m.rank) q
-        after q h = let r : 1 ≤ handed ts = child-handed ts c e in onward-lower w m.top.levels m.below (suc m.rank) (m.rank + handed ts) q (omega arith) (up q (after-region w ts k q h))
+        after q h = let r : 1 ≤ unmerged ts = child-unmerged ts c e in onward-lower w m.top.levels m.below (suc m.rank) (m.rank + unmerged ts) q (omega arith) (up q (after-region w ts k q h))
 
   region-stage : (stage : Stage) → t.remaining ≡ Runs stage → StepRegion t.origin (Runs stage) (stage_step t stage)
-  region-stage (Running m) at = by_end (move t.plan path m).items (move t.plan path m).ending (moves-on t.plan path m) (move_hands t.plan path m)
+  region-stage (Running m) at = by_end (move t.plan path m).items (move t.plan path m).ending (moves-on t.plan path m) (move_starts t.plan path m)
     where
       path : List ℕ
       path = path_of (own_instance t.origin)
 
-      by_end : (ts : List Effect) (e : Result Reached Fault) → MovesOn path m ts e → MoveHands t.plan path (strand_at path m) (children ts) e → StepRegion t.origin (Runs (Running m)) (step_result t ts e)
+      by_end : (ts : List Effect) (e : Result Reached Fault) → MovesOn path m ts e → MoveStarts t.plan path (strand_at path m) (children ts) e → StepRegion t.origin (Runs (Running m)) (step_result t ts e)
       by_end ts (Ok (Stands k)) up h = region-at m ts k (child_in ts) refl up h
       by_end ts (Ok (Gives v)) up h = λ q g. absurd g
       by_end ts (Err f) up h = λ q g. absurd g
   region-stage (AtSync m) at = region-waits (Runs (AtSync m)) at
   region-stage (AtLoop m) at = region-waits (Runs (AtLoop m)) at
   region-stage (Ended (Ok v)) at = region-returned (Runs (Ended (Ok v))) t.origin v
-  region-stage (Ended (Err (Own f))) at = region-faults (Runs (Ended (Err (Own f)))) at t.trace.handed f
+  region-stage (Ended (Err (Own f))) at = region-faults (Runs (Ended (Err (Own f)))) at t.trace.unmerged f
   region-stage (Ended (Err (ChildFaulted f))) at = region-ends (Runs (Ended (Err (ChildFaulted f)))) t.trace.fault _
 
   -- Loops
@@ -255,7 +255,7 @@ module _ (t : Task) (is : IsTask t) where
       by_size (suc zero) g = rw g (region-ends (Finished v false) t.trace.fault _)
       by_size (suc (suc n)) g = rw g (region-waits (Finished v false) at)
 
-  region-remaining : (remaining : Remaining) → t.remaining ≡ remaining → IsSoundRemaining t.plan t.origin t.trace.handed remaining → StepRegion t.origin remaining (remaining_step t remaining)
+  region-remaining : (remaining : Remaining) → t.remaining ≡ remaining → IsSoundRemaining t.plan t.origin t.trace.unmerged remaining → StepRegion t.origin remaining (remaining_step t remaining)
   region-remaining (Splits left) at is = region-split left (left.hi - left.lo) at is.0 refl
   region-remaining (Runs stage) at is = region-stage stage at
   region-remaining (Finished v true) at is = region-ends (Finished v true) t.trace.fault _
@@ -351,8 +351,8 @@ module _ (w : List ℕ) (q : Origin) where
 pub on-region : (t : Task) (q : Origin) → Region (gone_on t) q → Region t q
 on-region t q h = by_remaining t.remaining h
   where
-    by_remaining : (remaining : Remaining) → RemainingRegion t.origin (resumed_remaining t.trace.handed (evaluations (eval t.plan) t.trace.handed) remaining) q → RemainingRegion t.origin remaining q
+    by_remaining : (remaining : Remaining) → RemainingRegion t.origin (resumed_remaining t.trace.unmerged (evaluations (eval t.plan) t.trace.unmerged) remaining) q → RemainingRegion t.origin remaining q
     by_remaining (Splits left) h = h
     by_remaining (Runs stage) h =
-        let w = path_of (own_instance t.origin) in all-region w q t.trace.handed (evaluations (eval t.plan) t.trace.handed) stage (resumed-region w q (takes_all t.trace.handed (evaluations (eval t.plan) t.trace.handed) stage) h)
+        let w = path_of (own_instance t.origin) in all-region w q t.trace.unmerged (evaluations (eval t.plan) t.trace.unmerged) stage (resumed-region w q (takes_all t.trace.unmerged (evaluations (eval t.plan) t.trace.unmerged) stage) h)
     by_remaining (Finished v gone) h = absurd h

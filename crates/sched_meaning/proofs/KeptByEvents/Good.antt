@@ -10,10 +10,10 @@ use Rattle.strand_meaning.specs.Laws.{IsSoundStop, KeepsOrigin, LeavesFewer}
 use Rattle.strand_meaning.proofs.SoundSteps.StepsKeepTasks.{tasks_begin}
 use Rattle.strand_meaning.proofs.NextStops.StopsLeaveFewer.{stops_fall}
 use Rattle.strand_meaning.proofs.NextStops.OneSoundStop.{stops_are_sound, stops_keep_origins}
-use Rattle.strand_meaning.proofs.TakenAnswers.AnswersKeepTasks.{answers_keep_tasks, none-handed}
+use Rattle.strand_meaning.proofs.TakenAnswers.AnswersKeepTasks.{answers_keep_tasks, none-unmerged}
 use Rattle.sched_meaning.specs.Core.{Worker, awaited, gone_on}
 use Rattle.sched_meaning.specs.Steps.{after_stop, WorkerPops, WorkerGives, WorkerTakes, WorkerResumes, WorkerPasses}
-use Rattle.sched_meaning.proofs.BegunOnce.Handed.{IsSmaller, HandsStop, stops_hand, children_in}
+use Rattle.sched_meaning.proofs.BegunOnce.Starts.{IsSmaller, StartsBeforeStop, stops_start, children_in}
 use Rattle.sched_meaning.proofs.BegunOnce.Changing.{Each, each-append, each-front, each-back, each-map, each-get, each-remove}
 
 abbrev pub IsIn : {A : Type 0} → List A → A → Type 0
@@ -62,7 +62,7 @@ module _ (plan : PlanView) where
     record {
       task = answers_keep_tasks t is.0.task;
       plan_is = is.0.plan_is;
-      children = subst (λ ps. Each (IsChild plan begun t.origin) (children_in ps)) (sym (none-handed t is.0.task)) tt;
+      children = subst (λ ps. Each (IsChild plan begun t.origin) (children_in ps)) (sym (none-unmerged t is.0.task)) tt;
     },
     refl,
   )
@@ -75,13 +75,13 @@ module _ (plan : PlanView) where
 
   pub stop-leaves : (begun : List Origin) (t : Task) (stop : Stop) → IsRunning plan begun t → IsNext t stop → IsLeft begun t stop
   stop-leaves begun t stop is n =
-      from stop (stops_are_sound t stop is.0.task n) (stops_keep_origins t stop n) (stops_fall t stop is.0.task is.1 n) (stops_hand t stop is.0.task n)
+      from stop (stops_are_sound t stop is.0.task n) (stops_keep_origins t stop n) (stops_fall t stop is.0.task is.1 n) (stops_start t stop is.0.task n)
     where
-      from : (stop : Stop) → IsSoundStop t stop → KeepsOrigin t stop → LeavesFewer t stop → HandsStop t stop → IsLeft begun t stop
-      from (Spawn child rest) sound same fewer hands =
+      from : (stop : Stop) → IsSoundStop t stop → KeepsOrigin t stop → LeavesFewer t stop → StartsBeforeStop t stop → IsLeft begun t stop
+      from (Spawn child rest) sound same fewer starts =
           let plan_is : rest.plan ≡ plan = same.0 ∙ is.0.plan_is in
           let known : IsOriginOf rest.plan child = subst (λ (p : PlanView). IsOriginOf p child) (sym same.0) sound.0 in
-          let small : IsSmaller plan t.origin child = subst (λ (p : PlanView). IsSmaller p t.origin child) is.0.plan_is hands.1 in
+          let small : IsSmaller plan t.origin child = subst (λ (p : PlanView). IsSmaller p t.origin child) is.0.plan_is starts.1 in
           let old : Each (IsChild plan (begun ++ child ∷ []) t.origin) (awaited t) = (grow-task begun (child ∷ []) t is.0).children in
           let all : Each (IsChild plan (begun ++ child ∷ []) t.origin) (awaited t ++ child ∷ []) = each-append (IsChild plan (begun ++ child ∷ []) t.origin) (awaited t) (child ∷ []) old ((small, in-end begun child), tt) in (
             begin-going (begun ++ child ∷ []) rest child sound.1 plan_is known,
@@ -89,24 +89,24 @@ module _ (plan : PlanView) where
               record {
                 task = sound.1;
                 plan_is = plan_is;
-                children = subst (λ (o : Origin). Each (IsChild plan (begun ++ child ∷ []) o) (awaited rest)) (sym same.1) (subst (λ l. Each (IsChild plan (begun ++ child ∷ []) t.origin) l) (sym hands.0) all);
+                children = subst (λ (o : Origin). Each (IsChild plan (begun ++ child ∷ []) o) (awaited rest)) (sym same.1) (subst (λ l. Each (IsChild plan (begun ++ child ∷ []) t.origin) l) (sym starts.0) all);
               },
               fewer.1,
             ),
             same.1,
           )
-      from (Wait rest) sound same fewer hands = (
+      from (Wait rest) sound same fewer starts = (
         (
           record {
             task = sound;
             plan_is = same.0 ∙ is.0.plan_is;
-            children = subst (λ (o : Origin). Each (IsChild plan begun o) (awaited rest)) (sym same.1) (subst (λ l. Each (IsChild plan begun t.origin) l) (sym hands) is.0.children);
+            children = subst (λ (o : Origin). Each (IsChild plan begun o) (awaited rest)) (sym same.1) (subst (λ l. Each (IsChild plan begun t.origin) l) (sym starts) is.0.children);
           },
           fewer.1,
         ),
         same.1,
       )
-      from (End out ended) sound same fewer hands = (is.0.plan_is, subst (λ (p : PlanView). IsEval p t.origin out ended) is.0.plan_is sound.0)
+      from (End out ended) sound same fewer starts = (is.0.plan_is, subst (λ (p : PlanView). IsEval p t.origin out ended) is.0.plan_is sound.0)
 
 -- Workers
 

@@ -1,4 +1,4 @@
--- What a task weighs, with all that it hands out, where each stop weighs so much and each child that is begun so much. A stop takes
+-- What a task weighs, with all that it begins, where each stop weighs so much and each child that is begun so much. A stop takes
 -- away just what it weighs.
 use Rattle.std.proofs.Common.{◌≡◌, ℕ, zero, suc, ◌+◌, ◌<◌, ◌≤◌, inl, inr, Bool, true, false, nat_lt, refl, sym, ap, ◌∙◌, subst, arith, if◌then◌else◌}
 use Rattle.std.proofs.lemmas.Bool.Decides.{nat_tests}
@@ -17,7 +17,7 @@ use Rattle.strand_meaning.proofs.NextStops.StopsLeaveFewer.{stops_fall, answers_
 use Rattle.strand_meaning.proofs.NextStops.OneSoundStop.{stops_are_one, stops_are_sound, stops_keep_origins}
 use Rattle.strand_meaning.proofs.TakenAnswers.AnswersKeepTasks.{answers_keep_tasks}
 use Rattle.sched_meaning.specs.Core.{gone_on}
-use Rattle.sched_meaning.proofs.BegunOnce.Handed.{size_of, IsSmaller, HandsStop, stops_hand}
+use Rattle.sched_meaning.proofs.BegunOnce.Starts.{size_of, IsSmaller, StartsBeforeStop, stops_start}
 
 -- the stop that a task comes to
 pub next : Task → Stop
@@ -45,22 +45,22 @@ FewerAfter plan o n (Wait t) = IsAt plan o (gone_on t) × (stops_left (gone_on t
 FewerAfter plan o n (End out ended) = Unit {0}
 
 pub after-stop : (plan : PlanView) (o : Origin) (t : Task) (stop : Stop) → IsAt plan o t → IsNext t stop → FewerAfter plan o (stops_left t) stop
-after-stop plan o t stop at n = from stop (stops_are_sound t stop at.task n) (stops_keep_origins t stop n) (stops_fall t stop at.task at.idle n) (stops_hand t stop at.task n)
+after-stop plan o t stop at n = from stop (stops_are_sound t stop at.task n) (stops_keep_origins t stop n) (stops_fall t stop at.task at.idle n) (stops_start t stop at.task n)
   where
-    from : (stop : Stop) → IsSoundStop t stop → KeepsOrigin t stop → LeavesFewer t stop → HandsStop t stop → FewerAfter plan o (stops_left t) stop
-    from (Spawn c r) sound same fewer hands = (
+    from : (stop : Stop) → IsSoundStop t stop → KeepsOrigin t stop → LeavesFewer t stop → StartsBeforeStop t stop → FewerAfter plan o (stops_left t) stop
+    from (Spawn c r) sound same fewer starts = (
       subst (λ (p : PlanView). IsOriginOf p c) at.plan_is sound.0,
-      subst (λ (q : Origin). IsSmaller plan q c) at.origin_is (subst (λ (p : PlanView). IsSmaller p t.origin c) at.plan_is hands.1),
+      subst (λ (q : Origin). IsSmaller plan q c) at.origin_is (subst (λ (p : PlanView). IsSmaller p t.origin c) at.plan_is starts.1),
       record { task = sound.1; idle = fewer.1; plan_is = same.0 ∙ at.plan_is; origin_is = same.1 ∙ at.origin_is },
       fewer.0,
     )
-    from (Wait r) sound same fewer hands =
+    from (Wait r) sound same fewer starts =
         let more : stops_left (gone_on r) ≤ stops_left r = answers_leave_no_more r sound fewer.1 in
         (record { task = answers_keep_tasks r sound; idle = refl; plan_is = same.0 ∙ at.plan_is; origin_is = same.1 ∙ at.origin_is }, less more fewer.0)
       where
         less : {a b c : ℕ} → a ≤ b → b < c → a < c
         less h k = omega arith
-    from (End out ended) sound same fewer hands = tt
+    from (End out ended) sound same fewer starts = tt
 
 module _ (a : ℕ) (h : Origin → ℕ) where
   -- this stop, and what comes after it
@@ -88,11 +88,11 @@ module _ (a : ℕ) (h : Origin → ℕ) where
     deep zero o = 0
     deep (suc d) o = sized (depth_left plan o) (deep d) (suc (size_of o)) o
 
-    -- an origin, with all that it hands out
+    -- an origin, with all that it begins
     pub whole : Origin → ℕ
     whole o = deep (suc (depth_left plan o)) o
 
-  -- what a task weighs, with all that it hands out
+  -- what a task weighs, with all that it begins
   pub weight : Task → ℕ
   weight t = weight_with (whole t.plan) t
 

@@ -10,7 +10,7 @@ use Rattle.sched_meaning.specs.Core.{Worker, Core, current_tasks, gone_on, await
 use Rattle.sched_meaning.specs.Steps.{after_stop, recorded, Resumes}
 use Rattle.sched_meaning.specs.Sound.{IsLively}
 use Rattle.sched_meaning.specs.declared.event.CoreEvent.TheVariants.{Run, Pop, Look}
-use Rattle.sched_meaning.proofs.BegunOnce.Handed.{size_of, IsSmaller}
+use Rattle.sched_meaning.proofs.BegunOnce.Starts.{size_of, IsSmaller}
 use Rattle.sched_meaning.proofs.BegunOnce.Changing.{total, each-get}
 use Rattle.sched_meaning.proofs.BegunOnce.Loads.{load}
 use Rattle.sched_meaning.proofs.KeptByEvents.Good.{IsIn, IsChild, IsStalled, IsGood}

@@ -23,7 +23,7 @@ use Rattle.script_grammar.specs.declared.tree.Act.TheFolds.{fold-Act}
 use Rattle.serial_meaning.specs.Runs.{◌>>=◌}
 use Rattle.serial_meaning.specs.Trees.{stated}
 use Rattle.serial_meaning.specs.Functions.{act_spawns, spawns}
-use Rattle.serial_meaning.specs.Values.{Meaning, Env, slot_of, scalar, items_of, as_integer, object, truth, item, compared, sums, products, value_at, product_at, sum_at, value_of, sum_part, product_part}
+use Rattle.serial_meaning.specs.Values.{Meaning, Env, content_of, scalar, items_of, as_integer, object, truth, item, compared, sums, products, value_at, product_at, sum_at, value_of, sum_part, product_part}
 use Rattle.serial_meaning.specs.declared.value.Value.TheVariants.{Int}
 
 value_of-roll : (d : Expr-F Expr ProductPart SumPart) (env : Env) → value_of (roll-Expr d) env ≡ value_at (map-Expr Expr ProductPart SumPart Meaning (ProductSign × Meaning) (Bool × Meaning) value_of product_part sum_part d) env
@@ -34,10 +34,10 @@ value_of-roll d env = ap (λ (m : Meaning). m env) (fold-roll-Expr Meaning (Prod
 pub value_of-number : (n : Number) (env : Env) → value_of (expr.Number n) env ≡ Ok (Int n.value)
 value_of-number n env = ap (λ e. value_of e env) (sym (expr.rolls-Number n)) ∙ value_of-roll (node.Number n) env
 
-pub value_of-variable : (x : Name) (env : Env) → value_of (expr.Var x) env ≡ Ok (scalar (slot_of env x.bytes))
+pub value_of-variable : (x : Name) (env : Env) → value_of (expr.Var x) env ≡ Ok (scalar (content_of env x.bytes))
 value_of-variable x env = ap (λ e. value_of e env) (sym (expr.rolls-Var x)) ∙ value_of-roll (node.Var x) env
 
-pub value_of-item : (x : Name) (i : Expr) (env : Env) → value_of (expr.Item x i) env ≡ (value_of i env >>= λ v. item (items_of (slot_of env x.bytes)) (as_integer v))
+pub value_of-item : (x : Name) (i : Expr) (env : Env) → value_of (expr.Item x i) env ≡ (value_of i env >>= λ v. item (items_of (content_of env x.bytes)) (as_integer v))
 value_of-item x i env = ap (λ e. value_of e env) (sym (expr.rolls-Item x i)) ∙ value_of-roll (node.Item x i) env
 
 pub value_of-negation : (at : ℕ) (e : Expr) (env : Env) → value_of (expr.Neg at e) env ≡ (value_of e env >>= λ v. Ok (Int (int_wrapping_neg w64 (as_integer v))))

@@ -5,7 +5,7 @@ use Rattle.std.specs.Prelude.{Contains}
 use Rattle.script_grammar.specs.declared.tree.Function.{Function}
 use Rattle.serial_meaning.specs.Runs.{Run, done, after_items, continued, ◌then◌}
 use Rattle.serial_meaning.specs.Plan.{PlanView, drawn}
-use Rattle.serial_meaning.specs.Exec.{State, Manner, strand, goes_out, frame, exec, instance, with_loop_values, loop_fits, bound}
+use Rattle.serial_meaning.specs.Exec.{State, Interpretation, strand, goes_out, frame, exec, instance, with_loop_values, loop_fits, bound}
 use Rattle.serial_meaning.proofs.RisingPedigrees.Closed.{Closed, closed-exec, returned-q}
 use Rattle.serial_meaning.specs.declared.value.Value.{Value}
 use Rattle.serial_meaning.specs.declared.event.Event.TheVariants as event
@@ -41,7 +41,7 @@ each-map [] f h = tt
 each-map (x ∷ xs) f h = (f x h.0, each-map xs f h.1)
 
 -- the parts of a run of which T holds, at each present path
-module _ {I E K : Type 0} (how : Manner I E K) (plan : PlanView) (T : I → Type 0) where
+module _ {I E K : Type 0} (how : Interpretation I E K) (plan : PlanView) (T : I → Type 0) where
   pub record Parts : Type 0 where
     pub print : (path : List ℕ) (s : State K) (v : Value) → T (how.event (event.Print (strand path s) v))
     pub draw : (path : List ℕ) (s : State K) → T (how.event (event.Draw (strand path s) (drawn plan (strand path s))))

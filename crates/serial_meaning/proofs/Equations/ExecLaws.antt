@@ -3,9 +3,9 @@ use Rattle.std.proofs.Common.{◌≡◌, ℕ, zero, suc, ◌+◌, ◌-◌, ◌�
 use Rattle.std.proofs.Common.{ℤ, ◌-ℤ◌}
 use Rattle.serial_meaning.proofs.Equations.RunLaws.{then-then, then-same, Gives, then-gives, anything, gives-at}
 use Rattle.serial_meaning.specs.Runs.{Run, done, after_items, ◌then◌}
-use Rattle.serial_meaning.specs.Values.{value_of, values_of, slot_of, items_of, as_integer, is_true, at_index}
+use Rattle.serial_meaning.specs.Values.{value_of, values_of, content_of, items_of, as_integer, is_true, at_index}
 use Rattle.serial_meaning.specs.Functions.{function_number, function_at, any_spawns}
-use Rattle.serial_meaning.specs.Exec.{State, Manner, BlockMeaning, strand, fault, unless_fault, paid, paid_from, tested, has_room, loop_fits, spawn, sync_here, sync_at, leaves, all_happen, implied, function_end, frame, called, right_side, found, store, looped, does, statement, each, statements, exec, count_of, set_scalar, bound}
+use Rattle.serial_meaning.specs.Exec.{State, Interpretation, BlockMeaning, strand, fault, unless_fault, paid, paid_from, tested, has_room, loop_fits, spawn, sync_here, sync_at, leaves, all_happen, implied, function_end, frame, called, right_side, found, store, looped, does, statement, each, statements, exec, count_of, set_scalar, bound}
 use Rattle.script_grammar.specs.declared.tree.Function.{Function}
 use Rattle.script_grammar.specs.declared.tree.CallText.{CallText}
 use Rattle.script_grammar.specs.declared.tree.Expr.{Expr}
@@ -26,7 +26,7 @@ use Rattle.serial_meaning.specs.Open.{put_off_all}
 use Rattle.serial_meaning.specs.Laws.{Equations}
 use Rattle.serial_meaning.specs.declared.origin.Origin.{Origin}
 
-module _ {I E K : Type 0} (how : Manner I E K) (plan : PlanView) (path : List ℕ) where
+module _ {I E K : Type 0} (how : Interpretation I E K) (plan : PlanView) (path : List ℕ) where
   abbrev Blocks : Type 0
   Blocks = BlockMeaning I E K
 
@@ -169,7 +169,7 @@ module _ {I E K : Type 0} (how : Manner I E K) (plan : PlanView) (path : List �
 
   store-within : (x : Name) (i e : Expr) (s : State K) → Gives (Within s.steps) (store how plan path x i e s).ending
   store-within x i e s =
-      given-gives (Within s.steps) (value_of i s.env) s _ (λ k. found-gives (Within s.steps) (at_index (items_of (slot_of s.env x.bytes)) (as_integer k)) s _ (given-gives (Within s.steps) (value_of e s.env) s _ (λ v. omega arith)))
+      given-gives (Within s.steps) (value_of i s.env) s _ (λ k. found-gives (Within s.steps) (at_index (items_of (content_of s.env x.bytes)) (as_integer k)) s _ (given-gives (Within s.steps) (value_of e s.env) s _ (λ v. omega arith)))
 
   looped-within : (lo : ℤ) (n : ℕ) (vs : List Value) (target : Option Name) (t : CallText) (s : State K) → Gives (Within s.steps) (looped how plan path lo n vs target t s).ending
   looped-within lo n vs target t s =
@@ -250,7 +250,7 @@ module _ {I E K : Type 0} (how : Manner I E K) (plan : PlanView) (path : List �
       le : {a m k : ℕ} → a ≤ m → m ≤ k → a ≤ k
       le p q = omega arith
 
-module _ {I E K : Type 0} (how : Manner I E K) (plan : PlanView) where
+module _ {I E K : Type 0} (how : Interpretation I E K) (plan : PlanView) where
   abbrev no_step : List ℕ → Stmt → State K → Run I E (State K)
   no_step here st s = fault how plan here Budget s
 
@@ -329,7 +329,7 @@ module _ {I E K : Type 0} (how : Manner I E K) (plan : PlanView) where
       ∙ sym (exec-append path calls body (st ∷ sts) s)
 
 -- all of these equations for the elision and for the open tree
-pub equations : {I E K : Type 0} (how : Manner I E K) (plan : PlanView) (path : List ℕ) → Equations how plan path
+pub equations : {I E K : Type 0} (how : Interpretation I E K) (plan : PlanView) (path : List ℕ) → Equations how plan path
 equations how plan path = record {
   nothing = exec-nil how plan path;
   first = exec-cons how plan path;

@@ -184,8 +184,8 @@ module _ (plan : PlanView) (child : Origin → Evaluation) where
   Q path lo r = Spread path pair_rank lo r
 
   -- no child
-  quiet : {A : Type 0} (path : List ℕ) (rank : A → ℕ) (lo : ℕ) (items : List Item) (a : A) → children items ≡ [] → lo ≤ rank a → Spread path rank lo (record { items = items; ending = Ok a })
-  quiet path rank lo items a none up = record { hi = rank a; up = up; ends = refl; spread = rw none (record { within = tt; rise = tt }) }
+  silent : {A : Type 0} (path : List ℕ) (rank : A → ℕ) (lo : ℕ) (items : List Item) (a : A) → children items ≡ [] → lo ≤ rank a → Spread path rank lo (record { items = items; ending = Ok a })
+  silent path rank lo items a none up = record { hi = rank a; up = up; ends = refl; spread = rw none (record { within = tt; rise = tt }) }
 
   stop : {A : Type 0} (path : List ℕ) (rank : A → ℕ) (lo : ℕ) (f : Fault) → f.at ≡ path ++ lo ∷ [] → Spread {A = A} path rank lo (record { items = []; ending = Err (Own f) })
   stop path rank lo f at = record {
@@ -199,7 +199,7 @@ module _ (plan : PlanView) (child : Origin → Evaluation) where
   alone path k o h = record { within = ((k, [], h, omega arith, omega arith), tt); rise = (tt, tt) }
 
   sync-spread : (path : List ℕ) (s : S) (e : Event) (k : Option Fault) → P path s.rank (after_items (Happened e ∷ []) (unless_child_faulted k then λ k. done (record s { rank = s.rank + 1; spawned = k })))
-  sync-spread path s e None = quiet path rank_of s.rank (Happened e ∷ []) (record s { rank = s.rank + 1; spawned = None }) refl (omega arith)
+  sync-spread path s e None = silent path rank_of s.rank (Happened e ∷ []) (record s { rank = s.rank + 1; spawned = None }) refl (omega arith)
   sync-spread path s e (Some f) = record { hi = s.rank; up = omega arith; ends = tt; spread = record { within = tt; rise = tt } }
 
   loop-spread : (path : List ℕ) (b : Bool) (q : Result (List Value) Fault) (o : Origin) (s : S) (e : Event) (target : List Value → Env) → path_of o ≡ path ++ s.rank ∷ [] →
@@ -228,11 +228,11 @@ module _ (plan : PlanView) (child : Origin → Evaluation) where
 
   rules : Of.Closed (put_off_all plan child) plan P Q
   rules = record {
-    p-done = λ path s. quiet path rank_of s.rank [] s refl (omega arith);
-    q-done = λ path v s. quiet path pair_rank s.rank [] (v, s) refl (omega arith);
+    p-done = λ path s. silent path rank_of s.rank [] s refl (omega arith);
+    q-done = λ path v s. silent path pair_rank s.rank [] (v, s) refl (omega arith);
     p-stop = λ path k s. stop path rank_of s.rank (record { kind = k; at = strand path s }) refl;
     q-stop = λ path k s. stop path pair_rank s.rank (record { kind = k; at = strand path s }) refl;
-    p-print = λ path v s. quiet path rank_of s.rank (Happened (event.Print (strand path s) v) ∷ []) s refl (omega arith);
+    p-print = λ path v s. silent path rank_of s.rank (Happened (event.Print (strand path s) v) ∷ []) s refl (omega arith);
     q-draw = λ path s. record { hi = s.rank + 1; up = omega arith; ends = refl; spread = record { within = tt; rise = tt } };
     q-new = λ path s. record { hi = s.rank + 1; up = omega arith; ends = refl; spread = record { within = tt; rise = tt } };
     p-join = λ path s. sync-spread path s (event.Sync (strand path s)) s.spawned;
@@ -246,7 +246,7 @@ module _ (plan : PlanView) (child : Origin → Evaluation) where
   }
 
   frame-spread : (path : List ℕ) (o : Option Function) (vs : List Value) (s : S) → Q path s.rank (frame (put_off_all plan child) plan path (exec (put_off_all plan child) plan) 0 o vs s)
-  frame-spread path None vs s = quiet path pair_rank s.rank [] _ refl (omega arith)
+  frame-spread path None vs s = silent path pair_rank s.rank [] _ refl (omega arith)
   frame-spread path (Some f) vs s =
       spread-then path rank_of pair_rank s.rank _ _ (closed-exec (put_off_all plan child) plan P Q rules path 0 f.body _) (λ a. returned-q (put_off_all plan child) plan P Q rules path f a)
 

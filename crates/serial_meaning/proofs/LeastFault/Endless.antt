@@ -13,7 +13,7 @@ use Rattle.script_grammar.specs.declared.tree.Act.TheOpen as node
 use Rattle.serial_meaning.specs.Runs.{Run, done, run_ends_by, after_items, ◌then◌}
 use Rattle.serial_meaning.specs.Values.{value_of}
 use Rattle.serial_meaning.specs.Plan.{PlanView}
-use Rattle.serial_meaning.specs.Exec.{State, Manner, fault, statement, exec, function_end, instance}
+use Rattle.serial_meaning.specs.Exec.{State, Interpretation, fault, statement, exec, function_end, instance}
 use Rattle.serial_meaning.specs.Eval.{Evaluation, serial, eval_below}
 use Rattle.serial_meaning.specs.Open.{Item, Happened, Child, NodeFault, Own, put_off_all, node_of}
 use Rattle.serial_meaning.specs.Trees.{name_node, number, variable, product, spawn, stated}
@@ -24,7 +24,7 @@ use Rattle.serial_meaning.specs.Functions.{any_spawns}
 use Rattle.serial_meaning.proofs.Equations.Computing.{value_of-number, value_of-variable, value_of-comparison, value_of-product, spawns-out}
 use Rattle.serial_meaning.specs.declared.value.Value.{Value}
 use Rattle.serial_meaning.specs.declared.value.Value.TheVariants.{Int}
-use Rattle.serial_meaning.specs.declared.environment.Slot.TheVariants.{Scalar}
+use Rattle.serial_meaning.specs.declared.environment.Content.TheVariants.{Scalar}
 use Rattle.serial_meaning.specs.declared.environment.Variable.{Variable}
 use Rattle.serial_meaning.specs.declared.event.Fault.{Fault}
 use Rattle.serial_meaning.specs.declared.event.FaultKind.TheVariants.{Divide, Budget}
@@ -34,7 +34,7 @@ use Rattle.serial_meaning.specs.declared.origin.Origin.{Origin}
 use Rattle.serial_meaning.specs.declared.origin.Origin.TheVariants as origin
 
 abbrev variable_is : List ℕ → ℕ → Variable
-variable_is x n = record { name = x; slot = Scalar (Int (pos n)) }
+variable_is x n = record { name = x; content = Scalar (Int (pos n)) }
 
 one_over_zero : value_of (product (number 1) sign.Over (variable (codes "z"))) (variable_is (codes "z") 0 ∷ []) ≡ Err Divide
 one_over_zero = simp (value_of-product, product_part-is, value_of-number, value_of-variable)
@@ -63,7 +63,7 @@ opened_spawn = search (rules, the_lemmas)
 opened_let : (x : List ℕ) (n : ℕ) → out-Act (out-Stmt (stated (act.Let (name_node x) (right.Value (number n))))).act ≡ node.Let (name_node x) (right.Value (number n))
 opened_let x n = search (rules, the_lemmas)
 
-module _ {I E K : Type 0} (how : Manner I E K) (plan : PlanView) (path : List ℕ) (calls : ℕ) (k : K) where
+module _ {I E K : Type 0} (how : Interpretation I E K) (plan : PlanView) (path : List ℕ) (calls : ℕ) (k : K) where
   -- before the loop's test, with so many steps
   abbrev turning : ℕ → State K
   turning n = record { env = variable_is (codes "a") 0 ∷ variable_is (codes "i") 0 ∷ []; rank = 1; steps = n; spawned = k }
@@ -108,7 +108,7 @@ no_spawn : any_spawns bad.body ≡ false
 unfolding out-Act denote.Hole.Carrier.out
 no_spawn = simp spawns-out
 
-module _ {I E K : Type 0} (how : Manner I E K) (n : ℕ) where
+module _ {I E K : Type 0} (how : Interpretation I E K) (n : ℕ) where
   abbrev bad_begins : State K
   bad_begins = record { env = []; rank = 0; steps = suc (suc (suc n)); spawned = how.none }
 
@@ -145,7 +145,7 @@ module _ (n : ℕ) (child : Origin → Evaluation) (faulting : child child_origi
   serial-run : instance (serial child) plan [] (Some endless_main) [] ≡ record { items = event.Print (0 ∷ []) (Int (pos 7)) ∷ event.Spawn (0 ∷ []) ∷ []; ending = Err divided }
   serial-run = simp (opened_print, opened_spawn, value_of-number, faulting)
 
-  abbrev how : Manner Item NodeFault (Option Fault)
+  abbrev how : Interpretation Item NodeFault (Option Fault)
   how = put_off_all plan child
 
   abbrev third : State (Option Fault)

@@ -3,7 +3,7 @@ use Rattle.std.proofs.Common.{ℕ, zero, suc, ◌+◌, ◌-◌, ◌≡◌, Bool,
 use Rattle.std.proofs.Common.{ℤ, pos, ◌-ℤ◌}
 use Rattle.std.specs.Int.{w64, cast_signed}
 use Rattle.serial_meaning.specs.Runs.{Run, done, after_items, continued, ◌then◌}
-use Rattle.serial_meaning.specs.Values.{Env, value_of, values_of, slot_of, items_of, as_integer, is_true, at_index}
+use Rattle.serial_meaning.specs.Values.{Env, value_of, values_of, content_of, items_of, as_integer, is_true, at_index}
 use Rattle.serial_meaning.specs.Functions.{function_number, function_at, any_spawns}
 use Rattle.serial_meaning.specs.Exec.{State, BlockMeaning, fault, unless_fault, paid_from, tested, has_room, loop_fits, with_loop_values, spawn, leaves, scoped, implied, function_end, frame, called, right_side, found, looped, does, statement, each, statements, exec, instance, count_of, set_scalar, set_array, bound}
 use Rattle.script_grammar.specs.declared.tree.Name.{Name}
@@ -22,7 +22,7 @@ use Rattle.serial_meaning.specs.declared.event.FaultKind.TheVariants.{Index, Dep
 use Rattle.serial_meaning.specs.declared.event.Event.TheVariants as event
 use Rattle.serial_meaning.specs.declared.origin.Origin.TheVariants as origin
 use Rattle.serial_meaning.specs.Eval.{Evaluation, serial, first_value, iteration, loop_evaluation, eval_with, eval_below, eval, depth_left}
-use Rattle.serial_meaning.specs.Open.{Item, Happened, Child, Opened, NodeFault, put_off, put_off_all, loop_end, is_zero, is_empty_loop, filler, iterations, both, gathered, node_with, node_of}
+use Rattle.serial_meaning.specs.Open.{Item, Happened, Child, Opened, NodeFault, put_off, put_off_all, loop_end, is_zero, is_empty_loop, placeholder, iterations, both, gathered, node_with, node_of}
 use Rattle.serial_meaning.proofs.OriginFaults.Levels.{every}
 use Rattle.serial_meaning.proofs.LeastFault.Cut.{Cuts, Matches, cut, before, child_first, cuts-then}
 use Rattle.serial_meaning.specs.declared.event.Fault.{Fault}
@@ -80,7 +80,7 @@ module _ (plan : PlanView) (path : List ℕ) (child : Origin → Evaluation) (em
   spawned-c e instead s is (Err f) = refl
 
   spawn-c : (t : CallText) (s : State (Unit {0})) → Cuts child lift_pair (spawn (serial child) plan path t s) (spawn (put_off_all plan child) plan path t (lift s))
-  spawn-c t s = given-c lift_pair (values_of t.args s.env) s _ _ (λ vs. tested-c lift_pair (nat_lt (length path + 1) plan.limits.depth) Depth s _ _ (let o = origin.Instance (function_number (functions_of plan) t.name.bytes) vs (path ++ s.rank ∷ []) in spawned-c (event.Spawn (path ++ s.rank ∷ [])) (filler plan o) s (child o).items (child o).ending))
+  spawn-c t s = given-c lift_pair (values_of t.args s.env) s _ _ (λ vs. tested-c lift_pair (nat_lt (length path + 1) plan.limits.depth) Depth s _ _ (let o = origin.Instance (function_number (functions_of plan) t.name.bytes) vs (path ++ s.rank ∷ []) in spawned-c (event.Spawn (path ++ s.rank ∷ [])) (placeholder plan o) s (child o).items (child o).ending))
 
   loop-c : (o : Origin) (e : Event) (s : State (Unit {0})) (target : List Value → Env) →
       Cuts child lift (after_items (e ∷ []) (child o then λ ws. done (record s { rank = s.rank + 1; env = target ws }))) (after_items (Happened e ∷ []) ((put_off_all plan child).loop o then λ ws. done (record (lift s) { rank = s.rank + 1; env = target ws })))
@@ -147,7 +147,7 @@ module _ (plan : PlanView) (path : List ℕ) (child : Origin → Evaluation) (em
     does-c calls st (act.Array x m) s = (set_array s x _, refl, refl)
     does-c calls st (act.Set x r) s = set-c calls x r s
     does-c calls st (act.Store x i e) s =
-        given-c lift (value_of i s.env) s _ _ (λ k. found-c (at_index (items_of (slot_of s.env x.bytes)) (as_integer k)) s _ _ (given-c lift (value_of e s.env) s _ _ (λ v. (set_array s x _, refl, refl))))
+        given-c lift (value_of i s.env) s _ _ (λ k. found-c (at_index (items_of (content_of s.env x.bytes)) (as_integer k)) s _ _ (given-c lift (value_of e s.env) s _ _ (λ v. (set_array s x _, refl, refl))))
     does-c calls st (act.Spawn t) s = cuts-then child lift_pair lift (λ p. done p.1) (λ p. done p.1) (λ p. (p.1, refl, refl)) (spawn (serial child) plan path t s) (spawn (put_off_all plan child) plan path t (lift s)) (spawn-c t s)
     does-c calls st (act.Call t) s = cuts-then child lift_pair lift (λ p. done p.1) (λ p. done p.1) (λ p. (p.1, refl, refl)) (called (serial child) plan path b calls t s) (called (put_off_all plan child) plan path c calls t (lift s)) (called-c calls t s)
     does-c calls st act.Sync s = implied-c true s

@@ -4,9 +4,9 @@ use Rattle.std.proofs.Common.{ℤ, pos, ◌-ℤ◌}
 use Rattle.std.specs.Int.{w64, cast_signed}
 use Rattle.serial_meaning.proofs.Equations.RunLaws.{then-then}
 use Rattle.serial_meaning.specs.Runs.{Run, done, happens, after_items, ◌then◌}
-use Rattle.serial_meaning.specs.Values.{value_of, values_of, slot_of, items_of, as_integer, is_true, at_index}
+use Rattle.serial_meaning.specs.Values.{value_of, values_of, content_of, items_of, as_integer, is_true, at_index}
 use Rattle.serial_meaning.specs.Functions.{function_number, function_at, any_spawns}
-use Rattle.serial_meaning.specs.Exec.{State, Manner, BlockMeaning, strand, fault, emit_and_raise, unless_fault, paid_from, tested, has_room, loop_fits, with_loop_values, spawn, sync_here, leaves, goes_out, all_happen, implied, function_end, frame, called, right_side, found, looped, does, statement, each, statements, exec, count_of, set_scalar, set_array, bound}
+use Rattle.serial_meaning.specs.Exec.{State, Interpretation, BlockMeaning, strand, fault, emit_and_raise, unless_fault, paid_from, tested, has_room, loop_fits, with_loop_values, spawn, sync_here, leaves, goes_out, all_happen, implied, function_end, frame, called, right_side, found, looped, does, statement, each, statements, exec, count_of, set_scalar, set_array, bound}
 use Rattle.script_grammar.specs.declared.tree.Name.{Name}
 use Rattle.script_grammar.specs.declared.tree.Function.{Function}
 use Rattle.script_grammar.specs.declared.tree.CallText.{CallText}
@@ -24,7 +24,7 @@ use Rattle.serial_meaning.specs.declared.event.Event.TheVariants as event
 use Rattle.serial_meaning.specs.declared.origin.Origin.TheVariants as origin
 use Rattle.serial_meaning.specs.Plan.{PlanView, functions_of, drawn}
 
-module _ {I E K : Type 0} (how : Manner I E K) (plan : PlanView) where
+module _ {I E K : Type 0} (how : Interpretation I E K) (plan : PlanView) where
   abbrev pub Goes : Type 0
   Goes = Run I E (State K)
 
@@ -135,7 +135,7 @@ module _ {I E K : Type 0} (how : Manner I E K) (plan : PlanView) where
         does-p calls st (act.Array x m) s = c.p-done path (set_array s x _)
         does-p calls st (act.Set x r) s = set-p calls x r s
         does-p calls st (act.Store x i e) s =
-            given-p (value_of i s.env) s _ (λ k. found-p (at_index (items_of (slot_of s.env x.bytes)) (as_integer k)) s _ (given-p (value_of e s.env) s _ (λ v. c.p-done path (set_array s x _))))
+            given-p (value_of i s.env) s _ (λ k. found-p (at_index (items_of (content_of s.env x.bytes)) (as_integer k)) s _ (given-p (value_of e s.env) s _ (λ v. c.p-done path (set_array s x _))))
         does-p calls st (act.Spawn t) s = c.qp path s.rank (spawn how plan path t s) _ (spawn-q t s) (λ p. c.p-done path p.1)
         does-p calls st (act.Call t) s = c.qp path s.rank (called how plan path b calls t s) _ (called-q calls t s) (λ p. c.p-done path p.1)
         does-p calls st act.Sync s = c.p-join path s

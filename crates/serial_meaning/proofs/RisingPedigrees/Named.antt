@@ -8,7 +8,7 @@ use Rattle.script_grammar.specs.declared.tree.SumPart.{SumPart}
 use Rattle.script_grammar.specs.declared.tree.ProductPart.{ProductPart}
 use Rattle.script_grammar.specs.declared.tree.ProductSign.{ProductSign}
 use Rattle.serial_meaning.specs.Runs.{◌>>=◌}
-use Rattle.serial_meaning.specs.Values.{Env, Meaning, slot_of, scalar, items_of, as_integer, item, product, added, sums, products, value_at, product_at, sum_at, value_of, sum_part, product_part}
+use Rattle.serial_meaning.specs.Values.{Env, Meaning, content_of, scalar, items_of, as_integer, item, product, added, sums, products, value_at, product_at, sum_at, value_of, sum_part, product_part}
 use Rattle.serial_meaning.specs.Names.{Names, joined_names, names_at, names_in, names_in_sum_part, names_in_product_part}
 use Rattle.serial_meaning.proofs.Equations.Each.{Each}
 use Rattle.serial_meaning.specs.declared.value.Value.{Value}
@@ -16,7 +16,7 @@ use Rattle.serial_meaning.specs.declared.event.FaultKind.{FaultKind}
 
 -- two environments agree on these names
 abbrev Agree : Env → Env → Names → Type 0
-Agree env other names = Each (λ name. slot_of env name ≡ slot_of other name) names
+Agree env other names = Each (λ name. content_of env name ≡ content_of other name) names
 
 agree-left : (env other : Env) (xs ys : Names) → Agree env other (xs ++ ys) → Agree env other xs
 agree-left env other [] ys a = tt
@@ -124,5 +124,5 @@ all-each : {X : Type 0} (T : X → Type 0) (xs : List X) → All T xs → Each T
 all-each T [] a = tt
 all-each T (x ∷ xs) a = (a 0 x (omega arith), all-each T xs (λ k d h. a (suc k) d (omega arith)))
 
-pub values_depend_on_names : (e : Expr) (env other : Env) → All (λ name. slot_of env name ≡ slot_of other name) (names_in e) → value_of e env ≡ value_of e other
-values_depend_on_names e env other a = whole e env other (all-each (λ name. slot_of env name ≡ slot_of other name) (names_in e) a)
+pub values_depend_on_names : (e : Expr) (env other : Env) → All (λ name. content_of env name ≡ content_of other name) (names_in e) → value_of e env ≡ value_of e other
+values_depend_on_names e env other a = whole e env other (all-each (λ name. content_of env name ≡ content_of other name) (names_in e) a)

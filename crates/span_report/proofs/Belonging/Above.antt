@@ -64,13 +64,13 @@ module _ (all : List Event) (nested : IsClear all (Instance []) [] 0 all) (rise 
   -- Below a child that was spawned, and since which its parent made no sync.
   pub not-awaited-child : (n : ℕ) (home path : List ℕ) (r : ℕ) (rest : List ℕ) → IsPresent all home path → Contains all (event.Spawn (path ++ r ∷ [])) →
       ((c s : ℕ) (at : List ℕ) → IsEventOf all home c (event.Spawn (path ++ r ∷ [])) → IsEventOf all home s (event.Sync at) → c < s → s < n → ⊥) → PrecedesAtMeet all n (path ++ r ∷ rest) home home → ⊥
-  not-awaited-child n home path r rest here child quiet (OfMeet z) =
+  not-awaited-child n home path r rest here child silent (OfMeet z) =
       let l : length (path ++ r ∷ rest) ≡ length home = ap (λ (p : List ℕ). length p) z in let m = begins-length home path here.begins in omega (arith, l, m, length-append path (r ∷ rest))
-  not-awaited-child n home path r rest here child quiet (InLoop c j h p out) =
+  not-awaited-child n home path r rest here child silent (InLoop c j h p out) =
       let b = begins-child home path j r rest c (event.Loop j) (event.Spawn (path ++ r ∷ [])) here h refl child refl (properly j (path ++ r ∷ rest) p) in
       spawn-no-loop all nested rise (path ++ r ∷ []) child (subst (λ (l : List ℕ). Contains all (event.Loop l)) b (get-contained all c (event.Loop j) h.numbered))
-  not-awaited-child n home path r rest here child quiet (BeforeSync c s j at h b k l m) =
-      quiet c s at (subst (λ (p : List ℕ). IsEventOf all home c (event.Spawn p)) (begins-child home path j r rest c (event.Spawn j) (event.Spawn (path ++ r ∷ [])) here h refl child refl b) h) k l m
+  not-awaited-child n home path r rest here child silent (BeforeSync c s j at h b k l m) =
+      silent c s at (subst (λ (p : List ℕ). IsEventOf all home c (event.Spawn p)) (begins-child home path j r rest c (event.Spawn j) (event.Spawn (path ++ r ∷ [])) here h refl child refl b) h) k l m
 
   -- In a loop, for an iteration of it.
   pub not-awaited-turn : (n : ℕ) (home path : List ℕ) (r t k : ℕ) (rest : List ℕ) → IsPresent all home path → Contains all (event.Loop (path ++ r ∷ [])) → PrecedesAtMeet all n (path ++ r ∷ t ∷ rest) (path ++ r ∷ k ∷ []) home → ⊥

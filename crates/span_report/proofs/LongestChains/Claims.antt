@@ -28,7 +28,7 @@ use Rattle.span_report.proofs.LongestChains.Ready.{ready-inside, ready-outside}
 use Rattle.span_report.proofs.Belonging.Positions.{split-at, nested-begins, At, at-front, at-back, at-all, at-each, home-begins, Fresh, fresh-start, fresh-on, fresh-same, fresh-below, fresh-child, none-below}
 use Rattle.span_report.proofs.LongestChains.Ranges.{Between, AreBelow, AreTurns, synced-below}
 use Rattle.span_report.proofs.LongestChains.Standing.{Holds, HoldsLoop, holds-went, holds-synced, holds-begun, loop-begun, loop-turned, child-ended, turn-before, loop-ended}
-use Rattle.span_report.proofs.LongestChains.Stacks.{stack, leads-below, leads-not, left-here, left-up, ended-left, Same, path-is, path-below, IsQuiet, quiet-none, quiet-loop, entered-turn, walked_append, walked-own}
+use Rattle.span_report.proofs.LongestChains.Stacks.{stack, leads-below, leads-not, left-here, left-up, ended-left, Same, path-is, path-below, IsSilent, silent-none, silent-loop, entered-turn, walked_append, walked-own}
 
 module _ (all : List Event) (nested : IsClear all (Instance []) [] 0 all) (rise : Rise (raising_pedigrees all)) where
   own : (home path : List ℕ) (rank n : ℕ) (e : Event) → IsPresent all home path → pedigree_of e ≡ path ++ rank ∷ [] → IsEvent all n e → IsEventOf all home n e
@@ -40,7 +40,7 @@ module _ (all : List Event) (nested : IsClear all (Instance []) [] 0 all) (rise 
     m : ℕ
     holds : Holds all from n m o home
     began : o.begun ≡ how
-    quiet : (p : List ℕ) → Past path p → IsQuiet o p
+    silent : (p : List ℕ) → Past path p → IsSilent o p
     same : Same (Past path) w (stack o under)
 
   -- what stands after some iterations of a loop that event number c began
@@ -54,18 +54,18 @@ module _ (all : List Event) (nested : IsClear all (Instance []) [] 0 all) (rise 
 
   abbrev Claim : Whose → List ℕ → ℕ → List Event → Type 0
   Claim (Instance home) path rank es = (from n to m : ℕ) (w : OpenInstances) (o : OpenInstance) (under : List OpenInstance) → IsPresent all home path → from ≤ n → to ≡ n + length es → Fresh all n path rank → At all n es → Holds all from n m o home →
-      ((p : List ℕ) → Coming path rank p → IsQuiet o p) → Same (Coming path rank) w (stack o under) → After from to home path (walked_all w es) under o.begun
+      ((p : List ℕ) → Coming path rank p → IsSilent o p) → Same (Coming path rank) w (stack o under) → After from to home path (walked_all w es) under o.begun
   Claim Iterations j k es = (home path : List ℕ) (rank from c n to m : ℕ) (w : OpenInstances) (o : OpenInstance) (under : List OpenInstance) (here : IsPresent all home path) (f : Fresh all c path rank) → j ≡ path ++ rank ∷ [] →
       IsEventOf all home c (event.Loop (path ++ rank ∷ [])) → from ≤ c → c + 1 ≤ n → to ≡ n + length es → Fresh all n j k → At all n es → HoldsLoop all from (c + 1) n m o home (path ++ rank ∷ []) →
       AreTurns all nested rise c n home path rank here f k → Same (Coming j k) w (stack o under) → AfterTurns from c to home path rank here f m (walked_all w es) under o.begun
 
   claim-ends : (home path : List ℕ) (rank : ℕ) → Claim (Instance home) path rank []
   claim-ends home path rank from n to m w o under i l t f a h q s =
-      record { o = o; m = m; holds = subst (λ (k : ℕ). Holds all from k m o home) (let q : n ≡ to = omega (arith, t) in q) h; began = refl; quiet = λ p z. q p (inl z); same = λ p z. s p (inl z) }
+      record { o = o; m = m; holds = subst (λ (k : ℕ). Holds all from k m o home) (let q : n ≡ to = omega (arith, t) in q) h; began = refl; silent = λ p z. q p (inl z); same = λ p z. s p (inl z) }
 
   -- an event that begins nothing
   claim-own : (home path : List ℕ) (rank next m2 : ℕ) (e : Event) (es : List Event) (from n to m : ℕ) (w : OpenInstances) (o o2 : OpenInstance) (under : List OpenInstance) → pedigree_of e ≡ path ++ rank ∷ [] → IsPresent all home path → from ≤ n →
-      to ≡ n + length (e ∷ es) → At all (n + 1) es → Holds all from n m o home → ((p : List ℕ) → Coming path rank p → IsQuiet o p) → Same (Coming path rank) w (stack o under) → ((p : List ℕ) → IsQuiet o2 p) →
+      to ≡ n + length (e ∷ es) → At all (n + 1) es → Holds all from n m o home → ((p : List ℕ) → Coming path rank p → IsSilent o p) → Same (Coming path rank) w (stack o under) → ((p : List ℕ) → IsSilent o2 p) →
       instances_after (stack o under) e ≡ stack o2 under → o2.begun ≡ o.begun → Fresh all (n + 1) path next → Holds all from (n + 1) m2 o2 home → Claim (Instance home) path next es → After from to home path (walked_all w (e ∷ es)) under o.begun
   claim-own home path rank next m2 e es from n to m w o o2 under p i l t a h q s still g b f h2 later =
       subst (λ (k : Begun). After from to home path (walked_all w (e ∷ es)) under k) b
@@ -78,7 +78,7 @@ module _ (all : List Event) (nested : IsClear all (Instance []) [] 0 all) (rise 
   claim-prints home path rank v es later from n to m w o under i l t f a h q s =
       let e = event.Print (path ++ rank ∷ []) v in
       let g = own home path rank n e i refl a.0 in
-      claim-own home path rank rank m e es from n to m w o (went_on o) under refl i l t a.1 h q s (quiet-none (went_on o) refl) refl refl (fresh-same all n home path rank e i.begins f g (λ j z. absurd (cc)))
+      claim-own home path rank rank m e es from n to m w o (went_on o) under refl i l t a.1 h q s (silent-none (went_on o) refl) refl refl (fresh-same all n home path rank e i.begins f g (λ j z. absurd (cc)))
       (holds-went all from n m o home path rank e i.begins g refl f l h (λ at z. absurd (cc))) later
 
   -- past an event of the instance itself
@@ -89,15 +89,15 @@ module _ (all : List Event) (nested : IsClear all (Instance []) [] 0 all) (rise 
   claim-steps : (home path : List ℕ) (rank : ℕ) (j : List ℕ) (e : Event) (es : List Event) → j ≡ path ++ rank ∷ [] → RaisesWithoutChild j e → Claim (Instance home) path (rank + 1) es → Claim (Instance home) path rank (e ∷ es)
   claim-steps home path rank j e es z (Draw i d) later from n to m w o under inst l t f a h q s =
       let g = own home path rank n (event.Draw i d) inst z a.0 in
-      claim-own home path rank (rank + 1) m (event.Draw i d) es from n to m w o (went_on o) under z inst l t a.1 h q s (quiet-none (went_on o) refl) refl refl (fresh-past path rank n (event.Draw i d) z a.0 f)
+      claim-own home path rank (rank + 1) m (event.Draw i d) es from n to m w o (went_on o) under z inst l t a.1 h q s (silent-none (went_on o) refl) refl refl (fresh-past path rank n (event.Draw i d) z a.0 f)
       (holds-went all from n m o home path rank (event.Draw i d) inst.begins g z f l h (λ at y. absurd (cc))) later
   claim-steps home path rank j e es z (New i) later from n to m w o under inst l t f a h q s =
       let g = own home path rank n (event.New i) inst z a.0 in
-      claim-own home path rank (rank + 1) m (event.New i) es from n to m w o (went_on o) under z inst l t a.1 h q s (quiet-none (went_on o) refl) refl refl (fresh-past path rank n (event.New i) z a.0 f)
+      claim-own home path rank (rank + 1) m (event.New i) es from n to m w o (went_on o) under z inst l t a.1 h q s (silent-none (went_on o) refl) refl refl (fresh-past path rank n (event.New i) z a.0 f)
       (holds-went all from n m o home path rank (event.New i) inst.begins g z f l h (λ at y. absurd (cc))) later
   claim-steps home path rank j e es z (Sync i) later from n to m w o under inst l t f a h q s =
       let g = own home path rank n (event.Sync i) inst z a.0 in
-      claim-own home path rank (rank + 1) (n + 1) (event.Sync i) es from n to m w o (synced o) under z inst l t a.1 h q s (quiet-none (synced o) refl) refl refl (fresh-past path rank n (event.Sync i) z a.0 f)
+      claim-own home path rank (rank + 1) (n + 1) (event.Sync i) es from n to m w o (synced o) under z inst l t a.1 h q s (silent-none (synced o) refl) refl refl (fresh-past path rank n (event.Sync i) z a.0 f)
       (holds-synced all from n m o home path rank (event.Sync i) inst.begins g z f l h i g) later
 
   -- events at and below a rank, as those of a child
@@ -126,7 +126,7 @@ module _ (all : List Event) (nested : IsClear all (Instance []) [] 0 all) (rise 
       Claim (Instance home) path (rank + 1) es → Claim (Instance home) path rank (event.Spawn (path ++ rank ∷ []) ∷ (child ++ es))
   claim-spawns home path rank child es d inner later from n to m w o under i l t f a h q s =
       subst (λ (v : OpenInstances). After from to home path v under o.begun) (sym (walked_append (walked w e) child es))
-      (later from mid to m (walked_all (walked w e) child) o2 under i (omega (arith, l)) (let z = length-append child es in omega (arith, t, z)) f2 (at-back all (n + 1) mid child es a.1 refl) held (λ p z. quiet-none o2 refl p) same)
+      (later from mid to m (walked_all (walked w e) child) o2 under i (omega (arith, l)) (let z = length-append child es in omega (arith, t, z)) f2 (at-back all (n + 1) mid child es a.1 refl) held (λ p z. silent-none o2 refl p) same)
     where
       j : List ℕ
       j = path ++ rank ∷ []
@@ -168,7 +168,7 @@ module _ (all : List Event) (nested : IsClear all (Instance []) [] 0 all) (rise 
 
       c : After (n + 1) mid j j (walked_all (walked w e) child) (o1 ∷ under) Spawned
       c = inner (n + 1) (n + 1) mid 0 (walked w e) c0 (o1 ∷ under) (own-present all j child-is) (omega arith) refl fresh-j at-child (holds-begun all (n + 1) o1.before j Spawned fresh-j b)
-          (λ p z. quiet-none c0 refl p) (λ p z. ap (λ (v : OpenInstances). closed_to p v.top v.under) w1)
+          (λ p z. silent-none c0 refl p) (λ p z. ap (λ (v : OpenInstances). closed_to p v.top v.under) w1)
 
       o2 : OpenInstance
       o2 = after_child_end o1 Spawned c.o.within
@@ -191,7 +191,7 @@ module _ (all : List Event) (nested : IsClear all (Instance []) [] 0 all) (rise 
       subst (λ (v : OpenInstances). After from to home path v under o.begun) (sym (walked_append (walked w e) inner es))
       (subst (λ (k : Begun). After from to home path (walked_all (walked_all (walked w e) inner) es) under k) c.began
       (later from mid to m (walked_all (walked w e) inner) c.o under i (omega (arith, l)) (let z = length-append inner es in omega (arith, t, z)) f2 (at-back all (n + 1) mid inner es a.1 refl) held
-      (λ p z. quiet-loop c.o j p c.holds.looping (past-apart path rank p z)) (λ p z. c.same p (past-rank path rank p z))))
+      (λ p z. silent-loop c.o j p c.holds.looping (past-apart path rank p z)) (λ p z. c.same p (past-rank path rank p z))))
     where
       j : List ℕ
       j = path ++ rank ∷ []
@@ -234,7 +234,7 @@ module _ (all : List Event) (nested : IsClear all (Instance []) [] 0 all) (rise 
       subst (λ (v : OpenInstances). After from to home path v under o.begun) (sym (walked_append w inner es))
       (subst (λ (k : Begun). After from to home path (walked_all (walked_all w inner) es) under k) c.began
       (later from mid to c.m (walked_all w inner) c.o under i (omega (arith, l)) (let z = length-append inner es in omega (arith, t, z)) (fresh-under path rank n mid (Instance home) 0 inner d at-inner refl f) (at-back all n mid inner es a refl) c.holds
-      (λ p z. c.quiet p (past-rank path rank p z)) (λ p z. c.same p (past-rank path rank p z))))
+      (λ p z. c.silent p (past-rank path rank p z)) (λ p z. c.same p (past-rank path rank p z))))
     where
       mid : ℕ
       mid = n + length inner
@@ -290,7 +290,7 @@ module _ (all : List Event) (nested : IsClear all (Instance []) [] 0 all) (rise 
       first =
           ap (λ (v : OpenInstances). instances_after (opened_to (path_of e) v) e) (same (path_of e) comes ∙ left-here (path_of e) o under (leads-below o home (path_of e) h.at home-there))
           ∙ ap (λ (v : OpenInstances). instances_after v e) (entered-turn j k (path_of e) o under (h.looping ∙ ap (λ (l : List ℕ). Some l) (sym q)) there)
-          ∙ sym (walked-own (λ p. Unit {0}) v0 t0 (o ∷ under) turn (path_of e) e refl refl there tt (quiet-none t0 refl (path_of e)) (λ p z. refl))
+          ∙ sym (walked-own (λ p. Unit {0}) v0 t0 (o ∷ under) turn (path_of e) e refl refl there tt (silent-none t0 refl (path_of e)) (λ p z. refl))
 
       loop : Contains all (event.Loop j)
       loop = subst (λ (p : List ℕ). Contains all (event.Loop p)) (sym q) (get-contained all c (event.Loop (path ++ rank ∷ [])) g.numbered)
@@ -308,7 +308,7 @@ module _ (all : List Event) (nested : IsClear all (Instance []) [] 0 all) (rise 
       b = subst (λ (p : List ℕ). IsMost all (λ i. PrecedesFrom all i n p) o.before) (sym turn-as) (turn-before all nested rise from c n m home path rank here f l u k o.before g turns h.before)
 
       ct : After n mid turn turn (walked_all v0 (e ∷ rest)) (o ∷ under) Iterated
-      ct = inner n n mid 0 v0 t0 (o ∷ under) (own-present all turn turn-is) (omega arith) refl fresh-turn at-turn (holds-begun all n o.before turn Iterated fresh-turn b) (λ p z. quiet-none t0 refl p) (λ p z. refl)
+      ct = inner n n mid 0 v0 t0 (o ∷ under) (own-present all turn turn-is) (omega arith) refl fresh-turn at-turn (holds-begun all n o.before turn Iterated fresh-turn b) (λ p z. silent-none t0 refl p) (λ p z. refl)
 
       o2 : OpenInstance
       o2 = after_child_end o Iterated ct.o.within
@@ -358,7 +358,7 @@ module _ (all : List Event) (nested : IsClear all (Instance []) [] 0 all) (rise 
 
       a : After 0 (length all) [] [] w [] Spawned
       a = walks (Instance []) [] 0 all nested 0 0 (length all) 0 main_alone main [] (own-present all [] Main) (omega arith) (omega arith) (fresh-start all) (at-all all 0 [] all refl refl)
-          (holds-begun all 0 0 [] Spawned (fresh-start all) (most-none all (λ i. PrecedesFrom all i 0 []) (λ i r. (let l = r.earlier in absurd (omega (arith, l)))))) (λ p z. quiet-none main refl p) (λ p z. refl)
+          (holds-begun all 0 0 [] Spawned (fresh-start all) (most-none all (λ i. PrecedesFrom all i 0 []) (λ i r. (let l = r.earlier in absurd (omega (arith, l)))))) (λ p z. silent-none main refl p) (λ p z. refl)
 
       last : after_ends w.top w.under ≡ a.o
       last = sym (ended-left [] w.top w.under) ∙ ap (λ (v : OpenInstances). after_ends v.top v.under) (a.same [] (inl ([], refl)))

@@ -41,7 +41,7 @@ module _ (all : List Event) where
 
   -- Earlier events become ready by no event of an instance that this one isn't and doesn't stand below.
   pub ready-back : (i n m : ℕ) (to : List ℕ) → ((s : ℕ) (own : List ℕ) (e : Event) → n ≤ s → s < m → IsEventOf all own s e → Begins own to → ⊥) → i < n → PrecedesFrom all i m to → PrecedesFrom all i n to
-  ready-back i n m to quiet h r = record { earlier = h; e = r.e; own = r.own; meet = r.meet; placed = r.placed; parting = r.parting; awaited = awaited-back n m r.own to r.meet (λ s at l q k. quiet s r.meet (event.Sync at) l q k r.parting.second) r.awaited }
+  ready-back i n m to silent h r = record { earlier = h; e = r.e; own = r.own; meet = r.meet; placed = r.placed; parting = r.parting; awaited = awaited-back n m r.own to r.meet (λ s at l q k. silent s r.meet (event.Sync at) l q k r.parting.second) r.awaited }
 
   -- where two instances are known to part
   awaited-at : (i m : ℕ) (own to meet : List ℕ) (e : Event) → IsEventOf all own i e → IsMeet all own to meet → PrecedesFrom all i m to → PrecedesAtMeet all m own to meet
@@ -110,8 +110,8 @@ module _ (all : List Event) where
   AreBelow n m path = (s : ℕ) (own : List ℕ) (e : Event) → n ≤ s → s < m → IsEventOf all own s e → Begins path own
 
   -- They aren't the parent's.
-  below-quiet : (n m : ℕ) (home path : List ℕ) (rank : ℕ) → Begins home path → AreBelow n m (path ++ rank ∷ []) → (s : ℕ) (own : List ℕ) (e : Event) → n ≤ s → s < m → IsEventOf all own s e → Begins own home → ⊥
-  below-quiet n m home path rank a below s own e l q h b =
+  below-silent : (n m : ℕ) (home path : List ℕ) (rank : ℕ) → Begins home path → AreBelow n m (path ++ rank ∷ []) → (s : ℕ) (own : List ℕ) (e : Event) → n ≤ s → s < m → IsEventOf all own s e → Begins own home → ⊥
+  below-silent n m home path rank a below s own e l q h b =
       let x = begins-length own home b in
       let y = begins-length (path ++ rank ∷ []) own (below s own e l q h) in
       let z = begins-length home path a in absurd (omega (arith, x, y, z, length-append path (rank ∷ [])))
@@ -128,15 +128,15 @@ module _ (all : List Event) where
       pub child-ready : (i : ℕ) → IsEventOf all home n (event.Spawn (path ++ rank ∷ [])) → AreBelow (n + 1) m (path ++ rank ∷ []) → PrecedesFrom all i m home → PrecedesFrom all i (n + 1) home
       child-ready i h below r = from (split-at i (n + 1))
         where
-          quiet : (s : ℕ) (own : List ℕ) (e : Event) → n + 1 ≤ s → s < m → IsEventOf all own s e → Begins own home → ⊥
-          quiet = below-quiet (n + 1) m home path rank here.begins below
+          silent : (s : ℕ) (own : List ℕ) (e : Event) → n + 1 ≤ s → s < m → IsEventOf all own s e → Begins own home → ⊥
+          silent = below-silent (n + 1) m home path rank here.begins below
 
           early : (s : ℕ) (e : Event) → s < m → IsEventOf all home s e → s < n + 1
           early s e l k = by (split-at s (n + 1))
             where
               by : (s < n + 1) ⊎ (n + 1 ≤ s) → s < n + 1
               by (inl d) = d
-              by (inr d) = absurd (quiet s home e d l k ([], sym (append-nil home)))
+              by (inr d) = absurd (silent s home e d l k ([], sym (append-nil home)))
 
           unsynced : (c s : ℕ) (at : List ℕ) → IsEventOf all home c (event.Spawn (path ++ rank ∷ [])) → IsEventOf all home s (event.Sync at) → c < s → s < m → ⊥
           unsynced c s at k t d l =
@@ -151,7 +151,7 @@ module _ (all : List Event) where
               not-awaited-child all nested rise m home path rank b.0 here (get-contained all n (event.Spawn (path ++ rank ∷ [])) h.numbered) unsynced (awaited-at i m (path ++ rank ∷ b.0) home home r.e k (meet-home (rank ∷ b.0)) r)
 
           from : (i < n + 1) ⊎ (n + 1 ≤ i) → PrecedesFrom all i (n + 1) home
-          from (inl l) = ready-back i (n + 1) m home quiet l r
+          from (inl l) = ready-back i (n + 1) m home silent l r
           from (inr l) = absurd (late l)
 
       -- What is pending after a child has ended, besides what was: the child.
@@ -161,7 +161,7 @@ module _ (all : List Event) where
           from : (i < n + 1) ⊎ (n + 1 ≤ i) → (p.by < n + 1) ⊎ (n + 1 ≤ p.by) → IsPending all k (n + 1) home i ⊎ Between all (n + 1) m i
           from (inr l) _ = inr (l, p.earlier, index-in all i p.e p.placed.numbered)
           from (inl l) (inl b) = inl (record { earlier = l; e = p.e; own = p.own; placed = p.placed; by = p.by; child = p.child; spawn = p.spawn; since = p.since; before = b; below = p.below })
-          from (inl l) (inr b) = absurd (below-quiet (n + 1) m home path rank here.begins below p.by home (event.Spawn p.child) b p.before p.spawn ([], sym (append-nil home)))
+          from (inl l) (inr b) = absurd (below-silent (n + 1) m home path rank here.begins below p.by home (event.Spawn p.child) b p.before p.spawn ([], sym (append-nil home)))
 
       pub pending-child : (k i : ℕ) → k ≤ n → IsEventOf all home n (event.Spawn (path ++ rank ∷ [])) → AreBelow (n + 1) m (path ++ rank ∷ []) → Between all (n + 1) m i → IsPending all k m home i
       pending-child k i l t below b =
@@ -194,8 +194,8 @@ module _ (all : List Event) where
       pub turn-outside : (k i : ℕ) → IsEventOf all home n (event.Loop (path ++ rank ∷ [])) → AreTurns k → PrecedesFrom all i m (path ++ rank ∷ k ∷ []) → PrecedesFrom all i (n + 1) home
       turn-outside k i h turns r = from (split-at i (n + 1))
         where
-          quiet : (s : ℕ) (own : List ℕ) (e : Event) → n + 1 ≤ s → s < m → IsEventOf all own s e → Begins own (path ++ rank ∷ k ∷ []) → ⊥
-          quiet s own e l q o b =
+          silent : (s : ℕ) (own : List ℕ) (e : Event) → n + 1 ≤ s → s < m → IsEventOf all own s e → Begins own (path ++ rank ∷ k ∷ []) → ⊥
+          silent s own e l q o b =
               let t = turns s own e l q o in
               let w : (path ++ rank ∷ []) ++ t.0 ∷ (t.1 ++ b.0) ≡ (path ++ rank ∷ []) ++ k ∷ [] =
               append_assoc path (rank ∷ []) (t.0 ∷ (t.1 ++ b.0)) ∙ sym (append_assoc path (rank ∷ t.0 ∷ t.1) b.0) ∙ ap (λ (p : List ℕ). p ++ b.0) (sym t.2) ∙ sym b.1 ∙ sym (append_assoc path (rank ∷ []) (k ∷ [])) in
@@ -214,7 +214,7 @@ module _ (all : List Event) where
               not-awaited-turn all nested rise m home path rank t.0 k t.1 here c (awaited-at i m (path ++ rank ∷ t.0 ∷ t.1) (path ++ rank ∷ k ∷ []) home r.e o q r)
 
           from : (i < n + 1) ⊎ (n + 1 ≤ i) → PrecedesFrom all i (n + 1) home
-          from (inl l) = ready-outside all i (n + 1) home path rank (k ∷ []) here (longest all nested rise home path here) (none-below all n home path rank (event.Loop (path ++ rank ∷ [])) here.begins fresh h i l) (ready-back i (n + 1) m (path ++ rank ∷ k ∷ []) quiet l r)
+          from (inl l) = ready-outside all i (n + 1) home path rank (k ∷ []) here (longest all nested rise home path here) (none-below all n home path rank (event.Loop (path ++ rank ∷ [])) here.begins fresh h i l) (ready-back i (n + 1) m (path ++ rank ∷ k ∷ []) silent l r)
           from (inr l) = absurd (late l)
 
       -- After a loop all of it is ready, besides what was before it.
@@ -222,7 +222,7 @@ module _ (all : List Event) where
       loop-ready i below r = from (split-at i (n + 1))
         where
           from : (i < n + 1) ⊎ (n + 1 ≤ i) → PrecedesFrom all i (n + 1) home ⊎ Between all (n + 1) m i
-          from (inl l) = inl (ready-back i (n + 1) m home (below-quiet (n + 1) m home path rank here.begins below) l r)
+          from (inl l) = inl (ready-back i (n + 1) m home (below-silent (n + 1) m home path rank here.begins below) l r)
           from (inr l) = inr (l, r.earlier, index-in all i r.e r.placed.numbered)
 
       pub ready-loop : (k i : ℕ) → IsEventOf all home n (event.Loop (path ++ rank ∷ [])) → AreTurns k → Between all (n + 1) m i → PrecedesFrom all i m home
@@ -252,4 +252,4 @@ module _ (all : List Event) where
           from : (i < n + 1) ⊎ (n + 1 ≤ i) → (p.by < n + 1) ⊎ (n + 1 ≤ p.by) → IsPending all k (n + 1) home i
           from (inr l) _ = absurd (late l)
           from (inl l) (inl b) = record { earlier = l; e = p.e; own = p.own; placed = p.placed; by = p.by; child = p.child; spawn = p.spawn; since = p.since; before = b; below = p.below }
-          from (inl l) (inr b) = absurd (below-quiet (n + 1) m home path rank here.begins below p.by home (event.Spawn p.child) b p.before p.spawn ([], sym (append-nil home)))
+          from (inl l) (inr b) = absurd (below-silent (n + 1) m home path rank here.begins below p.by home (event.Spawn p.child) b p.before p.spawn ([], sym (append-nil home)))

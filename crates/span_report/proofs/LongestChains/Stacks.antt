@@ -79,15 +79,15 @@ path-below e path b = let l = last-of b.0 b.1 in (l.0, path-is e (path ++ l.0) l
     last-of x (y ∷ ys) = let l = last-of y ys in (x ∷ l.0, l.1, ap (λ (k : List ℕ). x ∷ k) l.2)
 
 -- The instance is in no loop that a path begins with.
-abbrev pub IsQuiet : OpenInstance → List ℕ → Type 0
-IsQuiet o path = (j : List ℕ) → o.looping ≡ Some j → starts j path ≡ false
+abbrev pub IsSilent : OpenInstance → List ℕ → Type 0
+IsSilent o path = (j : List ℕ) → o.looping ≡ Some j → starts j path ≡ false
 
-pub quiet-none : (o : OpenInstance) → o.looping ≡ None → (path : List ℕ) → IsQuiet o path
-quiet-none o e path j h = let q : None ≡ Some j = sym e ∙ h in absurd (cc)
+pub silent-none : (o : OpenInstance) → o.looping ≡ None → (path : List ℕ) → IsSilent o path
+silent-none o e path j h = let q : None ≡ Some j = sym e ∙ h in absurd (cc)
 
 -- in a loop that a path doesn't begin with
-pub quiet-loop : (o : OpenInstance) (loop path : List ℕ) → o.looping ≡ Some loop → (Begins loop path → ⊥) → IsQuiet o path
-quiet-loop o loop path e d j h = subst (λ (l : List ℕ). starts l path ≡ false) (held (sym e ∙ h)) (starts-not loop path d)
+pub silent-loop : (o : OpenInstance) (loop path : List ℕ) → o.looping ≡ Some loop → (Begins loop path → ⊥) → IsSilent o path
+silent-loop o loop path e d j h = subst (λ (l : List ℕ). starts l path ≡ false) (held (sym e ∙ h)) (starts-not loop path d)
   where
     held : Some loop ≡ Some j → loop ≡ j
     held q = ap path_in q
@@ -96,7 +96,7 @@ quiet-loop o loop path e d j h = subst (λ (l : List ℕ). starts l path ≡ fal
         path_in None = loop
         path_in (Some l) = l
 
-pub entered-open : (path : List ℕ) (o : OpenInstance) (under : List OpenInstance) → IsQuiet o path → opened_to path (stack o under) ≡ stack o under
+pub entered-open : (path : List ℕ) (o : OpenInstance) (under : List OpenInstance) → IsSilent o path → opened_to path (stack o under) ≡ stack o under
 entered-open path o under q = ap (λ (t : Option (List ℕ)). pushed_iteration t (stack o under)) (by o.looping q)
   where
     by : (l : Option (List ℕ)) → ((j : List ℕ) → l ≡ Some j → starts j path ≡ false) → iteration_on l path ≡ None
@@ -108,7 +108,7 @@ walked_append w [] ys = refl
 walked_append w (x ∷ xs) ys = walked_append (walked w x) xs ys
 
 -- An event of the instance on top, once those that ended are left.
-pub walked-own : (T : List ℕ → Type 0) (w : OpenInstances) (o : OpenInstance) (under : List OpenInstance) (home path : List ℕ) (e : Event) → path_of e ≡ path → o.path ≡ home → Begins home path → T path → IsQuiet o path → Same T w (stack o under) →
+pub walked-own : (T : List ℕ → Type 0) (w : OpenInstances) (o : OpenInstance) (under : List OpenInstance) (home path : List ℕ) (e : Event) → path_of e ≡ path → o.path ≡ home → Begins home path → T path → IsSilent o path → Same T w (stack o under) →
     walked w e ≡ instances_after (stack o under) e
 walked-own T w o under home path e h r b t q s =
     ap (λ (p : List ℕ). instances_after (opened_to p (closed_to p w.top w.under)) e) h

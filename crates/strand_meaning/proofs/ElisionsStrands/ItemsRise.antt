@@ -23,7 +23,7 @@ use Rattle.serial_meaning.specs.declared.origin.Origin.{Origin}
 use Rattle.serial_meaning.specs.declared.origin.Origin.TheVariants as origin
 use Rattle.strand_meaning.specs.Strands.{pedigree_of}
 
--- a loop that is handed out from its first iteration on
+-- a loop that is begun from its first iteration on
 abbrev pub IsWholeLoop : Origin → Type 0
 IsWholeLoop (origin.Instance function args path) = Unit {0}
 IsWholeLoop (origin.Loop function rest first path range) = range.lo ≡ 0
@@ -199,8 +199,8 @@ module _ (plan : PlanView) (child : Origin → Evaluation) where
   event-at : (path : List ℕ) (k hi : ℕ) → k ≤ hi → EventAt path k hi (path ++ k ∷ [])
   event-at path k hi h = (k, [], refl, omega arith, h, λ e. refl)
 
-  quiet : {A : Type 0} (path : List ℕ) (rank : A → ℕ) (lo : ℕ) (a : A) → lo ≡ rank a → Spread path rank lo (done a)
-  quiet path rank lo a e = record { hi = lo; up = omega arith; ends = e; placed = tt; rise = tt }
+  silent : {A : Type 0} (path : List ℕ) (rank : A → ℕ) (lo : ℕ) (a : A) → lo ≡ rank a → Spread path rank lo (done a)
+  silent path rank lo a e = record { hi = lo; up = omega arith; ends = e; placed = tt; rise = tt }
 
   prefix : {A : Type 0} (path : List ℕ) (rank : A → ℕ) (lo hi : ℕ) (e : Event) (q : Result A NodeFault) → pedigree_of e ≡ path ++ lo ∷ [] → lo ≤ hi → EndsAtRank rank hi q → Spread path rank lo (record { items = Happened e ∷ []; ending = q })
   prefix path rank lo hi e q h up ends = record { hi = hi; up = up; ends = ends; placed = (subst (EventAt path lo hi) (sym h) (event-at path lo hi up), tt); rise = (tt, tt) }
@@ -244,8 +244,8 @@ module _ (plan : PlanView) (child : Origin → Evaluation) where
 
   rules : Of.Closed (put_off_all plan child) plan P Q
   rules = record {
-    p-done = λ path s. quiet path rank_of s.rank s refl;
-    q-done = λ path v s. quiet path pair_rank s.rank (v, s) refl;
+    p-done = λ path s. silent path rank_of s.rank s refl;
+    q-done = λ path v s. silent path pair_rank s.rank (v, s) refl;
     p-stop = λ path k s. record { hi = s.rank; up = omega arith; ends = tt; placed = tt; rise = tt };
     q-stop = λ path k s. record { hi = s.rank; up = omega arith; ends = tt; placed = tt; rise = tt };
     p-print = λ path v s. prefix path rank_of s.rank s.rank (event.Print (strand path s) v) (Ok s) refl (omega arith) refl;
@@ -262,7 +262,7 @@ module _ (plan : PlanView) (child : Origin → Evaluation) where
   }
 
   frame-spread : (path : List ℕ) (o : Option Function) (vs : List Value) (s : S) → Q path s.rank (frame (put_off_all plan child) plan path (exec (put_off_all plan child) plan) 0 o vs s)
-  frame-spread path None vs s = quiet path pair_rank s.rank _ refl
+  frame-spread path None vs s = silent path pair_rank s.rank _ refl
   frame-spread path (Some f) vs s =
       spread-then path rank_of pair_rank s.rank _ _ (closed-exec (put_off_all plan child) plan P Q rules path 0 f.body _) (λ a. returned-q (put_off_all plan child) plan P Q rules path f a)
 

@@ -13,7 +13,7 @@ use Rattle.script_grammar.specs.declared.tree.Act.TheFolds.{fold-Act}
 use Rattle.script_grammar.specs.declared.tree.Act.TheOpen as act
 use Rattle.script_grammar.specs.declared.tree.Act.TheOpen.{Act-F}
 use Rattle.script_check.specs.Names as check
-use Rattle.script_check.specs.Places.{all_true, every_in, every_in_act, every_in_all, every_in_block, every_in_right, every_in_statement, every_in_target, finds_all, finds_callee, finds_in, has_place, stand_from, table_of_places, variable_names}
+use Rattle.script_check.specs.Slots.{all_true, every_in, every_in_act, every_in_all, every_in_block, every_in_right, every_in_statement, every_in_target, finds_all, finds_callee, finds_in, has_slot, stand_from, table_of_slots, variable_names}
 use Rattle.serial_meaning.specs.Functions.{function_at}
 use Rattle.serial_meaning.specs.Names.{Names}
 use Rattle.serial_meaning.specs.Plan.{PlanView, functions_of}
@@ -99,21 +99,21 @@ module _ (is calls : Name → Bool) where
 
 -- the text of a function
 pub body-found : (table : List ℕ) (functions : List Function) (i : ℕ) (f : Function) → finds_all table functions ≡ true → slice_get functions i ≡ Some f →
-    every_in_block (has_place table (variable_names f)) (finds_callee functions) f.body ≡ true
+    every_in_block (has_slot table (variable_names f)) (finds_callee functions) f.body ≡ true
 body-found table functions i f h e =
     let names = variable_names f in
     let own = one-of (finds_in table functions) functions i f h e in
-    let body = every_in_block (has_place table names) (finds_callee functions) f.body in
-    let value = every_in (has_place table names) f.result in
+    let body = every_in_block (has_slot table names) (finds_callee functions) f.body in
+    let value = every_in (has_slot table names) f.result in
     (and_parts body value (and_parts (stand_from 0 names f.params) (body && value) own).1).0
 
 pub left-found : (plan : PlanView) (names : Names) (a : Frame) (left : List Stmt) → IsFoundPlan plan → ArePending plan names a left →
-    every_in_block (has_place (table_of_places (functions_of plan)) (variables_in (function_at (functions_of plan) a.function))) (finds_callee (functions_of plan)) left ≡ true
+    every_in_block (has_slot (table_of_slots (functions_of plan)) (variables_in (function_at (functions_of plan) a.function))) (finds_callee (functions_of plan)) left ≡ true
 left-found plan names a left h p =
     let functions = functions_of plan in
-    let table = table_of_places functions in
-    subst (λ (o : Option Function). every_in_block (has_place table (variables_in o)) (finds_callee functions) left ≡ true) (sym p.of_plan)
-    (stands-found (has_place table (variable_names p.function)) (finds_callee functions) p.stands (body-found table functions a.function p.function h p.of_plan))
+    let table = table_of_slots functions in
+    subst (λ (o : Option Function). every_in_block (has_slot table (variables_in o)) (finds_callee functions) left ≡ true) (sym p.of_plan)
+    (stands-found (has_slot table (variable_names p.function)) (finds_callee functions) p.stands (body-found table functions a.function p.function h p.of_plan))
 
 -- no frame has so many below it
 pub none-above : (plan : PlanView) (height : ℕ) (target : Option Name) (functions : List ℕ) → length functions ≤ height → FindsAt plan height target functions
@@ -123,7 +123,7 @@ none-above plan height target (function ∷ below) h = ((λ e. absurd (omega ari
 -- where the value of a statement of a machine's innermost frame goes
 module _ (plan : PlanView) (m : Machine) where
   abbrev has_own : Name → Bool
-  has_own = has_place (table_of_places (functions_of plan)) (variables_in (function_at (functions_of plan) m.top.function))
+  has_own = has_slot (table_of_slots (functions_of plan)) (variables_in (function_at (functions_of plan) m.top.function))
 
   abbrev has_callee : Name → Bool
   has_callee = finds_callee (functions_of plan)

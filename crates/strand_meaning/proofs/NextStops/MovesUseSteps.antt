@@ -11,17 +11,17 @@ use Rattle.script_grammar.specs.declared.tree.Act.{Act, out-Act}
 use Rattle.script_grammar.specs.declared.tree.Act.TheOpen as act
 use Rattle.script_grammar.specs.declared.tree.Act.TheOpen.{Act-F}
 use Rattle.serial_meaning.specs.Runs.{Run, done, continued, ◌then◌}
-use Rattle.serial_meaning.specs.Values.{value_of, values_of, slot_of, items_of, as_integer, is_true, at_index}
+use Rattle.serial_meaning.specs.Values.{value_of, values_of, content_of, items_of, as_integer, is_true, at_index}
 use Rattle.serial_meaning.specs.Functions.{function_number, function_at}
 use Rattle.serial_meaning.specs.Plan.{PlanView, functions_of}
-use Rattle.serial_meaning.specs.Exec.{State, Manner, unless_fault, paid_from, tested, has_room, loop_fits, spawn, implied, frame, called, right_side, found, looped, does, count_of}
+use Rattle.serial_meaning.specs.Exec.{State, Interpretation, unless_fault, paid_from, tested, has_room, loop_fits, spawn, implied, frame, called, right_side, found, looped, does, count_of}
 use Rattle.serial_meaning.specs.declared.value.Value.{Value}
 use Rattle.serial_meaning.specs.declared.value.Value.TheVariants.{Int}
 use Rattle.serial_meaning.specs.declared.event.FaultKind.{FaultKind}
 use Rattle.serial_meaning.specs.declared.event.FaultKind.TheVariants.{Index, Depth, Calls, Budget}
 use Rattle.serial_meaning.specs.declared.event.Fault.{Fault}
 use Rattle.script_check.specs.Spawns.{spawns_in}
-use Rattle.strand_meaning.specs.Machine.{Destination, Spawned, Looped, Effect, Exit, Faulted, Inside, handing, inside, child_destination, Level, Frame, Machine, Reached, Stands, Gives, state_of, here_of, with_left, with_returning, back_in_caller, machine_inside, reached, gives, value_run, statement_move, return_move, level_move, end_move, move_at, move}
+use Rattle.strand_meaning.specs.Machine.{Destination, Spawned, Looped, Effect, Exit, Faulted, Inside, parallel, inside, child_destination, Level, Frame, Machine, Reached, Stands, Gives, state_of, here_of, with_left, with_returning, back_in_caller, machine_inside, reached, gives, value_run, statement_move, return_move, level_move, end_move, move_at, move}
 use Rattle.strand_meaning.specs.Left.{ways_out, all_ways_out, moves_of}
 
 -- no more than these steps are left, where it goes on or inside
@@ -50,8 +50,8 @@ Falls m (Ok (Gives v)) = Unit {0}
 Falls m (Err f) = Unit {0}
 
 module _ (plan : PlanView) (path : List ℕ) where
-  abbrev what : Destination → Manner Effect Exit Bool
-  what destination = handing plan destination
+  abbrev what : Destination → Interpretation Effect Exit Bool
+  what destination = parallel plan destination
 
   within-given : {A B : Type 0} (steps : B → ℕ) (n : ℕ) (destination : Destination) (o : Result A FaultKind) (s : State Bool) (f : A → Run Effect Exit B) → ((a : A) → Within steps n (f a).ending) → Within steps n (unless_fault (what destination) plan path o s f).ending
   within-given steps n destination (Ok a) s f h = h a
@@ -96,7 +96,7 @@ module _ (plan : PlanView) (path : List ℕ) where
     does-within height st (act.Array x k) s h = h
     does-within height st (act.Set x r) s h = within-then pair_steps steps_of n (right_side (what (Spawned height (Some x))) plan path inside height r s) _ (right-within (Spawned height (Some x)) height r s h) (λ p g. g)
     does-within height st (act.Store x i e) s h =
-        within-given steps_of n (Spawned height None) (value_of i s.env) s _ (λ k. by_item (at_index (items_of (slot_of s.env x.bytes)) (as_integer k)) _ (within-given steps_of n (Spawned height None) (value_of e s.env) s _ (λ v. h)))
+        within-given steps_of n (Spawned height None) (value_of i s.env) s _ (λ k. by_item (at_index (items_of (content_of s.env x.bytes)) (as_integer k)) _ (within-given steps_of n (Spawned height None) (value_of e s.env) s _ (λ v. h)))
       where
         by_item : (o : Option ℤ) (r : Run Effect Exit (State Bool)) → Within steps_of n r.ending → Within steps_of n (found (what (Spawned height None)) plan path o s r).ending
         by_item None r g = tt
@@ -169,17 +169,17 @@ module _ (plan : PlanView) (path : List ℕ) where
           fewer : (k : Machine) → k.steps ≡ s.steps → open_in k ≤ open_in m + 2 → moves_of k < moves_of m
           fewer k x y = omega arith
 
-      by_steps : (n : ℕ) → m.steps ≡ n → Falls m (reached plan (with_left m left) (machine_inside plan st a left m) (paid_from (handing plan (child_destination (length m.below) a)) plan (here_of path m) n (state_of m) (λ s. does (handing plan (child_destination (length m.below) a)) plan (here_of path m) inside (length m.below) st a s)).ending)
+      by_steps : (n : ℕ) → m.steps ≡ n → Falls m (reached plan (with_left m left) (machine_inside plan st a left m) (paid_from (parallel plan (child_destination (length m.below) a)) plan (here_of path m) n (state_of m) (λ s. does (parallel plan (child_destination (length m.below) a)) plan (here_of path m) inside (length m.below) st a s)).ending)
       by_steps zero h = tt
       by_steps (suc n) h =
           let s : State Bool = record (state_of m) { steps = n } in
-          by_end n h (does (handing plan (child_destination (length m.below) a)) plan (here_of path m) inside (length m.below) st a s).ending (does-within plan (here_of path m) n (length m.below) st a s (omega arith))
+          by_end n h (does (parallel plan (child_destination (length m.below) a)) plan (here_of path m) inside (length m.below) st a s).ending (does-within plan (here_of path m) n (length m.below) st a s (omega arith))
 
   return-falls : (m : Machine) (returning : Bool) → Falls m (return_move plan path m returning).ending
   return-falls m false = by_steps m.steps refl
     where
-      how : Manner Effect Exit Bool
-      how = handing plan (Spawned (length m.below) None)
+      how : Interpretation Effect Exit Bool
+      how = parallel plan (Spawned (length m.below) None)
 
       by_text : (n : ℕ) → m.steps ≡ suc n → (b : Bool) → Falls m (reached plan (with_returning m) (λ inner s. m) (implied how plan (here_of path m) b (record (state_of m) { steps = n })).ending)
       by_text n h true = omega arith
@@ -194,7 +194,7 @@ module _ (plan : PlanView) (path : List ℕ) where
       to_caller v [] h = tt
       to_caller v (caller ∷ below) h = rw h (omega arith)
 
-      by_value : (f : Function) (o : Result Value FaultKind) → Falls m (gives plan m (unless_fault (handing plan (Spawned (length m.below) None)) plan (here_of path m) o (state_of m) (λ v. done (v, state_of m))).ending)
+      by_value : (f : Function) (o : Result Value FaultKind) → Falls m (gives plan m (unless_fault (parallel plan (Spawned (length m.below) None)) plan (here_of path m) o (state_of m) (λ v. done (v, state_of m))).ending)
       by_value f (Ok v) = to_caller v m.below refl
       by_value f (Err k) = tt
 

@@ -49,7 +49,7 @@ module _ (t : Task) where
   keeps-stage (AtSync m) = (refl, refl)
   keeps-stage (AtLoop m) = (refl, refl)
   keeps-stage (Ended (Ok v)) = keeps-returned t.origin v
-  keeps-stage (Ended (Err (Own f))) = keeps-faults t.trace.handed f
+  keeps-stage (Ended (Err (Own f))) = keeps-faults t.trace.unmerged f
   keeps-stage (Ended (Err (ChildFaulted f))) = keeps-ends t.trace.fault _
 
   keeps-split : (left : Range) (n : ℕ) → KeepsStep t (split_step t left n)

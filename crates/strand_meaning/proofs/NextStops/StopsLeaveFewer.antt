@@ -13,7 +13,7 @@ use Rattle.serial_meaning.specs.declared.origin.Origin.{Origin}
 use Rattle.serial_meaning.specs.declared.origin.Origin.TheVariants.{Instance, Loop}
 use Rattle.serial_meaning.specs.declared.answer.Outcome.{Outcome}
 use Rattle.script_grammar.specs.declared.tree.Name.{Name}
-use Rattle.strand_meaning.specs.Machine.{Destination, Spawned, Looped, Half, Effect, Opens, Closes, Emitted, Handed, Syncs, Loops, loop_effects, sync_effects, Machine, Reached, Stands, Gives, function_begun, move}
+use Rattle.strand_meaning.specs.Machine.{Destination, Spawned, Looped, Half, Effect, Opens, Closes, Emitted, Starts, Syncs, Loops, loop_effects, sync_effects, Machine, Reached, Stands, Gives, function_begun, move}
 use Rattle.strand_meaning.specs.Trace.{AwaitedChild, with_effects}
 use Rattle.strand_meaning.specs.Task.{Stage, Running, AtSync, AtLoop, Ended, Remaining, Splits, Runs, Finished, Task, begun_stage, begins_last, own_instance, MoveOrStop, Passes, Stops, Stop, Spawn, Wait, End, IsNext, Now, Later, stage_after, child_in, stops_at, passing, step_result, waits, ends_unless, faults_after, returned, stage_step, split_step, over_step, remaining_step, step, takes, takes_all, pass_sync, resumed, resumed_remaining, on}
 use Rattle.strand_meaning.specs.Rest.{children_of, evaluations, rest_of_stage, rest_open}
@@ -27,7 +27,7 @@ use Rattle.strand_meaning.proofs.Unfilled.SoundMoves.{sound-free}
 use Rattle.strand_meaning.proofs.UnfilledPending.AlikeButEvents.{alike-effects, alike-takes}
 use Rattle.strand_meaning.proofs.SoundSteps.ChildrenFollowEvents.{EffectRules, effects-move}
 use Rattle.strand_meaning.proofs.SoundSteps.RestStartsAsNode.{halves-rest}
-use Rattle.strand_meaning.proofs.TakenAnswers.AnswersKeepTasks.{rest-same, none-handed}
+use Rattle.strand_meaning.proofs.TakenAnswers.AnswersKeepTasks.{rest-same, none-unmerged}
 use Rattle.strand_meaning.proofs.SoundSteps.StepsKeepTasks.{steps_are_sound}
 
 -- What a move shows pays for its waits
@@ -37,7 +37,7 @@ waits_in [] = 0
 waits_in (Opens j ∷ ts) = waits_in ts
 waits_in (Closes j ∷ ts) = waits_in ts
 waits_in (Emitted e ∷ ts) = waits_in ts
-waits_in (Handed o destination ∷ ts) = waits_in ts
+waits_in (Starts o destination ∷ ts) = waits_in ts
 waits_in (Syncs ∷ ts) = 1
 waits_in (Loops ∷ ts) = 1
 
@@ -56,7 +56,7 @@ effects-append [] ys = omega arith
 effects-append (Opens j ∷ xs) ys = effects-append xs ys
 effects-append (Closes j ∷ xs) ys = effects-append xs ys
 effects-append (Emitted e ∷ xs) ys = let h : item_stops (effect_items (xs ++ ys)) ≡ item_stops (effect_items xs) + item_stops (effect_items ys) = effects-append xs ys in omega arith
-effects-append (Handed o destination ∷ xs) ys = let h : item_stops (effect_items (xs ++ ys)) ≡ item_stops (effect_items xs) + item_stops (effect_items ys) = effects-append xs ys in omega arith
+effects-append (Starts o destination ∷ xs) ys = let h : item_stops (effect_items (xs ++ ys)) ≡ item_stops (effect_items xs) + item_stops (effect_items ys) = effects-append xs ys in omega arith
 effects-append (Syncs ∷ xs) ys = effects-append xs ys
 effects-append (Loops ∷ xs) ys = effects-append xs ys
 
@@ -65,7 +65,7 @@ waits-append [] ys = omega arith
 waits-append (Opens j ∷ xs) ys = waits-append xs ys
 waits-append (Closes j ∷ xs) ys = waits-append xs ys
 waits-append (Emitted e ∷ xs) ys = waits-append xs ys
-waits-append (Handed o destination ∷ xs) ys = waits-append xs ys
+waits-append (Starts o destination ∷ xs) ys = waits-append xs ys
 waits-append (Syncs ∷ xs) ys = omega arith
 waits-append (Loops ∷ xs) ys = omega arith
 
@@ -99,7 +99,7 @@ child-paid [] o h = absurd (cc)
 child-paid (Opens j ∷ ts) o h = child-paid ts o h
 child-paid (Closes j ∷ ts) o h = child-paid ts o h
 child-paid (Emitted e ∷ ts) o h = let k : 2 ≤ item_stops (effect_items ts) = child-paid ts o h in omega arith
-child-paid (Handed c destination ∷ ts) o h = omega arith
+child-paid (Starts c destination ∷ ts) o h = omega arith
 child-paid (Syncs ∷ ts) o h = child-paid ts o h
 child-paid (Loops ∷ ts) o h = child-paid ts o h
 
@@ -108,7 +108,7 @@ few-waits [] = omega arith
 few-waits (Opens j ∷ ts) = few-waits ts
 few-waits (Closes j ∷ ts) = few-waits ts
 few-waits (Emitted e ∷ ts) = few-waits ts
-few-waits (Handed o destination ∷ ts) = few-waits ts
+few-waits (Starts o destination ∷ ts) = few-waits ts
 few-waits (Syncs ∷ ts) = omega arith
 few-waits (Loops ∷ ts) = omega arith
 
@@ -123,7 +123,7 @@ stage-stops plan child path parts [] k = omega arith
 stage-stops plan child path parts (Opens j ∷ ts) k = stage-stops plan child path parts ts k
 stage-stops plan child path parts (Closes j ∷ ts) k = stage-stops plan child path parts ts k
 stage-stops plan child path parts (Emitted e ∷ ts) k = stage-stops plan child path parts ts k
-stage-stops plan child path parts (Handed o destination ∷ ts) k = stage-stops plan child path parts ts k
+stage-stops plan child path parts (Starts o destination ∷ ts) k = stage-stops plan child path parts ts k
 stage-stops plan child path parts (Syncs ∷ ts) k = omega arith
 stage-stops plan child path parts (Loops ∷ ts) k = omega arith
 
@@ -134,7 +134,7 @@ FewerStep t (Stops stop) = LeavesFewer t stop
 
 module _ (t : Task) (is : IsTask t) (idle : t.waiting ≡ false) where
   abbrev ps : List AwaitedChild
-  ps = t.trace.handed
+  ps = t.trace.unmerged
 
   abbrev own : Origin
   own = own_instance t.origin
@@ -171,23 +171,23 @@ module _ (t : Task) (is : IsTask t) (idle : t.waiting ≡ false) where
     shows-items ts rest h = ap (λ (r : Run Item NodeFault Value). item_stops r.items) h ∙ items-append (effect_items ts) rest.items
 
     fewer-at : (o : Option Origin) (ts : List Effect) (stage : Stage) → child_in ts ≡ o →
-        stops_of t.plan t.origin false (with_effects ts t.trace).handed (Runs stage) ≤ 2 + (waits_in ts + (3 + (before - item_stops (effect_items ts)))) → waits_in ts ≤ item_stops (effect_items ts) → item_stops (effect_items ts) ≤ before →
+        stops_of t.plan t.origin false (with_effects ts t.trace).unmerged (Runs stage) ≤ 2 + (waits_in ts + (3 + (before - item_stops (effect_items ts)))) → waits_in ts ≤ item_stops (effect_items ts) → item_stops (effect_items ts) ≤ before →
         FewerStep t (stops_at o (passing t ts (Runs stage)))
-    fewer-at None ts stage h some paid-for inside = (no_more (next-is (with_effects ts t.trace).handed (Runs stage)) now-is, idle)
+    fewer-at None ts stage h some paid-for inside = (no_more (next-is (with_effects ts t.trace).unmerged (Runs stage)) now-is, idle)
       where
-        no_more : stops_of t.plan t.origin t.waiting (with_effects ts t.trace).handed (Runs stage) ≡ of_remaining (with_effects ts t.trace).handed (Runs stage) → stops_left t ≡ 2 + (3 + before) →
+        no_more : stops_of t.plan t.origin t.waiting (with_effects ts t.trace).unmerged (Runs stage) ≡ of_remaining (with_effects ts t.trace).unmerged (Runs stage) → stops_left t ≡ 2 + (3 + before) →
             stops_left (passing t ts (Runs stage)) ≤ stops_left t
         no_more e f = omega arith
-    fewer-at (Some o) ts stage h some paid-for inside = (fewer (next-is (with_effects ts t.trace).handed (Runs stage)) now-is (child-paid ts o h) (few-waits ts), idle)
+    fewer-at (Some o) ts stage h some paid-for inside = (fewer (next-is (with_effects ts t.trace).unmerged (Runs stage)) now-is (child-paid ts o h) (few-waits ts), idle)
       where
-        fewer : stops_of t.plan t.origin t.waiting (with_effects ts t.trace).handed (Runs stage) ≡ of_remaining (with_effects ts t.trace).handed (Runs stage) → stops_left t ≡ 2 + (3 + before) →
+        fewer : stops_of t.plan t.origin t.waiting (with_effects ts t.trace).unmerged (Runs stage) ≡ of_remaining (with_effects ts t.trace).unmerged (Runs stage) → stops_left t ≡ 2 + (3 + before) →
             2 ≤ item_stops (effect_items ts) → waits_in ts ≤ 1 → stops_left (passing t ts (Runs stage)) < stops_left t
         fewer e f g k = omega arith
 
     fewer-result : (ts : List Effect) (e : Result Reached Fault) → Paid ts → rest_open t.plan kids path ps (Running m) ≡ after_items (effect_items ts) (shown_with t.plan kids path ps ts e) → FewerStep t (step_result t ts e)
     fewer-result ts (Ok (Stands k)) p h =
         let rest : Run Item NodeFault Value = rest_open t.plan kids path (ps ++ effect_parts ts) (stage_after ts k) in
-        let after = (with_effects ts t.trace).handed in
+        let after = (with_effects ts t.trace).unmerged in
         let same : rest ≡ rest_open t.plan kids path after (stage_after ts k) = ap (λ s. rest_of_stage t.plan kids path (resumed s)) (alike-takes kids (alike-effects ts t.trace) (stage_after ts k)) in
         let sizes = ap (λ (r : Run Item NodeFault Value). item_stops r.items) same in
         let whole = shows-items ts rest h in
@@ -199,14 +199,14 @@ module _ (t : Task) (is : IsTask t) (idle : t.waiting ≡ false) where
 
         inside : (p r b : ℕ) → b ≡ p + r → p ≤ b
         inside p r b e = omega arith
-    fewer-result ts (Ok (Gives v)) p h = (few (end-few (with_effects ts t.trace).handed) (next-is (with_effects ts t.trace).handed (Runs (Ended (Ok v)))) now-is, idle)
+    fewer-result ts (Ok (Gives v)) p h = (few (end-few (with_effects ts t.trace).unmerged) (next-is (with_effects ts t.trace).unmerged (Runs (Ended (Ok v)))) now-is, idle)
       where
-        few : at_end false (with_effects ts t.trace).handed ≤ 2 → stops_of t.plan t.origin t.waiting (with_effects ts t.trace).handed (Runs (Ended (Ok v))) ≡ 2 + at_end false (with_effects ts t.trace).handed → stops_left t ≡ 2 + (3 + before) →
+        few : at_end false (with_effects ts t.trace).unmerged ≤ 2 → stops_of t.plan t.origin t.waiting (with_effects ts t.trace).unmerged (Runs (Ended (Ok v))) ≡ 2 + at_end false (with_effects ts t.trace).unmerged → stops_left t ≡ 2 + (3 + before) →
             stops_left (passing t ts (Runs (Ended (Ok v)))) ≤ stops_left t
         few e f g = omega arith
-    fewer-result ts (Err x) p h = (few (end-few (with_effects ts t.trace).handed) (next-is (with_effects ts t.trace).handed (Runs (Ended (Err (Own x))))) now-is, idle)
+    fewer-result ts (Err x) p h = (few (end-few (with_effects ts t.trace).unmerged) (next-is (with_effects ts t.trace).unmerged (Runs (Ended (Err (Own x))))) now-is, idle)
       where
-        few : at_end false (with_effects ts t.trace).handed ≤ 2 → stops_of t.plan t.origin t.waiting (with_effects ts t.trace).handed (Runs (Ended (Err (Own x)))) ≡ 2 + at_end false (with_effects ts t.trace).handed → stops_left t ≡ 2 + (3 + before) →
+        few : at_end false (with_effects ts t.trace).unmerged ≤ 2 → stops_of t.plan t.origin t.waiting (with_effects ts t.trace).unmerged (Runs (Ended (Err (Own x)))) ≡ 2 + at_end false (with_effects ts t.trace).unmerged → stops_left t ≡ 2 + (3 + before) →
             stops_left (passing t ts (Runs (Ended (Err (Own x))))) ≤ stops_left t
         few e f g = omega arith
 
@@ -347,11 +347,11 @@ module _ (plan : PlanView) (child : Origin → Evaluation) (path : List ℕ) whe
       from Half q later = later e
 
 -- The answers leave no more stops than the wait did.
-pub answers_leave_no_more : (t : Task) → IsTask t → t.waiting ≡ true → stops_left (on (evaluations (eval t.plan) t.trace.handed) t) ≤ stops_left t
+pub answers_leave_no_more : (t : Task) → IsTask t → t.waiting ≡ true → stops_left (on (evaluations (eval t.plan) t.trace.unmerged) t) ≤ stops_left t
 answers_leave_no_more t is stands = whole (by_remaining t.remaining)
   where
     ps : List AwaitedChild
-    ps = t.trace.handed
+    ps = t.trace.unmerged
 
     own : Origin
     own = own_instance t.origin
@@ -393,6 +393,6 @@ answers_leave_no_more t is stands = whole (by_remaining t.remaining)
 
     whole : stops_of t.plan t.origin false [] (resumed_remaining ps answers t.remaining) ≤ stops_of t.plan t.origin true ps t.remaining → stops_left (on answers t) ≤ stops_left t
     whole h =
-        let none : (on answers t).trace.handed ≡ [] = none-handed t is in
+        let none : (on answers t).trace.unmerged ≡ [] = none-unmerged t is in
         let after : stops_left (on answers t) ≡ stops_of t.plan t.origin false [] (resumed_remaining ps answers t.remaining) = ap (λ qs. stops_of t.plan t.origin false qs (resumed_remaining ps answers t.remaining)) none in
         let before : stops_left t ≡ stops_of t.plan t.origin true ps t.remaining = ap (λ b. stops_of t.plan t.origin b ps t.remaining) stands in omega arith

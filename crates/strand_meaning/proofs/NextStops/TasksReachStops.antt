@@ -11,7 +11,7 @@ use Rattle.serial_meaning.specs.declared.event.Fault.{Fault}
 use Rattle.serial_meaning.specs.declared.origin.Origin.{Origin}
 use Rattle.serial_meaning.specs.declared.origin.Origin.TheVariants.{Instance, Loop}
 use Rattle.serial_meaning.specs.declared.answer.Outcome.{Outcome}
-use Rattle.strand_meaning.specs.Machine.{Effect, Opens, Closes, Emitted, Handed, Syncs, Loops, Machine, Reached, Stands, Gives, function_begun, move}
+use Rattle.strand_meaning.specs.Machine.{Effect, Opens, Closes, Emitted, Starts, Syncs, Loops, Machine, Reached, Stands, Gives, function_begun, move}
 use Rattle.strand_meaning.specs.Trace.{AwaitedChild}
 use Rattle.strand_meaning.specs.Task.{Stage, Running, AtSync, AtLoop, Ended, Remaining, Splits, Runs, Finished, Task, begun_stage, own_instance, begins_last, MoveOrStop, Passes, Stops, Stop, IsNext, Now, Later, stage_after, child_in, stops_at, passing, step_result, ends_unless, faults_after, returned, stage_step, split_step, over_step, remaining_step, step}
 use Rattle.strand_meaning.specs.Left.{moves_of, stage_moves, remaining_moves, moves_left}
@@ -27,7 +27,7 @@ stage-after-falls [] k n h = h
 stage-after-falls (Opens j ∷ ts) k n h = stage-after-falls ts k n h
 stage-after-falls (Closes j ∷ ts) k n h = stage-after-falls ts k n h
 stage-after-falls (Emitted e ∷ ts) k n h = stage-after-falls ts k n h
-stage-after-falls (Handed o destination ∷ ts) k n h = stage-after-falls ts k n h
+stage-after-falls (Starts o destination ∷ ts) k n h = stage-after-falls ts k n h
 stage-after-falls (Syncs ∷ ts) k n h = omega arith
 stage-after-falls (Loops ∷ ts) k n h = omega arith
 
@@ -59,7 +59,7 @@ module _ (t : Task) where
   stage-falls (AtSync m) = tt
   stage-falls (AtLoop m) = tt
   stage-falls (Ended (Ok v)) = returned-falls t.origin v
-  stage-falls (Ended (Err (Own f))) = faults-fall t.trace.handed f
+  stage-falls (Ended (Err (Own f))) = faults-fall t.trace.unmerged f
   stage-falls (Ended (Err (ChildFaulted f))) = ends-fall 1 t.trace.fault _
 
   begun-falls : (o : Origin) → remaining_moves t.plan (begins_last t.plan o) < 3 + 3 * t.plan.limits.budget

@@ -14,7 +14,7 @@ use Rattle.strand_meaning.specs.Task.{Stage, Running, AtSync, AtLoop, Ended, Rem
 use Rattle.strand_meaning.specs.Rest.{evaluations}
 use Rattle.strand_meaning.specs.Sound.{IsSoundStage, IsTask}
 use Rattle.strand_meaning.specs.Observation.{IsInstanceOrigin, remaining_node, Observation, stage_fault, IsOnWay}
-use Rattle.strand_meaning.proofs.TakenAnswers.AnswersKeepTasks.{rest-same, none-handed}
+use Rattle.strand_meaning.proofs.TakenAnswers.AnswersKeepTasks.{rest-same, none-unmerged}
 use Rattle.strand_meaning.proofs.Unfilled.MovesBeforeAnswers.{takes-taken}
 
 -- No answer is a fault of the instance's own, and none takes such a fault from it.
@@ -58,10 +58,10 @@ module _ (plan : PlanView) (child : Origin → Evaluation) (ps : List AwaitedChi
   stays (Ended (Err (ChildFaulted f))) sound = sym (after-none (Ended (Err (ChildFaulted f))) refl)
 
 stage-answers : (t : Task) (function : ℕ) (args : List Value) (path : List ℕ) (stage : Stage) (observation : Observation) → let u : Task = record t { origin = Instance function args path; remaining = Runs stage } in
-    IsTask u → IsOnWay observation u → IsOnWay observation (on (evaluations (eval u.plan) u.trace.handed) u)
+    IsTask u → IsOnWay observation u → IsOnWay observation (on (evaluations (eval u.plan) u.trace.unmerged) u)
 stage-answers t function args path stage observation is h = record {
   node = h.node ∙ ap (after_items observation.items) same;
-  fault = h.fault ∙ stays t.plan (eval t.plan) t.trace.handed stage is.remaining.2;
+  fault = h.fault ∙ stays t.plan (eval t.plan) t.trace.unmerged stage is.remaining.2;
   child_fault = h.child_fault;
 }
   where
@@ -69,23 +69,23 @@ stage-answers t function args path stage observation is h = record {
     u = record t { origin = Instance function args path; remaining = Runs stage }
 
     taken_stage : Stage
-    taken_stage = resumed (takes_all t.trace.handed (evaluations (eval t.plan) t.trace.handed) stage)
+    taken_stage = resumed (takes_all t.trace.unmerged (evaluations (eval t.plan) t.trace.unmerged) stage)
 
-    same : remaining_node t.plan (Instance function args path) t.trace.handed (Runs stage) ≡ remaining_node t.plan (Instance function args path) (on (evaluations (eval t.plan) t.trace.handed) u).trace.handed (Runs taken_stage)
+    same : remaining_node t.plan (Instance function args path) t.trace.unmerged (Runs stage) ≡ remaining_node t.plan (Instance function args path) (on (evaluations (eval t.plan) t.trace.unmerged) u).trace.unmerged (Runs taken_stage)
     same =
         ap (λ (r : Run Item NodeFault Value). r then λ v. done (v ∷ [])) (rest-same u is stage)
-        ∙ ap (λ (ps : List AwaitedChild). remaining_node t.plan (Instance function args path) ps (Runs taken_stage)) (sym (none-handed u is))
+        ∙ ap (λ (ps : List AwaitedChild). remaining_node t.plan (Instance function args path) ps (Runs taken_stage)) (sym (none-unmerged u is))
 
-pub answers_show_nothing : (t : Task) (observation : Observation) → IsTask t → IsInstanceOrigin t.origin → IsOnWay observation t → IsOnWay observation (on (evaluations (eval t.plan) t.trace.handed) t)
+pub answers_show_nothing : (t : Task) (observation : Observation) → IsTask t → IsInstanceOrigin t.origin → IsOnWay observation t → IsOnWay observation (on (evaluations (eval t.plan) t.trace.unmerged) t)
 answers_show_nothing t observation is inst h = by_origin t.origin is inst h
   where
     by_origin : (o : Origin) → IsTask (record t { origin = o }) → IsInstanceOrigin o → IsOnWay observation (record t { origin = o }) →
-        let u : Task = record t { origin = o } in IsOnWay observation (on (evaluations (eval u.plan) u.trace.handed) u)
+        let u : Task = record t { origin = o } in IsOnWay observation (on (evaluations (eval u.plan) u.trace.unmerged) u)
     by_origin (Loop function rest first path range) is inst h = absurd inst
     by_origin (Instance function args path) is inst h = by_remaining t.remaining is h
       where
         by_remaining : (remaining : Remaining) → IsTask (record t { origin = Instance function args path; remaining = remaining }) → IsOnWay observation (record t { origin = Instance function args path; remaining = remaining }) →
-            let u : Task = record t { origin = Instance function args path; remaining = remaining } in IsOnWay observation (on (evaluations (eval u.plan) u.trace.handed) u)
+            let u : Task = record t { origin = Instance function args path; remaining = remaining } in IsOnWay observation (on (evaluations (eval u.plan) u.trace.unmerged) u)
         by_remaining (Splits left) is h = absurd is.remaining.0
         by_remaining (Runs stage) is h = stage-answers t function args path stage observation is h
         by_remaining (Finished v true) is h = absurd is.remaining.0

@@ -11,7 +11,7 @@ use Rattle.serial_meaning.specs.declared.event.Fault.{Fault}
 use Rattle.serial_meaning.specs.declared.origin.Origin.{Origin}
 use Rattle.serial_meaning.specs.declared.origin.Origin.TheVariants.{Instance, Loop}
 use Rattle.serial_meaning.specs.declared.answer.Outcome.{Outcome}
-use Rattle.strand_meaning.specs.Machine.{Effect, Opens, Closes, Emitted, Handed, Syncs, Loops, Machine, Reached, Stands, Gives, function_begun, move}
+use Rattle.strand_meaning.specs.Machine.{Effect, Opens, Closes, Emitted, Starts, Syncs, Loops, Machine, Reached, Stands, Gives, function_begun, move}
 use Rattle.strand_meaning.specs.Trace.{AwaitedChild, Trace, with_effects}
 use Rattle.strand_meaning.specs.Task.{Stage, Running, AtSync, AtLoop, Ended, Remaining, Splits, Runs, Finished, Task, MoveOrStop, Passes, Stops, Stop, Spawn, Wait, End, IsNext, Now, Later, stage_after, child_in, stops_at, passing, step_result, ends_unless, faults_after, resumed, begun_stage, start, step}
 use Rattle.strand_meaning.specs.Rest.{children_of, rest_of_stage, rest_open}
@@ -60,7 +60,7 @@ after-fault [] k = refl
 after-fault (Opens j ∷ ts) k = after-fault ts k
 after-fault (Closes j ∷ ts) k = after-fault ts k
 after-fault (Emitted e ∷ ts) k = after-fault ts k
-after-fault (Handed o destination ∷ ts) k = after-fault ts k
+after-fault (Starts o destination ∷ ts) k = after-fault ts k
 after-fault (Syncs ∷ ts) k = refl
 after-fault (Loops ∷ ts) k = refl
 
@@ -69,7 +69,7 @@ result-fault ts (Ok (Stands k)) = sym (after-fault ts k)
 result-fault ts (Ok (Gives v)) = refl
 result-fault ts (Err f) = refl
 
--- a task's instance on its way, with these parts handed out
+-- a task's instance on its way, with these parts begun
 record Way (plan : PlanView) (o : Origin) (ps : List AwaitedChild) (stage : Stage) (observation : Observation) : Type 0 where
   node : node_of plan o ≡ after_items observation.items (remaining_node plan o ps (Runs stage))
   fault : observation.fault ≡ stage_fault stage
@@ -84,18 +84,18 @@ module _ (plan : PlanView) (o : Origin) where
 
   module _ (trace : Trace) where
     abbrev ps : List AwaitedChild
-    ps = trace.handed
+    ps = trace.unmerged
 
-    lands : (ts : List Effect) (e : Result Reached Fault) → SoundEnd plan ps ts e → shown_with plan kids path ps ts e ≡ rest_open plan kids path (with_effects ts trace).handed (stage_result ts e)
+    lands : (ts : List Effect) (e : Result Reached Fault) → SoundEnd plan ps ts e → shown_with plan kids path ps ts e ≡ rest_open plan kids path (with_effects ts trace).unmerged (stage_result ts e)
     lands ts e fits = by_end e fits
       where
-        to-after : (stage : Stage) → rest_open plan kids path (ps ++ effect_parts ts) stage ≡ rest_open plan kids path (with_effects ts trace).handed stage
+        to-after : (stage : Stage) → rest_open plan kids path (ps ++ effect_parts ts) stage ≡ rest_open plan kids path (with_effects ts trace).unmerged stage
         to-after stage = ap (λ (s : Stage). rest_of_stage plan kids path (resumed s)) (alike-takes kids (alike-effects ts trace) stage)
 
         no-more : effect_parts ts ≡ [] → ps ≡ ps ++ effect_parts ts
         no-more h = sym (ap (λ (l : List AwaitedChild). ps ++ l) h ∙ append-nil ps)
 
-        by_end : (e : Result Reached Fault) → SoundEnd plan ps ts e → shown_with plan kids path ps ts e ≡ rest_open plan kids path (with_effects ts trace).handed (stage_result ts e)
+        by_end : (e : Result Reached Fault) → SoundEnd plan ps ts e → shown_with plan kids path ps ts e ≡ rest_open plan kids path (with_effects ts trace).unmerged (stage_result ts e)
         by_end (Ok (Stands k)) fits = to-after (stage_after ts k)
         by_end (Ok (Gives v)) fits =
             sym (ended-rest plan kids path 0 (ps ++ effect_parts ts) (halves-places (ps ++ effect_parts ts) (subst AreHalves (no-more fits.0) fits.1)) (Ok v)) ∙ to-after (Ended (Ok v))
@@ -103,13 +103,13 @@ module _ (plan : PlanView) (o : Origin) where
 
     way-result : (m : Machine) (observation : Observation) (ts : List Effect) (e : Result Reached Fault) → SoundEnd plan ps ts e →
         rest_open plan kids path ps (Running m) ≡ after_items (effect_items ts) (shown_with plan kids path ps ts e) → Way plan o ps (Running m) observation →
-        Way plan o (with_effects ts trace).handed (stage_result ts e) (also observation (record { items = effect_items ts; fault = move_fault e; child_fault = None }))
+        Way plan o (with_effects ts trace).unmerged (stage_result ts e) (also observation (record { items = effect_items ts; fault = move_fault e; child_fault = None }))
     way-result m observation ts e fits leaves w = record {
       node =
           w.node
           ∙ ap (λ (r : Run Item NodeFault Value). after_items observation.items (r then all_of)) (leaves ∙ ap (after_items (effect_items ts)) (lands ts e fits))
-          ∙ ap (after_items observation.items) (after-then (effect_items ts) (rest_open plan kids path (with_effects ts trace).handed (stage_result ts e)) all_of)
-          ∙ after-after observation.items (effect_items ts) (rest_open plan kids path (with_effects ts trace).handed (stage_result ts e) then all_of);
+          ∙ ap (after_items observation.items) (after-then (effect_items ts) (rest_open plan kids path (with_effects ts trace).unmerged (stage_result ts e)) all_of)
+          ∙ after-after observation.items (effect_items ts) (rest_open plan kids path (with_effects ts trace).unmerged (stage_result ts e) then all_of);
       fault = ap (λ (f : Option Fault). newest f (move_fault e)) w.fault ∙ result-fault ts e;
       child_fault = w.child_fault;
     }
@@ -179,12 +179,12 @@ module _ (t : Task) (function : ℕ) (args : List Value) (at : List ℕ) where
   with_stage stage = record t { origin = own; remaining = Runs stage }
 
   abbrev Going : Stage → Observation → Type 0
-  Going = Way t.plan own t.trace.handed
+  Going = Way t.plan own t.trace.unmerged
 
   way-of : (stage : Stage) (observation : Observation) → IsOnWay observation (with_stage stage) → Going stage observation
   way-of stage observation h = record { node = h.node; fault = h.fault; child_fault = h.child_fault }
 
-  on-way : (trace : Trace) (waiting : Bool) (stage : Stage) (observation : Observation) → Way t.plan own trace.handed stage observation →
+  on-way : (trace : Trace) (waiting : Bool) (stage : Stage) (observation : Observation) → Way t.plan own trace.unmerged stage observation →
       IsOnWay observation (record t { origin = own; trace = trace; remaining = Runs stage; waiting = waiting; advanced = true })
   on-way trace waiting stage observation w = record { node = w.node; fault = w.fault; child_fault = w.child_fault }
 
@@ -195,7 +195,7 @@ module _ (t : Task) (function : ℕ) (args : List Value) (at : List ℕ) where
       r = move t.plan at m
 
       ps : List AwaitedChild
-      ps = t.trace.handed
+      ps = t.trace.unmerged
 
       sound : IsSoundStage t.plan ps (Running m)
       sound = is.remaining.2
@@ -210,7 +210,7 @@ module _ (t : Task) (function : ℕ) (args : List Value) (at : List ℕ) where
 
       by_end : (ts : List Effect) (e : Result Reached Fault) →
           let later : Observation = also observation (record { items = effect_items ts; fault = move_fault e; child_fault = None }) in
-          Way t.plan own (with_effects ts t.trace).handed (stage_result ts e) later → OnStep later (with_stage (Running m)) (step_result (with_stage (Running m)) ts e)
+          Way t.plan own (with_effects ts t.trace).unmerged (stage_result ts e) later → OnStep later (with_stage (Running m)) (step_result (with_stage (Running m)) ts e)
       by_end ts (Ok (Stands k)) w = by_child (child_in ts)
         where
           later : Observation
@@ -226,15 +226,15 @@ module _ (t : Task) (function : ℕ) (args : List Value) (at : List ℕ) where
   waits-on : (stage : Stage) (observation : Observation) → IsOnWay observation (with_stage stage) → IsOnWay (also observation no_observation) (record t { origin = own; remaining = Runs stage; waiting = true; advanced = true })
   waits-on stage observation h = on-way t.trace true stage (also observation no_observation) (subst (Going stage) (sym (also-nothing observation)) (way-of stage observation h))
 
-  ends-so : (e : Result Value NodeFault) (height : ℕ) → AreDestinations height t.trace.handed → (observation : Observation) → IsOnWay observation (with_stage (Ended e)) → IsAllObserved t.plan own (also observation (stage_observation t.plan at (Ended e)))
-  ends-so e height places observation h = whole-ended t.plan own t.trace.handed height places observation e (way-of (Ended e) observation h)
+  ends-so : (e : Result Value NodeFault) (height : ℕ) → AreDestinations height t.trace.unmerged → (observation : Observation) → IsOnWay observation (with_stage (Ended e)) → IsAllObserved t.plan own (also observation (stage_observation t.plan at (Ended e)))
+  ends-so e height places observation h = whole-ended t.plan own t.trace.unmerged height places observation e (way-of (Ended e) observation h)
 
   stage-on : (stage : Stage) → IsTask (with_stage stage) → (observation : Observation) → IsOnWay observation (with_stage stage) → OnStep (also observation (step_observation (with_stage stage))) (with_stage stage) (step (with_stage stage))
   stage-on (Running m) is observation h = moves-on m is observation h
   stage-on (AtSync m) is observation h = waits-on (AtSync m) observation h
   stage-on (AtLoop m) is observation h = waits-on (AtLoop m) observation h
-  stage-on (Ended (Ok v)) is observation h = ends-whole _ (with_stage (Ended (Ok v))) (ends-so (Ok v) 0 (halves-places t.trace.handed is.remaining.2) observation h) t.trace.fault _
-  stage-on (Ended (Err (Own f))) is observation h = by_parts t.trace.handed
+  stage-on (Ended (Ok v)) is observation h = ends-whole _ (with_stage (Ended (Ok v))) (ends-so (Ok v) 0 (halves-places t.trace.unmerged is.remaining.2) observation h) t.trace.fault _
+  stage-on (Ended (Err (Own f))) is observation h = by_parts t.trace.unmerged
     where
       by_parts : (qs : List AwaitedChild) → OnStep (also observation no_observation) (with_stage (Ended (Err (Own f)))) (faults_after qs (with_stage (Ended (Err (Own f)))) f)
       by_parts [] = ends-whole _ (with_stage (Ended (Err (Own f)))) (ends-so (Err (Own f)) is.remaining.2.0 is.remaining.2.1 observation h) t.trace.fault _

@@ -11,10 +11,10 @@ use Rattle.script_grammar.specs.declared.tree.Act.{Act, out-Act}
 use Rattle.script_grammar.specs.declared.tree.Act.TheOpen as act
 use Rattle.script_grammar.specs.declared.tree.Act.TheOpen.{Act-F}
 use Rattle.serial_meaning.specs.Runs.{Run, done, continued, ◌then◌}
-use Rattle.serial_meaning.specs.Values.{value_of, values_of, slot_of, items_of, as_integer, is_true, at_index}
+use Rattle.serial_meaning.specs.Values.{value_of, values_of, content_of, items_of, as_integer, is_true, at_index}
 use Rattle.serial_meaning.specs.Functions.{function_number, function_at}
 use Rattle.serial_meaning.specs.Plan.{PlanView, functions_of}
-use Rattle.serial_meaning.specs.Exec.{State, Manner, strand, unless_fault, paid_from, tested, has_room, loop_fits, spawn, sync_here, implied, frame, called, right_side, found, looped, does, count_of}
+use Rattle.serial_meaning.specs.Exec.{State, Interpretation, strand, unless_fault, paid_from, tested, has_room, loop_fits, spawn, sync_here, implied, frame, called, right_side, found, looped, does, count_of}
 use Rattle.serial_meaning.specs.Laws.{raising_pedigrees}
 use Rattle.serial_meaning.specs.Eval.{path_of}
 use Rattle.serial_meaning.specs.Open.{is_empty_loop}
@@ -27,7 +27,7 @@ use Rattle.serial_meaning.specs.declared.event.Event.TheVariants as event
 use Rattle.serial_meaning.specs.declared.origin.Origin.{Origin}
 use Rattle.serial_meaning.specs.declared.origin.Origin.TheVariants as origin
 use Rattle.script_check.specs.Spawns.{spawns_in}
-use Rattle.strand_meaning.specs.Machine.{Destination, Spawned, Looped, Effect, Opens, Closes, Emitted, Handed, Exit, loop_effects, sync_effects, handing, inside, child_destination, Level, Frame, Machine, inside_of, present, here_of, state_of, value_run, return_move, level_move, end_move, move_at, move}
+use Rattle.strand_meaning.specs.Machine.{Destination, Spawned, Looped, Effect, Opens, Closes, Emitted, Starts, Exit, loop_effects, sync_effects, parallel, inside, child_destination, Level, Frame, Machine, inside_of, present, here_of, state_of, value_run, return_move, level_move, end_move, move_at, move}
 use Rattle.strand_meaning.specs.Sound.{IsUndivided}
 use Rattle.strand_meaning.proofs.SoundSteps.Finishing.{NotHalf}
 
@@ -44,7 +44,7 @@ pub record EffectRules (path : List ℕ) (P : List Effect → Type 0) : Type 0 w
   pub none : P []
   pub more : (xs ys : List Effect) → P xs → P ys → P (xs ++ ys)
   pub prefix : (e : Event) → P (Emitted e ∷ [])
-  pub spawned : (e : Event) (o : Origin) (height : ℕ) (target : Option Name) → Begins path e o → P (Emitted e ∷ Handed o (Spawned height target) ∷ [])
+  pub spawned : (e : Event) (o : Origin) (height : ℕ) (target : Option Name) → Begins path e o → P (Emitted e ∷ Starts o (Spawned height target) ∷ [])
   pub synced : (j : List ℕ) (b : Bool) → P (Emitted (event.Sync j) ∷ sync_effects b)
   pub looped : (e : Event) (o : Origin) (target : Option Name) (b : Bool) → Begins path e o → P (Emitted e ∷ loop_effects b o (Looped target))
   pub opened : (j : List ℕ) → P (Opens j ∷ [])
@@ -79,8 +79,8 @@ module _ (P : List Effect → Type 0) (plan : PlanView) (whole : List ℕ) (rule
   abbrev Owns : {A : Type 0} → Run Effect Exit A → Type 0
   Owns r = P r.items
 
-  abbrev what : Destination → Manner Effect Exit Bool
-  what destination = handing plan destination
+  abbrev what : Destination → Interpretation Effect Exit Bool
+  what destination = parallel plan destination
 
   owns-then : {A B : Type 0} (r : Run Effect Exit A) (f : A → Run Effect Exit B) → Owns r → ((a : A) → Owns (f a)) → Owns (r then f)
   owns-then {A = A} {B = B} r f h k = from r.ending
@@ -143,7 +143,7 @@ module _ (P : List Effect → Type 0) (plan : PlanView) (whole : List ℕ) (rule
   owns-does height st (act.Array x n) s = rules.none
   owns-does height st (act.Set x r) s = owns-then (right_side (what (Spawned height (Some x))) plan path inside height r s) _ (owns-right height (Some x) height r s) (λ p. rules.none)
   owns-does height st (act.Store x i e) s =
-      owns-given (Spawned height None) (value_of i s.env) s _ (λ k. by_item (at_index (items_of (slot_of s.env x.bytes)) (as_integer k)) _ (owns-given (Spawned height None) (value_of e s.env) s _ (λ v. rules.none)))
+      owns-given (Spawned height None) (value_of i s.env) s _ (λ k. by_item (at_index (items_of (content_of s.env x.bytes)) (as_integer k)) _ (owns-given (Spawned height None) (value_of e s.env) s _ (λ v. rules.none)))
     where
       by_item : (o : Option ℤ) (r : Run Effect Exit (State Bool)) → Owns r → Owns (found (what (Spawned height None)) plan path o s r)
       by_item None r h = rules.none
@@ -174,7 +174,7 @@ module _ (P : List Effect → Type 0) (plan : PlanView) (path : List ℕ) (rules
       by_returning : (b : Bool) → P (return_move plan path m b).items
       by_returning false = owns-paid P plan path rules below.0 (here_of path m) below.1 (Spawned (length m.below) None) m.steps (state_of m) _ (λ s. by_text (spawns_in (function_at (functions_of plan) m.top.function)) s)
         where
-          by_text : (b : Bool) (s : State Bool) → P (implied (handing plan (Spawned (length m.below) None)) plan (here_of path m) b s).items
+          by_text : (b : Bool) (s : State Bool) → P (implied (parallel plan (Spawned (length m.below) None)) plan (here_of path m) b s).items
           by_text true s = owns-sync P plan path rules below.0 (here_of path m) below.1 (Spawned (length m.below) None) s
           by_text false s = rules.none
       by_returning true = by_function (function_at (functions_of plan) m.top.function)
@@ -197,7 +197,7 @@ module _ (P : List Effect → Type 0) (plan : PlanView) (path : List ℕ) (rules
           owns-paid P plan path rules below.0 (here_of path m) below.1 (child_destination (length m.below) (out-Act (out-Stmt st).act)) m.steps (state_of m) _
           (λ s. owns-does P plan path rules below.0 (here_of path m) below.1 (length m.below) st (out-Act (out-Stmt st).act) s)
 
--- The children that a move hands out are an instance's.
+-- The children that a move begins are an instance's.
 not-half : (path : List ℕ) → EffectRules path (Each NotHalf)
 not-half path = record {
   none = tt;

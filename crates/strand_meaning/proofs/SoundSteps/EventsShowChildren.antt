@@ -1,4 +1,4 @@
--- Each child that a task handed out is shown by the events before it.
+-- Each child that a task began is shown by the events before it.
 use Rattle.std.proofs.Common.{◌≡◌, ℕ, Bool, true, false, List, [], ◌∷◌, ◌++◌, Option, None, refl, sym, ap, ◌∙◌, subst, append_assoc, append-nil}
 use Rattle.std.specs.Prelude.{Contains}
 use Rattle.std.proofs.lemmas.List.Elements.{Contains-append_right}
@@ -11,7 +11,7 @@ use Rattle.serial_meaning.specs.declared.event.Fault.{Fault}
 use Rattle.serial_meaning.specs.declared.event.Event.{Event}
 use Rattle.serial_meaning.specs.declared.event.Event.TheVariants as event
 use Rattle.serial_meaning.specs.declared.origin.Origin.{Origin}
-use Rattle.strand_meaning.specs.Machine.{Destination, Spawned, Looped, Effect, Opens, Closes, Emitted, Handed, Syncs, Loops, Machine, sync_effects, loop_effects, move}
+use Rattle.strand_meaning.specs.Machine.{Destination, Spawned, Looped, Effect, Opens, Closes, Emitted, Starts, Syncs, Loops, Machine, sync_effects, loop_effects, move}
 use Rattle.strand_meaning.specs.Trace.{AwaitedChild, Trace, prefix_unless, after_last, emit, emit_at, add_child, with_effects}
 use Rattle.strand_meaning.specs.Task.{own_instance}
 use Rattle.strand_meaning.specs.Sound.{IsBegunBy, IsShownAs, AreShownBy}
@@ -35,7 +35,7 @@ shown-more plan o front events (p ∷ ps) q h k = (
 -- An event of the task's own
 
 emit-fault : (e : Event) (trace : Trace) → (emit e trace).fault ≡ trace.fault
-emit-fault e trace = by_parts trace.handed
+emit-fault e trace = by_parts trace.unmerged
   where
     by_parts : (ps : List AwaitedChild) → (emit_at ps e trace).fault ≡ trace.fault
     by_parts [] = refl
@@ -46,7 +46,7 @@ effects-fault [] trace = refl
 effects-fault (Opens j ∷ ts) trace = effects-fault ts trace
 effects-fault (Closes j ∷ ts) trace = effects-fault ts trace
 effects-fault (Emitted e ∷ ts) trace = effects-fault ts (emit e trace) ∙ emit-fault e trace
-effects-fault (Handed o destination ∷ ts) trace = effects-fault ts (add_child o destination trace)
+effects-fault (Starts o destination ∷ ts) trace = effects-fault ts (add_child o destination trace)
 effects-fault (Syncs ∷ ts) trace = effects-fault ts trace
 effects-fault (Loops ∷ ts) trace = effects-fault ts trace
 
@@ -55,7 +55,7 @@ effects-one-by-one [] ys trace = refl
 effects-one-by-one (Opens j ∷ xs) ys trace = effects-one-by-one xs ys trace
 effects-one-by-one (Closes j ∷ xs) ys trace = effects-one-by-one xs ys trace
 effects-one-by-one (Emitted e ∷ xs) ys trace = effects-one-by-one xs ys (emit e trace)
-effects-one-by-one (Handed o destination ∷ xs) ys trace = effects-one-by-one xs ys (add_child o destination trace)
+effects-one-by-one (Starts o destination ∷ xs) ys trace = effects-one-by-one xs ys (add_child o destination trace)
 effects-one-by-one (Syncs ∷ xs) ys trace = effects-one-by-one xs ys trace
 effects-one-by-one (Loops ∷ xs) ys trace = effects-one-by-one xs ys trace
 
@@ -68,21 +68,21 @@ after-front : (events : List Event) (p : AwaitedChild) (ps : List AwaitedChild) 
 after-front events p [] e = refl
 after-front events p (q ∷ qs) e = after-front p.after q qs e
 
-front-prefix : (e : Event) (trace : Trace) → trace.fault ≡ None → front_of (emit e trace).prefix (emit e trace).handed ≡ front_of trace.prefix trace.handed ++ e ∷ []
-front-prefix e trace none = by_parts trace.handed
+front-prefix : (e : Event) (trace : Trace) → trace.fault ≡ None → front_of (emit e trace).prefix (emit e trace).unmerged ≡ front_of trace.prefix trace.unmerged ++ e ∷ []
+front-prefix e trace none = by_parts trace.unmerged
   where
-    by_parts : (ps : List AwaitedChild) → let q : Trace = emit_at ps e (record { prefix = trace.prefix; fault = trace.fault; handed = ps }) in front_of q.prefix q.handed ≡ front_of trace.prefix ps ++ e ∷ []
+    by_parts : (ps : List AwaitedChild) → let q : Trace = emit_at ps e (record { prefix = trace.prefix; fault = trace.fault; unmerged = ps }) in front_of q.prefix q.unmerged ≡ front_of trace.prefix ps ++ e ∷ []
     by_parts [] = ap (λ (f : Option Fault). prefix_unless f trace.prefix (e ∷ [])) none
     by_parts (p ∷ ps) = after-front trace.prefix p ps e
 
 module _ (plan : PlanView) (o : Origin) where
   abbrev pub Shown : Trace → Type 0
-  Shown trace = AreShownBy plan o [] trace.prefix trace.handed
+  Shown trace = AreShownBy plan o [] trace.prefix trace.unmerged
 
   emit-shown : (e : Event) (trace : Trace) → Shown trace → Shown (emit e trace)
-  emit-shown e trace h = by_parts trace.handed h
+  emit-shown e trace h = by_parts trace.unmerged h
     where
-      by_parts : (ps : List AwaitedChild) → AreShownBy plan o [] trace.prefix ps → Shown (emit_at ps e (record { prefix = trace.prefix; fault = trace.fault; handed = ps }))
+      by_parts : (ps : List AwaitedChild) → AreShownBy plan o [] trace.prefix ps → Shown (emit_at ps e (record { prefix = trace.prefix; fault = trace.fault; unmerged = ps }))
       by_parts [] s = tt
       by_parts (p ∷ ps) s = after-shown plan o [] trace.prefix p ps e s
 
@@ -94,16 +94,16 @@ module _ (plan : PlanView) (o : Origin) where
       Begins own_path e c → (trace : Trace) → trace.fault ≡ None → Shown trace → Shown (add_child c destination (emit e trace))
   begun-shown e c destination own b trace none h =
       let next : Trace = emit e trace in
-      shown-more plan o [] next.prefix next.handed (record { child = c; destination = destination; after = [] }) (emit-shown e trace h)
-      (own next.handed (front_of next.prefix next.handed) (record { rank = b.rank; more = b.more; at = b.at; whole = b.whole; event = there }))
+      shown-more plan o [] next.prefix next.unmerged (record { child = c; destination = destination; after = [] }) (emit-shown e trace h)
+      (own next.unmerged (front_of next.prefix next.unmerged) (record { rank = b.rank; more = b.more; at = b.at; whole = b.whole; event = there }))
     where
       old : List Event
-      old = front_of trace.prefix trace.handed
+      old = front_of trace.prefix trace.unmerged
 
       last : Contains (raising_pedigrees old ++ path_of c ∷ []) (path_of c)
       last = Contains-append_right (raising_pedigrees old) (path_of c ∷ []) (path_of c) (first-contained (path_of c) [])
 
-      there : Contains (raising_pedigrees (front_of (emit e trace).prefix (emit e trace).handed)) (path_of c)
+      there : Contains (raising_pedigrees (front_of (emit e trace).prefix (emit e trace).unmerged)) (path_of c)
       there = subst (λ (l : List (List ℕ)). Contains l (path_of c)) (sym (ap raising_pedigrees (front-prefix e trace none) ∙ places-append old (e ∷ []) ∙ ap (λ (l : List (List ℕ)). raising_pedigrees old ++ l) b.raised_at)) last
 
   -- effects after which all is still shown
@@ -134,6 +134,6 @@ module _ (plan : PlanView) (o : Origin) where
       at_loop e c target true begins trace none s = emit-shown e trace s
       at_loop e c target false begins trace none s = begun-shown e c (Looped target) (λ front events b. b) begins trace none s
 
-  -- A move hands out no child but after the event by which it begins.
+  -- A move begins no child but after the event by which it begins.
   pub move-shows : (m : Machine) → KeepsShown (move plan own_path m).items
   move-shows m = effects-move KeepsShown plan own_path shows m

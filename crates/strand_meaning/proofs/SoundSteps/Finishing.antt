@@ -9,7 +9,7 @@ use Rattle.serial_meaning.specs.declared.value.Value.{Value}
 use Rattle.serial_meaning.specs.declared.event.Fault.{Fault}
 use Rattle.serial_meaning.specs.declared.event.Event.{Event}
 use Rattle.serial_meaning.specs.declared.origin.Origin.{Origin}
-use Rattle.strand_meaning.specs.Machine.{Destination, Spawned, Looped, Half, Effect, Opens, Closes, Emitted, Handed, Syncs, Loops}
+use Rattle.strand_meaning.specs.Machine.{Destination, Spawned, Looped, Half, Effect, Opens, Closes, Emitted, Starts, Syncs, Loops}
 use Rattle.strand_meaning.specs.Trace.{AwaitedChild, Trace, after_last, emit, emit_at, add_child, with_effects}
 use Rattle.strand_meaning.specs.Task.{more_values}
 use Rattle.strand_meaning.specs.Rest.{closed_run, prefix_run, awaited_run}
@@ -21,16 +21,16 @@ abbrev pub NotHalf : Effect → Type 0
 NotHalf (Opens j) = Unit {0}
 NotHalf (Closes j) = Unit {0}
 NotHalf (Emitted e) = Unit {0}
-NotHalf (Handed o (Spawned height target)) = Unit {0}
-NotHalf (Handed o (Looped target)) = Unit {0}
-NotHalf (Handed o Half) = ⊥
+NotHalf (Starts o (Spawned height target)) = Unit {0}
+NotHalf (Starts o (Looped target)) = Unit {0}
+NotHalf (Starts o Half) = ⊥
 NotHalf Syncs = Unit {0}
 NotHalf Loops = Unit {0}
 
 module _ (child : Origin → Evaluation) where
   -- a trace, and then the rest
   abbrev pub so_far : Trace → List Value → (List Value → Evaluation) → Evaluation
-  so_far trace values tail = prefix_run trace then λ u. awaited_run child trace.handed values then tail
+  so_far trace values tail = prefix_run trace then λ u. awaited_run child trace.unmerged values then tail
 
   -- what effects show, and then the rest
   abbrev pub played : List Effect → Evaluation → Evaluation
@@ -38,7 +38,7 @@ module _ (child : Origin → Evaluation) where
   played (Opens j ∷ ts) r = played ts r
   played (Closes j ∷ ts) r = played ts r
   played (Emitted e ∷ ts) r = after_items (e ∷ []) (played ts r)
-  played (Handed o destination ∷ ts) r = child o then λ vs. played ts r
+  played (Starts o destination ∷ ts) r = child o then λ vs. played ts r
   played (Syncs ∷ ts) r = played ts r
   played (Loops ∷ ts) r = played ts r
 
@@ -61,10 +61,10 @@ module _ (child : Origin → Evaluation) where
       ∙ sym (then-then (child p.child) (λ vs. after_items p.after (awaited_run child (q ∷ qs) (more_values p.destination (Ok vs) values))) (λ vs. after_items (e ∷ []) (tail vs)))
 
   emit-so_far : (e : Event) (trace : Trace) (values : List Value) (tail : List Value → Evaluation) → so_far (emit e trace) values tail ≡ so_far trace values (λ vs. after_items (e ∷ []) (tail vs))
-  emit-so_far e trace values tail = by_parts trace.handed trace.fault
+  emit-so_far e trace values tail = by_parts trace.unmerged trace.fault
     where
       by_parts : (ps : List AwaitedChild) (f : Option Fault) →
-          so_far (emit_at ps e (record { prefix = trace.prefix; fault = f; handed = ps })) values tail ≡ so_far (record { prefix = trace.prefix; fault = f; handed = ps }) values (λ vs. after_items (e ∷ []) (tail vs))
+          so_far (emit_at ps e (record { prefix = trace.prefix; fault = f; unmerged = ps })) values tail ≡ so_far (record { prefix = trace.prefix; fault = f; unmerged = ps }) values (λ vs. after_items (e ∷ []) (tail vs))
       by_parts [] None = ap (λ (l : List Event). record { items = l; ending = (tail values).ending }) (append_assoc trace.prefix (e ∷ []) (tail values).items)
       by_parts [] (Some f) = refl
       by_parts (p ∷ ps) None = ap (after_items trace.prefix) (parts-emit p ps e values tail)
@@ -89,7 +89,7 @@ module _ (child : Origin → Evaluation) where
   pub add_child-so_far : (o : Origin) (destination : Destination) (trace : Trace) (values : List Value) (tail : List Value → Evaluation) →
       so_far (add_child o destination trace) values tail ≡ so_far trace values (λ vs. child o then λ ws. tail (more_values destination (Ok ws) vs))
   add_child-so_far o destination trace values tail =
-      prefix-same trace _ _ (parts-add_child trace.handed (record { child = o; destination = destination; after = [] }) values tail)
+      prefix-same trace _ _ (parts-add_child trace.unmerged (record { child = o; destination = destination; after = [] }) values tail)
 
   -- What a move showed stands after the trace, and before the rest.
   pub effects-so_far : (ts : List Effect) → Each NotHalf ts → (trace : Trace) (values : List Value) (tail : List Value → Evaluation) →
@@ -98,20 +98,20 @@ module _ (child : Origin → Evaluation) where
   effects-so_far (Opens j ∷ ts) own trace values tail = effects-so_far ts own.1 trace values tail
   effects-so_far (Closes j ∷ ts) own trace values tail = effects-so_far ts own.1 trace values tail
   effects-so_far (Emitted e ∷ ts) own trace values tail = effects-so_far ts own.1 (emit e trace) values tail ∙ emit-so_far e trace values (λ vs. played ts (tail vs))
-  effects-so_far (Handed o (Spawned height target) ∷ ts) own trace values tail =
+  effects-so_far (Starts o (Spawned height target) ∷ ts) own trace values tail =
       effects-so_far ts own.1 (add_child o (Spawned height target) trace) values tail ∙ add_child-so_far o (Spawned height target) trace values (λ vs. played ts (tail vs))
-  effects-so_far (Handed o (Looped target) ∷ ts) own trace values tail =
+  effects-so_far (Starts o (Looped target) ∷ ts) own trace values tail =
       effects-so_far ts own.1 (add_child o (Looped target) trace) values tail ∙ add_child-so_far o (Looped target) trace values (λ vs. played ts (tail vs))
-  effects-so_far (Handed o Half ∷ ts) own trace values tail = absurd own.0
+  effects-so_far (Starts o Half ∷ ts) own trace values tail = absurd own.0
   effects-so_far (Syncs ∷ ts) own trace values tail = effects-so_far ts own.1 trace values tail
   effects-so_far (Loops ∷ ts) own trace values tail = effects-so_far ts own.1 trace values tail
 
--- each child that effects hand out gives the same by both
+-- each child that effects begin gives the same by both
 abbrev pub SameChild : (Origin → Evaluation) → (Origin → Evaluation) → Effect → Type 0
 SameChild some other (Opens j) = Unit {0}
 SameChild some other (Closes j) = Unit {0}
 SameChild some other (Emitted e) = Unit {0}
-SameChild some other (Handed o destination) = some o ≡ other o
+SameChild some other (Starts o destination) = some o ≡ other o
 SameChild some other Syncs = Unit {0}
 SameChild some other Loops = Unit {0}
 
@@ -121,7 +121,7 @@ played-closed some other [] same r go = refl
 played-closed some other (Opens j ∷ ts) same r go = played-closed some other ts same.1 r go
 played-closed some other (Closes j ∷ ts) same r go = played-closed some other ts same.1 r go
 played-closed some other (Emitted e ∷ ts) same r go = after-then (e ∷ []) (closed_run some (after_items (effect_items ts) r)) go ∙ ap (after_items (e ∷ [])) (played-closed some other ts same.1 r go)
-played-closed some other (Handed o destination ∷ ts) same r go =
+played-closed some other (Starts o destination ∷ ts) same r go =
     then-then (some o) (λ vs. closed_run some (after_items (effect_items ts) r)) go
     ∙ ap (λ (q : Evaluation). some o then λ vs. q) (played-closed some other ts same.1 r go)
     ∙ ap (λ (q : Evaluation). q then λ vs. played other ts (closed_run some r then go)) same.0

@@ -37,11 +37,11 @@ parts-end child (p ∷ ps) values tail gave = by_end (child p.child).ending gave
         let end = later vs in
         (end.0, ap (λ (r : Evaluation). r.ending) (after-then (child p.child).items (after_items p.after (rest vs)) tail ∙ ap (after_items (child p.child).items) (after-then p.after (rest vs) tail)) ∙ end.1)
 
-so_far-end : (child : Origin → Evaluation) (trace : Trace) (values : List Value) (tail : List Value → Evaluation) → trace.fault ≡ None → GaveValues child trace.handed →
+so_far-end : (child : Origin → Evaluation) (trace : Trace) (values : List Value) (tail : List Value → Evaluation) → trace.fault ≡ None → GaveValues child trace.unmerged →
     (vs : List Value) × ((so_far child trace values tail).ending ≡ (tail vs).ending)
 so_far-end child trace values tail none gave =
-    let end = parts-end child trace.handed values tail gave in
-    (end.0, ap (λ (f : Option Fault). (prefix_run (record trace { fault = f }) then λ u. awaited_run child trace.handed values then tail).ending) none ∙ end.1)
+    let end = parts-end child trace.unmerged values tail gave in
+    (end.0, ap (λ (f : Option Fault). (prefix_run (record trace { fault = f }) then λ u. awaited_run child trace.unmerged values then tail).ending) none ∙ end.1)
 
 same-fault : (f g : Fault) → ◌≡◌ {A = Result (List Value) Fault} (Err g) (Err f) → g ≡ f
 same-fault f g e = ap fault_or e
@@ -51,7 +51,7 @@ same-fault f g e = ap fault_or e
     fault_or (Err x) = x
 
 -- It ends by no fault before the first iteration left.
-pub ends-later : (t : Task) → IsTask t → t.trace.fault ≡ None → GaveValues (eval t.plan) t.trace.handed → (function : ℕ) (rest : List Value) (first : ℤ) (path : List ℕ) (range left : Range) →
+pub ends-later : (t : Task) → IsTask t → t.trace.fault ≡ None → GaveValues (eval t.plan) t.trace.unmerged → (function : ℕ) (rest : List Value) (first : ℤ) (path : List ℕ) (range left : Range) →
     t.origin ≡ Loop function rest first path range → t.remaining ≡ Splits left → (f : Fault) → (eval t.plan (Loop function rest first path range)).ending ≡ Err f →
     (k : ℕ) × (more : List ℕ) × (f.at ≡ path ++ k ∷ more) × (left.lo ≤ k)
 ends-later t is none gave function rest first path range left loop at f e = by_end r.ending rises.below ends
@@ -62,15 +62,15 @@ ends-later t is none gave function rest first path range left loop at f e = by_e
     rises : Rising path (λ (vs : List Value). left.lo + (left.hi - left.lo)) left.lo r
     rises = turns-rise t.plan (eval t.plan) (eval-rises t.plan) path function rest first left.lo (left.hi - left.lo)
 
-    so : (vs : List Value) × ((so_far (eval t.plan) t.trace t.values (remaining_run t.plan t.origin t.trace.handed t.remaining)).ending ≡ (remaining_run t.plan t.origin t.trace.handed t.remaining vs).ending)
-    so = so_far-end (eval t.plan) t.trace t.values (remaining_run t.plan t.origin t.trace.handed t.remaining) none gave
+    so : (vs : List Value) × ((so_far (eval t.plan) t.trace t.values (remaining_run t.plan t.origin t.trace.unmerged t.remaining)).ending ≡ (remaining_run t.plan t.origin t.trace.unmerged t.remaining vs).ending)
+    so = so_far-end (eval t.plan) t.trace t.values (remaining_run t.plan t.origin t.trace.unmerged t.remaining) none gave
 
     after : Result (List Value) Fault → Evaluation
     after q = record { items = r.items; ending = q } then λ us. done (so.0 ++ us)
 
     ends : (after r.ending).ending ≡ Err f
     ends =
-        sym (ap (λ (w : Remaining). (remaining_run t.plan t.origin t.trace.handed w so.0).ending) at ∙ ap (λ (o : Origin). (iterations_left (eval t.plan) o left then λ us. done (so.0 ++ us)).ending) loop)
+        sym (ap (λ (w : Remaining). (remaining_run t.plan t.origin t.trace.unmerged w so.0).ending) at ∙ ap (λ (o : Origin). (iterations_left (eval t.plan) o left then λ us. done (so.0 ++ us)).ending) loop)
         ∙ sym so.1 ∙ ap (λ (q : Evaluation). q.ending) is.finishes ∙ ap (λ (o : Origin). (eval t.plan o).ending) loop ∙ e
 
     by_end : (q : Result (List Value) Fault) → Below path (λ (vs : List Value). left.lo + (left.hi - left.lo)) left.lo rises.hi (raising_pedigrees r.items) q → (after q).ending ≡ Err f →

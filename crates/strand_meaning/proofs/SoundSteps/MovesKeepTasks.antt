@@ -12,7 +12,7 @@ use Rattle.serial_meaning.proofs.Equations.Each.{Each}
 use Rattle.serial_meaning.specs.declared.value.Value.{Value}
 use Rattle.serial_meaning.specs.declared.event.Fault.{Fault}
 use Rattle.serial_meaning.specs.declared.origin.Origin.{Origin}
-use Rattle.strand_meaning.specs.Machine.{Destination, Spawned, Looped, Half, Effect, Opens, Closes, Emitted, Handed, Syncs, Loops, Machine, Reached, Stands, Gives, move}
+use Rattle.strand_meaning.specs.Machine.{Destination, Spawned, Looped, Half, Effect, Opens, Closes, Emitted, Starts, Syncs, Loops, Machine, Reached, Stands, Gives, move}
 use Rattle.strand_meaning.specs.Trace.{AwaitedChild, Trace, with_effects}
 use Rattle.strand_meaning.specs.Task.{Stage, Running, Ended, Remaining, Runs, Task, own_instance, stage_after, child_in, stops_at, passing, step_result, resumed}
 use Rattle.strand_meaning.specs.Rest.{children_of, rest_of_stage, rest_open, closed_run, awaited_run, prefix_run, remaining_run, all_with, finish}
@@ -37,7 +37,7 @@ use Rattle.strand_meaning.proofs.Unfilled.UntouchedStays.{first-contained, later
 
 pub so_far-same : (child : Origin → Evaluation) (trace : Trace) (values : List Value) (f g : List Value → Evaluation) → ((vs : List Value) → f vs ≡ g vs) → so_far child trace values f ≡ so_far child trace values g
 so_far-same child trace values f g same =
-    ap (λ (r : Evaluation). prefix_run trace then λ u. r) (then-same (awaited_run child trace.handed values) f g (λ vs h. same vs))
+    ap (λ (r : Evaluation). prefix_run trace then λ u. r) (then-same (awaited_run child trace.unmerged values) f g (λ vs h. same vs))
 
 pub parts-append : (plan : PlanView) (o : Origin) (ps qs : List AwaitedChild) → AreSoundChildren plan o ps → AreSoundChildren plan o qs → AreSoundChildren plan o (ps ++ qs)
 parts-append plan o [] qs h k = k
@@ -57,11 +57,11 @@ module _ (plan : PlanView) (o : Origin) where
   new-parts (Opens j ∷ ts) own h = new-parts ts own.1 (λ c k. h c (later-contained (Opened j) (Child c) (effect_items ts) k))
   new-parts (Closes j ∷ ts) own h = new-parts ts own.1 (λ c k. h c (later-contained (Closed j) (Child c) (effect_items ts) k))
   new-parts (Emitted e ∷ ts) own h = new-parts ts own.1 (λ c k. h c (later-contained (Happened e) (Child c) (effect_items ts) k))
-  new-parts (Handed c (Spawned height target) ∷ ts) own h =
+  new-parts (Starts c (Spawned height target) ∷ ts) own h =
       let k = h c (first-contained (Child c) (effect_items ts)) in (record { known = k.0; fits = tt; same = inr k.1 }, new-parts ts own.1 (λ d g. h d (later-contained (Child c) (Child d) (effect_items ts) g)))
-  new-parts (Handed c (Looped target) ∷ ts) own h =
+  new-parts (Starts c (Looped target) ∷ ts) own h =
       let k = h c (first-contained (Child c) (effect_items ts)) in (record { known = k.0; fits = tt; same = inr k.1 }, new-parts ts own.1 (λ d g. h d (later-contained (Child c) (Child d) (effect_items ts) g)))
-  new-parts (Handed c Half ∷ ts) own h = absurd own.0
+  new-parts (Starts c Half ∷ ts) own h = absurd own.0
   new-parts (Syncs ∷ ts) own h = new-parts ts own.1 h
   new-parts (Loops ∷ ts) own h = new-parts ts own.1 h
 
@@ -70,7 +70,7 @@ module _ (plan : PlanView) (o : Origin) where
   same-children (Opens j ∷ ts) h = (tt, same-children ts (λ c k. h c (later-contained (Opened j) (Child c) (effect_items ts) k)))
   same-children (Closes j ∷ ts) h = (tt, same-children ts (λ c k. h c (later-contained (Closed j) (Child c) (effect_items ts) k)))
   same-children (Emitted e ∷ ts) h = (tt, same-children ts (λ c k. h c (later-contained (Happened e) (Child c) (effect_items ts) k)))
-  same-children (Handed c destination ∷ ts) h =
+  same-children (Starts c destination ∷ ts) h =
       ((h c (first-contained (Child c) (effect_items ts))).1, same-children ts (λ d g. h d (later-contained (Child c) (Child d) (effect_items ts) g)))
   same-children (Syncs ∷ ts) h = (tt, same-children ts h)
   same-children (Loops ∷ ts) h = (tt, same-children ts h)
@@ -80,7 +80,7 @@ module _ (plan : PlanView) (o : Origin) where
   child-known (Opens j ∷ ts) c h e = child-known ts c (λ d k. h d (later-contained (Opened j) (Child d) (effect_items ts) k)) e
   child-known (Closes j ∷ ts) c h e = child-known ts c (λ d k. h d (later-contained (Closed j) (Child d) (effect_items ts) k)) e
   child-known (Emitted x ∷ ts) c h e = child-known ts c (λ d k. h d (later-contained (Happened x) (Child d) (effect_items ts) k)) e
-  child-known (Handed d destination ∷ ts) c h e = subst Known (by_some e) (h d (first-contained (Child d) (effect_items ts)))
+  child-known (Starts d destination ∷ ts) c h e = subst Known (by_some e) (h d (first-contained (Child d) (effect_items ts)))
     where
       or_first : Option Origin → Origin
       or_first None = d
@@ -107,7 +107,7 @@ halves-places (p ∷ ps) h = (from p.destination h.0, halves-places ps h.1)
 
 -- A task whose instance moves
 module _ (t : Task) (is : IsTask t) (m : Machine) (own-known : IsOriginOf t.plan (own_instance t.origin)) (is-loop : IsInstanceOrLoop t.origin)
-    (far : IsSoFar t.plan (own_instance t.origin) t.trace.handed (Running m)) (sound : IsSoundStage t.plan t.trace.handed (Running m)) (pends : UnfilledArePending t.plan t.trace.handed (Running m)) (at : t.remaining ≡ Runs (Running m)) where
+    (far : IsSoFar t.plan (own_instance t.origin) t.trace.unmerged (Running m)) (sound : IsSoundStage t.plan t.trace.unmerged (Running m)) (pends : UnfilledArePending t.plan t.trace.unmerged (Running m)) (at : t.remaining ≡ Runs (Running m)) where
   abbrev own : Origin
   own = own_instance t.origin
 
@@ -118,7 +118,7 @@ module _ (t : Task) (is : IsTask t) (m : Machine) (own-known : IsOriginOf t.plan
   kids = children_of t.plan own
 
   abbrev ps : List AwaitedChild
-  ps = t.trace.handed
+  ps = t.trace.unmerged
 
   -- what a move shows and leaves, as an equation of what remains
   abbrev Leaves : List Effect → Run Item NodeFault Value → Type 0
@@ -158,7 +158,7 @@ module _ (t : Task) (is : IsTask t) (m : Machine) (own-known : IsOriginOf t.plan
   }
     where
       after : List AwaitedChild
-      after = (with_effects ts t.trace).handed
+      after = (with_effects ts t.trace).unmerged
 
       alike : Alike (ps ++ effect_parts ts) after
       alike = alike-effects ts t.trace

@@ -76,7 +76,7 @@ halves-none height (p ∷ ps) h = ap (λ b. b || any_by height ps) (from p.desti
     from (Looped target) g = absurd g
     from Half g = refl
 
--- and it is sound, whatever parts of a loop were handed out
+-- and it is sound, whatever parts of a loop were begun
 pub begun-sound : (plan : PlanView) (function : ℕ) (args : List Value) (ps : List AwaitedChild) → IsClearPlan plan → AreHalves ps → IsSoundStage plan ps (begun_stage (function_begun plan function args))
 begun-sound plan function args ps clear halves = by_function (function_at (functions_of plan) function) refl
   where

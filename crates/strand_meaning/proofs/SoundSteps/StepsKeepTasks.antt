@@ -73,10 +73,10 @@ end-is t is r h ended e = by_fault t.trace.fault refl
         (record { events = ap (λ (p : Evaluation). p.items) same; ends = e ∙ ap (λ (p : Evaluation). outcome_of o p.ending) same }, subst (IsFaultOf t.plan) (sym e) (fault-of t.plan o r (within q same)))
 
 -- a task without children
-alone : (t : Task) → t.trace.handed ≡ [] → finish t ≡ (prefix_run t.trace then λ u. remaining_run t.plan t.origin [] t.remaining t.values)
+alone : (t : Task) → t.trace.unmerged ≡ [] → finish t ≡ (prefix_run t.trace then λ u. remaining_run t.plan t.origin [] t.remaining t.values)
 alone t h = ap (λ (ps : List AwaitedChild). prefix_run t.trace then λ u. awaited_run (eval t.plan) ps t.values then remaining_run t.plan t.origin ps t.remaining) h
 
-end-alone : (t : Task) → IsTask t → t.trace.handed ≡ [] → (r : Result (List Value) Fault) → remaining_run t.plan t.origin [] t.remaining t.values ≡ record { items = []; ending = r } →
+end-alone : (t : Task) → IsTask t → t.trace.unmerged ≡ [] → (r : Result (List Value) Fault) → remaining_run t.plan t.origin [] t.remaining t.values ≡ record { items = []; ending = r } →
     (ended : Outcome) → ended ≡ outcome_of t.origin r → IsSoundStep t (ends t ended)
 end-alone t is none r h ended e = end-is t is r (ap (λ (q : Evaluation). prefix_run t.trace then λ u. q) (sym h) ∙ sym (alone t none) ∙ is.finishes) ended e
 
@@ -95,10 +95,10 @@ waits-sound : (t : Task) → IsTask t → IsSoundStep t (waits t)
 waits-sound t is = record { finishes = is.finishes; known = is.known; clear = is.clear; awaiting = is.awaiting; shown = is.shown; remaining = is.remaining; pending = is.pending; found = is.found }
 
 -- other work that gives the same
-with-remaining : (t : Task) → IsTask t → (remaining : Remaining) → ((vs : List Value) → remaining_run t.plan t.origin t.trace.handed t.remaining vs ≡ remaining_run t.plan t.origin t.trace.handed remaining vs) →
-    IsSoundRemaining t.plan t.origin t.trace.handed remaining → UnfilledArePendingIn t.plan t.trace.handed remaining → FindsTargets t.plan (functions_left remaining) t.trace.handed → IsTask (record t { remaining = remaining; advanced = true })
+with-remaining : (t : Task) → IsTask t → (remaining : Remaining) → ((vs : List Value) → remaining_run t.plan t.origin t.trace.unmerged t.remaining vs ≡ remaining_run t.plan t.origin t.trace.unmerged remaining vs) →
+    IsSoundRemaining t.plan t.origin t.trace.unmerged remaining → UnfilledArePendingIn t.plan t.trace.unmerged remaining → FindsTargets t.plan (functions_left remaining) t.trace.unmerged → IsTask (record t { remaining = remaining; advanced = true })
 with-remaining t is remaining same sound pends finds = record {
-  finishes = sym (so_far-same (eval t.plan) t.trace t.values (remaining_run t.plan t.origin t.trace.handed t.remaining) (remaining_run t.plan t.origin t.trace.handed remaining) same) ∙ is.finishes;
+  finishes = sym (so_far-same (eval t.plan) t.trace t.values (remaining_run t.plan t.origin t.trace.unmerged t.remaining) (remaining_run t.plan t.origin t.trace.unmerged remaining) same) ∙ is.finishes;
   known = is.known;
   clear = is.clear;
   awaiting = is.awaiting;
@@ -110,7 +110,7 @@ with-remaining t is remaining same sound pends finds = record {
 
 module _ (t : Task) (is : IsTask t) where
   abbrev ps : List AwaitedChild
-  ps = t.trace.handed
+  ps = t.trace.unmerged
 
   abbrev run_at : List AwaitedChild → Remaining → List Value → Evaluation
   run_at parts remaining values = remaining_run t.plan t.origin parts remaining values
@@ -267,7 +267,7 @@ module _ (t : Task) (is : IsTask t) where
             some : range.lo < range.hi
             some = let top : left.hi ≡ range.hi = end-of.1 in let low : range.lo ≤ left.lo = end-of.0 in omega arith
 
-    -- the lower half of it is handed out
+    -- the lower half of it is begun
     half-left : left.lo + 2 ≤ left.hi → IsSoundStep t (Stops (Spawn (first_half t.origin left) (record t { trace = add_child (first_half t.origin left) Half t.trace; remaining = Splits (upper_half left); advanced = true })))
     half-left h = (
       subst (IsOriginOf t.plan) (sym half-is) known-half,
@@ -279,7 +279,7 @@ module _ (t : Task) (is : IsTask t) where
         shown = λ none. shown-more t.plan t.origin [] t.trace.prefix ps (record { child = first_half t.origin left; destination = Half; after = [] }) (is.shown none) (part none);
         remaining = (subst (λ (o : Origin). IsEndOf o (upper_half left)) (sym loop) upper, more ps halves);
         pending = tt;
-        found = λ plan-found. found-nowhere t.plan (add_child (first_half t.origin left) Half t.trace).handed;
+        found = λ plan-found. found-nowhere t.plan (add_child (first_half t.origin left) Half t.trace).unmerged;
       },
     )
       where

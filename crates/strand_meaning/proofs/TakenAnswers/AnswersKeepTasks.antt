@@ -53,11 +53,11 @@ module _ (child : Origin → Evaluation) where
   heard-so_far (p ∷ ps) trace values tail =
       heard-one p ps trace values tail ∙ heard-so_far ps (merged_answer p (child p.child) trace) (more_values p.destination (child p.child).ending values) tail
 
-  heard-none : (ps : List AwaitedChild) (trace : Trace) → trace.handed ≡ [] → (merged_answers ps (evaluations child ps) trace).handed ≡ []
+  heard-none : (ps : List AwaitedChild) (trace : Trace) → trace.unmerged ≡ [] → (merged_answers ps (evaluations child ps) trace).unmerged ≡ []
   heard-none [] trace h = h
   heard-none (p ∷ ps) trace h = heard-none ps (merged_answer p (child p.child) trace) (by_cases trace.fault (child p.child).ending)
     where
-      by_cases : (f : Option Fault) (q : Result (List Value) Fault) → (merged_answer_unless f trace.prefix p (child p.child).items q).handed ≡ []
+      by_cases : (f : Option Fault) (q : Result (List Value) Fault) → (merged_answer_unless f trace.prefix p (child p.child).items q).unmerged ≡ []
       by_cases (Some f) q = refl
       by_cases None (Ok vs) = refl
       by_cases None (Err f) = refl
@@ -281,7 +281,7 @@ resumed-sound plan stage (inr h) = subst (λ (x : Stage). IsSoundStage plan [] (
 
 module _ (t : Task) (is : IsTask t) where
   abbrev ps : List AwaitedChild
-  ps = t.trace.handed
+  ps = t.trace.unmerged
 
   abbrev answers : List Evaluation
   answers = evaluations (eval t.plan) ps
@@ -293,7 +293,7 @@ module _ (t : Task) (is : IsTask t) where
   kids = children_of t.plan own
 
   abbrev trace-on : Trace
-  trace-on = merged_answers ps answers (record t.trace { handed = [] })
+  trace-on = merged_answers ps answers (record t.trace { unmerged = [] })
 
   abbrev taken_stage : Stage → Stage
   taken_stage stage = resumed (takes_all ps answers stage)
@@ -320,14 +320,14 @@ module _ (t : Task) (is : IsTask t) where
   remaining-pending (Runs stage) p = answers-pending t.plan (eval t.plan) ps stage p
   remaining-pending (Finished v gone_on) p = tt
 
-  pub none-handed : trace-on.handed ≡ []
-  none-handed = heard-none (eval t.plan) ps (record t.trace { handed = [] }) refl
+  pub none-unmerged : trace-on.unmerged ≡ []
+  none-unmerged = heard-none (eval t.plan) ps (record t.trace { unmerged = [] }) refl
 
   finishes : finish (on answers t) ≡ eval t.plan t.origin
   finishes =
       let tail : List Value → Evaluation = remaining_run t.plan t.origin [] (resumed_remaining ps answers t.remaining) in
-      ap (λ (qs : List AwaitedChild). prefix_run trace-on then λ u. awaited_run (eval t.plan) qs (all_values ps answers t.values) then remaining_run t.plan t.origin qs (resumed_remaining ps answers t.remaining)) none-handed
-      ∙ sym (heard-so_far (eval t.plan) ps (record t.trace { handed = [] }) t.values tail)
+      ap (λ (qs : List AwaitedChild). prefix_run trace-on then λ u. awaited_run (eval t.plan) qs (all_values ps answers t.values) then remaining_run t.plan t.origin qs (resumed_remaining ps answers t.remaining)) none-unmerged
+      ∙ sym (heard-so_far (eval t.plan) ps (record t.trace { unmerged = [] }) t.values tail)
       ∙ sym (so_far-same (eval t.plan) t.trace t.values (remaining_run t.plan t.origin ps t.remaining) tail (remaining-same t.remaining))
       ∙ is.finishes
 
@@ -336,13 +336,13 @@ module _ (t : Task) (is : IsTask t) where
     finishes = finishes;
     known = is.known;
     clear = is.clear;
-    awaiting = subst (AreSoundChildren t.plan t.origin) (sym none-handed) tt;
-    shown = λ none. subst (AreShownBy t.plan t.origin [] trace-on.prefix) (sym none-handed) tt;
-    remaining = subst (λ (qs : List AwaitedChild). IsSoundRemaining t.plan t.origin qs (resumed_remaining ps answers t.remaining)) (sym none-handed) (remaining-sound t.remaining is.remaining);
-    pending = subst (λ (qs : List AwaitedChild). UnfilledArePendingIn t.plan qs (resumed_remaining ps answers t.remaining)) (sym none-handed) (remaining-pending t.remaining is.pending);
-    found = λ plan-found. subst (FindsTargets t.plan (functions_left (resumed_remaining ps answers t.remaining))) (sym none-handed) tt;
+    awaiting = subst (AreSoundChildren t.plan t.origin) (sym none-unmerged) tt;
+    shown = λ none. subst (AreShownBy t.plan t.origin [] trace-on.prefix) (sym none-unmerged) tt;
+    remaining = subst (λ (qs : List AwaitedChild). IsSoundRemaining t.plan t.origin qs (resumed_remaining ps answers t.remaining)) (sym none-unmerged) (remaining-sound t.remaining is.remaining);
+    pending = subst (λ (qs : List AwaitedChild). UnfilledArePendingIn t.plan qs (resumed_remaining ps answers t.remaining)) (sym none-unmerged) (remaining-pending t.remaining is.pending);
+    found = λ plan-found. subst (FindsTargets t.plan (functions_left (resumed_remaining ps answers t.remaining))) (sym none-unmerged) tt;
   }
 
 -- A task that takes its children's evaluations stays sound.
-pub answers_keep_tasks : (t : Task) → IsTask t → IsTask (on (evaluations (eval t.plan) t.trace.handed) t)
+pub answers_keep_tasks : (t : Task) → IsTask t → IsTask (on (evaluations (eval t.plan) t.trace.unmerged) t)
 answers_keep_tasks t is = keeps_task t is

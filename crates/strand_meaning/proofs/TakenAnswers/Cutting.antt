@@ -66,14 +66,14 @@ module _ (child : Origin → Evaluation) where
 
   -- The trace up to the first fault of a child, and that fault.
   heard-ends : (prefix : List Event) (front : List AwaitedChild) (p : AwaitedChild) (later : List AwaitedChild) (values : List Value) (tail : List Value → Evaluation) (f : Fault) → GaveValues child front → (child p.child).ending ≡ Err f →
-      after_items prefix (awaited_run child (front ++ p ∷ later) values then tail) ≡ record { items = (merged_answers (front ++ p ∷ []) (evaluations child (front ++ p ∷ [])) (record { prefix = prefix; fault = None; handed = [] })).prefix; ending = Err f }
+      after_items prefix (awaited_run child (front ++ p ∷ later) values then tail) ≡ record { items = (merged_answers (front ++ p ∷ []) (evaluations child (front ++ p ∷ [])) (record { prefix = prefix; fault = None; unmerged = [] })).prefix; ending = Err f }
   heard-ends prefix [] p later values tail f gave e = by_end (child p.child).ending e
     where
       run : Result (List Value) Fault → Evaluation
       run q = record { items = (child p.child).items; ending = q } then λ vs. after_items p.after (awaited_run child later (more_values p.destination (Ok vs) values))
 
       heard_with : Result (List Value) Fault → Trace
-      heard_with q = merged_answers (p ∷ []) (record { items = (child p.child).items; ending = q } ∷ []) (record { prefix = prefix; fault = None; handed = [] })
+      heard_with q = merged_answers (p ∷ []) (record { items = (child p.child).items; ending = q } ∷ []) (record { prefix = prefix; fault = None; unmerged = [] })
 
       by_end : (q : Result (List Value) Fault) → q ≡ Err f → after_items prefix (run q then tail) ≡ record { items = (heard_with q).prefix; ending = Err f }
       by_end (Ok vs) g = absurd (cc)
@@ -94,10 +94,10 @@ module _ (child : Origin → Evaluation) where
       with_end r = record { items = (child q.child).items; ending = r } then λ vs. after_items q.after (rest vs)
 
       heard_with : Result (List Value) Fault → Trace
-      heard_with r = merged_answers (q ∷ ps) (record { items = (child q.child).items; ending = r } ∷ evaluations child ps) (record { prefix = prefix; fault = None; handed = [] })
+      heard_with r = merged_answers (q ∷ ps) (record { items = (child q.child).items; ending = r } ∷ evaluations child ps) (record { prefix = prefix; fault = None; unmerged = [] })
 
       by_end : (r : Result (List Value) Fault) →
-          ((vs : List Value) → after_items next (rest vs then tail) ≡ record { items = (merged_answers ps (evaluations child ps) (record { prefix = next; fault = None; handed = [] })).prefix; ending = Err f }) →
+          ((vs : List Value) → after_items next (rest vs then tail) ≡ record { items = (merged_answers ps (evaluations child ps) (record { prefix = next; fault = None; unmerged = [] })).prefix; ending = Err f }) →
           GaveValue r → after_items prefix (with_end r then tail) ≡ record { items = (heard_with r).prefix; ending = Err f }
       by_end (Err x) h g = absurd g
       by_end (Ok vs) h g =
@@ -114,7 +114,7 @@ shown-at plan o before events (q ∷ front) p later h =
     (shown-at plan o (before ++ q ∷ []) q.after front p later h.1)
 
 -- a task's trace without a fault, before the rest
-trace-whole : (t : Task) (ps : List AwaitedChild) → IsTask t → t.trace.fault ≡ None → t.trace.handed ≡ ps →
+trace-whole : (t : Task) (ps : List AwaitedChild) → IsTask t → t.trace.fault ≡ None → t.trace.unmerged ≡ ps →
     after_items t.trace.prefix (awaited_run (eval t.plan) ps t.values then remaining_run t.plan t.origin ps t.remaining) ≡ eval t.plan t.origin
 trace-whole t ps is none e = sym (ap run none) ∙ ap whole (sym e) ∙ is.finishes
   where
@@ -150,7 +150,7 @@ known-at plan o [] p later h = h.0.known
 known-at plan o (q ∷ front) p later h = known-at plan o front p later h.1
 
 -- A child's cut is its parent's.
-pub cuts_pass : (t : Task) (front : List AwaitedChild) (p : AwaitedChild) (later : List AwaitedChild) (by : Fault) → IsTask t → t.trace.fault ≡ None → t.trace.handed ≡ front ++ p ∷ later →
+pub cuts_pass : (t : Task) (front : List AwaitedChild) (p : AwaitedChild) (later : List AwaitedChild) (by : Fault) → IsTask t → t.trace.fault ≡ None → t.trace.unmerged ≡ front ++ p ∷ later →
     GaveValues (eval t.plan) front → IsCut t.plan p.child by → IsCut t.plan t.origin by
 cuts_pass t front p later by is none e gave cut =
     record { known = cut.known; before = by_place p.destination (shown-at t.plan t.origin [] t.trace.prefix front p later (subst (AreShownBy t.plan t.origin [] t.trace.prefix) e (is.shown none))) }
@@ -186,10 +186,10 @@ fault-known plan o out f known same = subst (λ (q : Evaluation). EndsWithin (fa
 
 -- what was heard, where the trace had this fault
 abbrev heard_with : Task → List AwaitedChild → List Evaluation → Option Fault → List Event
-heard_with t ps answers f = (merged_answers ps answers (record t.trace { fault = f; handed = [] })).prefix
+heard_with t ps answers f = (merged_answers ps answers (record t.trace { fault = f; unmerged = [] })).prefix
 
 -- A child's fault is its parent's.
-pub faults_pass : (t : Task) (front : List AwaitedChild) (p : AwaitedChild) (later : List AwaitedChild) (f : Fault) → IsTask t → t.trace.fault ≡ None → t.trace.handed ≡ front ++ p ∷ later →
+pub faults_pass : (t : Task) (front : List AwaitedChild) (p : AwaitedChild) (later : List AwaitedChild) (f : Fault) → IsTask t → t.trace.fault ≡ None → t.trace.unmerged ≡ front ++ p ∷ later →
     GaveValues (eval t.plan) front → (eval t.plan p.child).ending ≡ Err f → IsEval t.plan t.origin (merged_of t (front ++ p ∷ [])).prefix (outcome.Fault f) × Contains (faults t.plan) f
 faults_pass t front p later f is none e gave ended = (eval-fault t.plan t.origin out f same, fault-known t.plan t.origin out f is.known same)
   where
@@ -208,7 +208,7 @@ faults_pass t front p later f is none e gave ended = (eval-fault t.plan t.origin
 -- All answers
 
 -- after a fault nothing is heard
-heard-faulted : (ps : List AwaitedChild) (answers : List Evaluation) (prefix : List Event) (f : Fault) → (merged_answers ps answers (record { prefix = prefix; fault = Some f; handed = [] })).prefix ≡ prefix
+heard-faulted : (ps : List AwaitedChild) (answers : List Evaluation) (prefix : List Event) (f : Fault) → (merged_answers ps answers (record { prefix = prefix; fault = Some f; unmerged = [] })).prefix ≡ prefix
 heard-faulted [] answers prefix f = refl
 heard-faulted (p ∷ ps) [] prefix f = refl
 heard-faulted (p ∷ ps) (a ∷ answers) prefix f = heard-faulted ps answers prefix f
@@ -232,7 +232,7 @@ Says plan p before up_to (outcome.Fault f) = ((eval plan p.child).ending ≡ Err
 Says plan p before up_to (outcome.Cut f) = IsCut plan p.child f
 
 abbrev clear_of : List Event → Trace
-clear_of prefix = record { prefix = prefix; fault = None; handed = [] }
+clear_of prefix = record { prefix = prefix; fault = None; unmerged = [] }
 
 record First (plan : PlanView) (ps : List AwaitedChild) (answers : List Evaluation) (prefix : List Event) (ended : Outcome) : Type 0 where
   front : List AwaitedChild
@@ -292,12 +292,12 @@ first_end plan (p ∷ ps) (a ∷ answers) prefix ended h e =
         subst (First plan (p ∷ ps) (evaluation_of a.out (outcome.Cut f) ∷ rest) prefix) (ended-by (outcome.Cut f) g) (record { front = []; p = p; later = ps; split = refl; gave = tt; says = is })
 
 -- A task that heard a fault or a cut answers by the first of them.
-pub answers_end : (t : Task) (answers : List AnswerView) (ended : Outcome) → IsTask t → AreAnswersOf t.plan t.trace.handed answers → ended_after (by_fault t.trace.fault) answers ≡ Some ended →
-    IsAnswer t.plan t.origin (merged_answers t.trace.handed (answer_evaluations answers) (record t.trace { handed = [] })).prefix ended × IsByFaultOf t.plan ended
+pub answers_end : (t : Task) (answers : List AnswerView) (ended : Outcome) → IsTask t → AreAnswersOf t.plan t.trace.unmerged answers → ended_after (by_fault t.trace.fault) answers ≡ Some ended →
+    IsAnswer t.plan t.origin (merged_answers t.trace.unmerged (answer_evaluations answers) (record t.trace { unmerged = [] })).prefix ended × IsByFaultOf t.plan ended
 answers_end t answers ended is are e = by_trace t.trace.fault refl e
   where
     ps : List AwaitedChild
-    ps = t.trace.handed
+    ps = t.trace.unmerged
 
     heard_by : Option Fault → List Event
     heard_by = heard_with t ps (answer_evaluations answers)

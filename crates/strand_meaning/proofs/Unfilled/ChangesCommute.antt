@@ -14,14 +14,14 @@ use Rattle.script_grammar.specs.declared.tree.Act.TheOpen as act
 use Rattle.script_grammar.specs.declared.tree.Act.TheOpen.{Act-F}
 use Rattle.serial_meaning.specs.Runs.{Run, done, happens, ◌then◌}
 use Rattle.serial_meaning.specs.Names.{names_in}
-use Rattle.serial_meaning.specs.Values.{Env, value_of, values_of, slot_of, items_of, as_integer, is_true, at_index}
+use Rattle.serial_meaning.specs.Values.{Env, value_of, values_of, content_of, items_of, as_integer, is_true, at_index}
 use Rattle.serial_meaning.specs.Functions.{function_number, function_at}
 use Rattle.serial_meaning.specs.Plan.{PlanView, functions_of, drawn}
-use Rattle.serial_meaning.specs.Exec.{State, Manner, strand, unless_fault, paid_from, tested, has_room, loop_fits, with_loop_values, spawn, sync_here, implied, frame, called, right_side, found, store, looped, does, count_of, with_slot, set_item, set_array, bound}
-use Rattle.serial_meaning.specs.Open.{is_empty_loop, filler}
+use Rattle.serial_meaning.specs.Exec.{State, Interpretation, strand, unless_fault, paid_from, tested, has_room, loop_fits, with_loop_values, spawn, sync_here, implied, frame, called, right_side, found, store, looped, does, count_of, with_content, set_item, set_array, bound}
+use Rattle.serial_meaning.specs.Open.{is_empty_loop, placeholder}
 use Rattle.serial_meaning.specs.declared.value.Value.{Value}
 use Rattle.serial_meaning.specs.declared.value.Value.TheVariants.{Int}
-use Rattle.serial_meaning.specs.declared.environment.Slot.TheVariants.{Array}
+use Rattle.serial_meaning.specs.declared.environment.Content.TheVariants.{Array}
 use Rattle.serial_meaning.specs.declared.event.FaultKind.{FaultKind}
 use Rattle.serial_meaning.specs.declared.event.FaultKind.TheVariants.{Index, Depth, Calls, Budget}
 use Rattle.serial_meaning.specs.declared.event.Fault.{Fault}
@@ -30,7 +30,7 @@ use Rattle.serial_meaning.specs.declared.origin.Origin.{Origin}
 use Rattle.serial_meaning.specs.declared.origin.Origin.TheVariants as origin
 use Rattle.strand_meaning.specs.Clear.{names_in_all, names_in_right, target_names, touched}
 use Rattle.script_check.specs.Spawns.{spawns_in}
-use Rattle.strand_meaning.specs.Machine.{Destination, Spawned, Looped, Effect, Opens, Closes, Emitted, Handed, Exit, Faulted, Inside, loop_effects, sync_effects, handing, inside, child_destination, Level, Frame, Machine, Reached, Stands, state_of, inside_of, present, here_of, with_left, into_level, with_leaving, out_of_level, with_returning, with_scalar, back_in_caller, calling, machine_inside, reached, gives, value_run, statement_move, return_move, level_move, end_move, move_at, move}
+use Rattle.strand_meaning.specs.Machine.{Destination, Spawned, Looped, Effect, Opens, Closes, Emitted, Starts, Exit, Faulted, Inside, loop_effects, sync_effects, parallel, inside, child_destination, Level, Frame, Machine, Reached, Stands, state_of, inside_of, present, here_of, with_left, into_level, with_leaving, out_of_level, with_returning, with_scalar, back_in_caller, calling, machine_inside, reached, gives, value_run, statement_move, return_move, level_move, end_move, move_at, move}
 use Rattle.strand_meaning.specs.Task.{changed, changed_at}
 use Rattle.strand_meaning.specs.Laws.{on_reached, changed_run}
 use Rattle.strand_meaning.proofs.Unfilled.RestAfterEffects.{changed-top, same-number}
@@ -59,8 +59,8 @@ module _ (plan : PlanView) (path : List ℕ) (fix : Env → Env) (mark : Option 
   abbrev change : Frame → Frame
   change = altered fix mark
 
-  abbrev what : Destination → Manner Effect Exit Bool
-  what destination = handing plan destination
+  abbrev what : Destination → Interpretation Effect Exit Bool
+  what destination = parallel plan destination
 
   -- the innermost frame is altered
   module _ (m : Machine) (left : List Stmt) (st : Stmt) where
@@ -153,7 +153,7 @@ module _ (plan : PlanView) (path : List ℕ) (fix : Env → Env) (mark : Option 
           by_test : (vs : List Value) (b : Bool) → Same (tested (what destination) plan now b Depth (there n) (child_run destination c vs (there n)) then λ p. done (sets target p)) (tested (what destination) plan now b Depth (here n) (child_run destination c vs (here n)) then λ p. done (sets target p))
           by_test vs true =
               let o = origin.Instance (function_number (functions_of plan) c.name.bytes) vs (now ++ m.rank ∷ []) in
-              so-set (Emitted (event.Spawn (now ++ m.rank ∷ [])) ∷ Handed o destination ∷ []) target (filler plan o) (record { env = m.top.env; rank = m.rank + 1; steps = n; spawned = true }) k
+              so-set (Emitted (event.Spawn (now ++ m.rank ∷ [])) ∷ Starts o destination ∷ []) target (placeholder plan o) (record { env = m.top.env; rank = m.rank + 1; steps = n; spawned = true }) k
           by_test vs false = refl
 
           by_args : (o : Result (List Value) FaultKind) →
@@ -216,11 +216,11 @@ module _ (plan : PlanView) (path : List ℕ) (fix : Env → Env) (mark : Option 
       so-array : (x : Name) (xs ys : List ℤ) (n : ℕ) → xs ≡ ys → Keep fix x.bytes → Same (done (set_array (there n) x xs)) (done (set_array (here n) x ys))
       so-array x xs ys n e k =
           ends-so [] (set_array (there n) x xs) (set_array (here n) x ys)
-          (ap (λ (env : Env). record (here n) { env = env }) (ap (λ (l : List ℤ). with_slot (fix m.top.env) x.bytes (Array l)) e ∙ k.1 m.top.env (Array ys)))
+          (ap (λ (env : Env). record (here n) { env = env }) (ap (λ (l : List ℤ). with_content (fix m.top.env) x.bytes (Array l)) e ∙ k.1 m.top.env (Array ys)))
 
       so-store : (destination : Destination) (x : Name) (i e : Expr) (n : ℕ) → Keeps fix (x.bytes ∷ (names_in i ++ names_in e)) → Same (store (what destination) plan now x i e (there n)) (store (what destination) plan now x i e (here n))
       so-store destination x i e n k =
-          so-given destination (value_of i (fix m.top.env)) (value_of i m.top.env) n _ _ (value-kept fix i m.top.env (each-left (Keep fix) (names_in i) (names_in e) k.1)) (λ v. by_array v (items_of (slot_of (fix m.top.env) x.bytes)) (items_of (slot_of m.top.env x.bytes)) (ap items_of (k.0.0 m.top.env)))
+          so-given destination (value_of i (fix m.top.env)) (value_of i m.top.env) n _ _ (value-kept fix i m.top.env (each-left (Keep fix) (names_in i) (names_in e) k.1)) (λ v. by_array v (items_of (content_of (fix m.top.env) x.bytes)) (items_of (content_of m.top.env x.bytes)) (ap items_of (k.0.0 m.top.env)))
         where
           by_item : (o : Option ℤ) (r' r : Run Effect Exit (State Bool)) → Same r' r → Same (found (what destination) plan now o (there n) r') (found (what destination) plan now o (here n) r)
           by_item None r' r h = refl
@@ -336,7 +336,7 @@ module _ (plan : PlanView) (path : List ℕ) (fix : Env → Env) (mark : Option 
       b : Machine
       b = rebuilt m [] [] leaving false
 
-      how : Manner Effect Exit Bool
+      how : Interpretation Effect Exit Bool
       how = what (Spawned (length m.below) None)
 
       run : State Bool → ℕ → Run Effect Exit (State Bool)

@@ -12,7 +12,7 @@ use Rattle.serial_meaning.specs.declared.value.Value.{Value}
 use Rattle.serial_meaning.specs.declared.event.Fault.{Fault}
 use Rattle.serial_meaning.specs.declared.origin.Origin.{Origin}
 use Rattle.strand_meaning.specs.Clear.{IsApart, target_names, touched}
-use Rattle.strand_meaning.specs.Machine.{Destination, Spawned, Looped, Half, Effect, Opens, Closes, Emitted, Handed, Syncs, Loops, Frame, Machine, Reached, Stands, Gives, move}
+use Rattle.strand_meaning.specs.Machine.{Destination, Spawned, Looped, Half, Effect, Opens, Closes, Emitted, Starts, Syncs, Loops, Frame, Machine, Reached, Stands, Gives, move}
 use Rattle.strand_meaning.specs.Trace.{AwaitedChild}
 use Rattle.strand_meaning.specs.Task.{Stage, Running, AtSync, AtLoop, Ended, stage_after, changed, changed_at, frame_with_answer, in_machine, takes, takes_all, resumed, with_answer}
 use Rattle.strand_meaning.specs.Rest.{evaluations, rest_of_stage, rest_open}
@@ -159,7 +159,7 @@ stage-in change [] m = refl
 stage-in change (Opens j ∷ ts) m = stage-in change ts m
 stage-in change (Closes j ∷ ts) m = stage-in change ts m
 stage-in change (Emitted e ∷ ts) m = stage-in change ts m
-stage-in change (Handed o destination ∷ ts) m = stage-in change ts m
+stage-in change (Starts o destination ∷ ts) m = stage-in change ts m
 stage-in change (Syncs ∷ ts) m = refl
 stage-in change (Loops ∷ ts) m = refl
 

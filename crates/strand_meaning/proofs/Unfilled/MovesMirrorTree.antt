@@ -13,18 +13,18 @@ use Rattle.script_grammar.specs.declared.tree.Act.{Act, out-Act}
 use Rattle.script_grammar.specs.declared.tree.Act.TheOpen as act
 use Rattle.script_grammar.specs.declared.tree.Act.TheOpen.{Act-F}
 use Rattle.serial_meaning.specs.Runs.{Run, done, happens, after_items, ◌then◌}
-use Rattle.serial_meaning.specs.Values.{Env, value_of, values_of, slot_of, items_of, as_integer, is_true, at_index}
+use Rattle.serial_meaning.specs.Values.{Env, value_of, values_of, content_of, items_of, as_integer, is_true, at_index}
 use Rattle.serial_meaning.specs.Functions.{function_number, function_at}
 use Rattle.serial_meaning.specs.Plan.{PlanView, functions_of}
-use Rattle.serial_meaning.specs.Exec.{State, Manner, strand, fault, unless_fault, paid_from, tested, has_room, loop_fits, with_loop_values, spawn, sync_here, leaves, goes_out, scoped, implied, frame, called, right_side, found, store, looped, does, statement, exec, count_of, bound}
+use Rattle.serial_meaning.specs.Exec.{State, Interpretation, strand, fault, unless_fault, paid_from, tested, has_room, loop_fits, with_loop_values, spawn, sync_here, leaves, goes_out, scoped, implied, frame, called, right_side, found, store, looped, does, statement, exec, count_of, bound}
 use Rattle.serial_meaning.specs.Exec.{all_happen as passes}
 use Rattle.serial_meaning.specs.Eval.{Evaluation, first_value}
-use Rattle.serial_meaning.specs.Open.{Item, Happened, Child, Opened, Closed, NodeFault, put_off, put_off_all, unless_child_faulted, loop_end, is_empty_loop, filler}
+use Rattle.serial_meaning.specs.Open.{Item, Happened, Child, Opened, Closed, NodeFault, put_off, put_off_all, unless_child_faulted, loop_end, is_empty_loop, placeholder}
 use Rattle.serial_meaning.proofs.Equations.RunLaws.{goes_on-after, then-then, then-same}
 use Rattle.serial_meaning.proofs.Equations.ExecLaws.{exec-cons, exec-nil, exec-append, exec-again}
 use Rattle.serial_meaning.specs.declared.value.Value.{Value}
 use Rattle.serial_meaning.specs.declared.value.Value.TheVariants.{Int}
-use Rattle.serial_meaning.specs.declared.environment.Slot.TheVariants.{Scalar}
+use Rattle.serial_meaning.specs.declared.environment.Content.TheVariants.{Scalar}
 use Rattle.serial_meaning.specs.declared.event.FaultKind.{FaultKind}
 use Rattle.serial_meaning.specs.declared.event.FaultKind.TheVariants.{Index, Depth, Calls, Budget}
 use Rattle.serial_meaning.specs.declared.event.Fault.{Fault}
@@ -33,7 +33,7 @@ use Rattle.serial_meaning.specs.declared.event.Event.TheVariants as event
 use Rattle.serial_meaning.specs.declared.origin.Origin.{Origin}
 use Rattle.serial_meaning.specs.declared.origin.Origin.TheVariants as origin
 use Rattle.script_check.specs.Spawns.{spawns_in}
-use Rattle.strand_meaning.specs.Machine.{Destination, Spawned, Looped, Effect, Emitted, Exit, loop_effects, sync_effects, handing, inside, child_destination, Level, Frame, Machine, state_of, inside_of, present, here_of, with_left, into_level, with_leaving, out_of_level, with_returning, with_scalar, back_in_caller, calling, machine_inside, reached, gives, act_run, value_run, level_move, move}
+use Rattle.strand_meaning.specs.Machine.{Destination, Spawned, Looped, Effect, Emitted, Exit, loop_effects, sync_effects, parallel, inside, child_destination, Level, Frame, Machine, state_of, inside_of, present, here_of, with_left, into_level, with_leaving, out_of_level, with_returning, with_scalar, back_in_caller, calling, machine_inside, reached, gives, act_run, value_run, level_move, move}
 use Rattle.strand_meaning.specs.Task.{Running, AtLoop, stage_after, frame_with_answer, takes, resumed, pass_sync, with_answer}
 use Rattle.strand_meaning.specs.Rest.{valued, closes, level_end, outwards, afterwards, remains, caller_state, remains_below, open_state, rest_of_machine, rest_of_stage, rest_open}
 use Rattle.strand_meaning.specs.Observation.{effect_items}
@@ -48,11 +48,11 @@ abbrev pub opens : Option Fault → State Bool → State (Option Fault)
 opens known s = record { env = s.env; rank = s.rank; steps = s.steps; spawned = known }
 
 module _ (plan : PlanView) (child : Origin → Evaluation) (path : List ℕ) where
-  abbrev tree : Manner Item NodeFault (Option Fault)
+  abbrev tree : Interpretation Item NodeFault (Option Fault)
   tree = put_off_all plan child
 
-  abbrev what : Destination → Manner Effect Exit Bool
-  what destination = handing plan destination
+  abbrev what : Destination → Interpretation Effect Exit Bool
+  what destination = parallel plan destination
 
   -- the machine with these statements left
   abbrev pub left_of : Machine → List Stmt → Machine
@@ -143,7 +143,7 @@ module _ (plan : PlanView) (child : Origin → Evaluation) (path : List ℕ) whe
     sets target p = record p.1 { env = with_scalar target p.0 p.1.env }
 
     -- a child after its arguments and the test of the depth
-    abbrev child_run : {I E K : Type 0} → Manner I E K → CallText → List Value → State K → Run I E (Value × State K)
+    abbrev child_run : {I E K : Type 0} → Interpretation I E K → CallText → List Value → State K → Run I E (Value × State K)
     child_run how c vs s =
         happens (how.event (event.Spawn (strand now s))) s then λ s.
         how.spawn (origin.Instance (function_number (functions_of plan) c.name.bytes) vs (strand now s)) s.spawned then λ r.
@@ -164,13 +164,13 @@ module _ (plan : PlanView) (child : Origin → Evaluation) (path : List ℕ) whe
           e = event.Spawn (now ++ m.rank ∷ [])
 
           next : Origin → State Bool
-          next o = record { env = with_scalar target (filler plan o) m.top.env; rank = m.rank + 1; steps = n; spawned = true }
+          next o = record { env = with_scalar target (placeholder plan o) m.top.env; rank = m.rank + 1; steps = n; spawned = true }
 
           by_end : (o : Origin) (q : Result (List Value) Fault) →
-              after_items (Happened e ∷ Child o ∷ []) (go (record { env = with_scalar target (put_off (filler plan o) m.top.faulted q).0 m.top.env; rank = m.rank + 1; steps = n; spawned = (put_off (filler plan o) m.top.faulted q).1 }))
+              after_items (Happened e ∷ Child o ∷ []) (go (record { env = with_scalar target (put_off (placeholder plan o) m.top.faulted q).0 m.top.env; rank = m.rank + 1; steps = n; spawned = (put_off (placeholder plan o) m.top.faulted q).1 }))
               ≡ after_items (Happened e ∷ Child o ∷ []) (rest_of_stage plan child path (resumed (takes (Spawned height target) q (Running (on (next o))))))
           by_end o (Ok vs) =
-              ap (λ (env : Env). after_items (Happened e ∷ Child o ∷ []) (go (record { env = env; rank = m.rank + 1; steps = n; spawned = m.top.faulted }))) (sym (answer-later target (filler plan o) (first_value vs) m.top.env))
+              ap (λ (env : Env). after_items (Happened e ∷ Child o ∷ []) (go (record { env = env; rank = m.rank + 1; steps = n; spawned = m.top.faulted }))) (sym (answer-later target (placeholder plan o) (first_value vs) m.top.env))
               ∙ ap (λ (k : Machine). after_items (Happened e ∷ Child o ∷ []) (rest_of_machine plan child path k)) (sym (changed-top (frame_with_answer target (Ok vs)) (on (next o))))
           by_end o (Err f) = ap (λ (k : Machine). after_items (Happened e ∷ Child o ∷ []) (rest_of_machine plan child path k)) (sym (changed-top (frame_with_answer target (Err f)) (on (next o))))
 
@@ -284,7 +284,7 @@ module _ (plan : PlanView) (child : Origin → Evaluation) (path : List ℕ) whe
 
       store-shows : (into : List Stmt → State Bool → Machine) (x : Name) (i e : Expr) (n : ℕ) → Moves into (store (what destination) plan now x i e (here n)) (store tree plan now x i e (there n))
       store-shows into x i e n =
-          at-given now m on into go (λ s. refl) destination (value_of i m.top.env) (here n) _ _ (λ k. by_item (at_index (items_of (slot_of m.top.env x.bytes)) (as_integer k)) _ _
+          at-given now m on into go (λ s. refl) destination (value_of i m.top.env) (here n) _ _ (λ k. by_item (at_index (items_of (content_of m.top.env x.bytes)) (as_integer k)) _ _
           (at-given now m on into go (λ s. refl) destination (value_of e m.top.env) (here n) _ _ (λ v. refl)))
         where
           by_item : (o : Option ℤ) (r : Run Effect Exit (State Bool)) (q : Run Item NodeFault S) → Moves into r q → Moves into (found (what destination) plan now o (here n) r) (found tree plan now o (there n) q)

@@ -8,7 +8,7 @@ use Rattle.serial_meaning.specs.Open.{Item, NodeFault, Own}
 use Rattle.serial_meaning.specs.declared.value.Value.{Value}
 use Rattle.serial_meaning.specs.declared.event.Fault.{Fault}
 use Rattle.serial_meaning.specs.declared.origin.Origin.{Origin}
-use Rattle.strand_meaning.specs.Machine.{Effect, Opens, Closes, Emitted, Handed, Syncs, Loops, Frame, Machine, Reached, Stands, Gives}
+use Rattle.strand_meaning.specs.Machine.{Effect, Opens, Closes, Emitted, Starts, Syncs, Loops, Frame, Machine, Reached, Stands, Gives}
 use Rattle.strand_meaning.specs.Trace.{AwaitedChild}
 use Rattle.strand_meaning.specs.Task.{stage_after, changed}
 use Rattle.strand_meaning.specs.Rest.{rest_open}
@@ -18,7 +18,7 @@ effect_parts [] = []
 effect_parts (Opens j ∷ ts) = effect_parts ts
 effect_parts (Closes j ∷ ts) = effect_parts ts
 effect_parts (Emitted e ∷ ts) = effect_parts ts
-effect_parts (Handed o destination ∷ ts) = record { child = o; destination = destination; after = [] } ∷ effect_parts ts
+effect_parts (Starts o destination ∷ ts) = record { child = o; destination = destination; after = [] } ∷ effect_parts ts
 effect_parts (Syncs ∷ ts) = effect_parts ts
 effect_parts (Loops ∷ ts) = effect_parts ts
 

@@ -17,10 +17,10 @@ use Rattle.script_grammar.specs.declared.tree.Act.TheOpen as act
 use Rattle.script_grammar.specs.declared.tree.Act.TheOpen.{Act-F}
 use Rattle.serial_meaning.specs.Runs.{Run, done, happens, ◌then◌}
 use Rattle.serial_meaning.specs.Names.{Names}
-use Rattle.serial_meaning.specs.Values.{Env, value_of, values_of, slot_of, items_of, as_integer, is_true, at_index}
+use Rattle.serial_meaning.specs.Values.{Env, value_of, values_of, content_of, items_of, as_integer, is_true, at_index}
 use Rattle.serial_meaning.specs.Functions.{function_number, function_at, act_spawns, spawns, any_spawns, any_true}
 use Rattle.serial_meaning.specs.Plan.{PlanView, functions_of}
-use Rattle.serial_meaning.specs.Exec.{State, Manner, fault, unless_fault, paid_from, tested, has_room, loop_fits, with_loop_values, spawn, sync_here, implied, frame, called, right_side, found, store, looped, does, count_of, bound}
+use Rattle.serial_meaning.specs.Exec.{State, Interpretation, fault, unless_fault, paid_from, tested, has_room, loop_fits, with_loop_values, spawn, sync_here, implied, frame, called, right_side, found, store, looped, does, count_of, bound}
 use Rattle.serial_meaning.specs.Open.{is_empty_loop}
 use Rattle.serial_meaning.proofs.Equations.Computing.{act_has_spawn, spawns-out}
 use Rattle.serial_meaning.specs.declared.value.Value.{Value}
@@ -33,7 +33,7 @@ use Rattle.serial_meaning.specs.declared.origin.Origin.{Origin}
 use Rattle.serial_meaning.specs.declared.origin.Origin.TheVariants as origin
 use Rattle.strand_meaning.specs.Clear.{IsWithin, IsApart, IsClear, Simple, Branches, Repetitions, Levels, IsSimple, touched, pending_right, pending_after, target_names, IsClearPlan}
 use Rattle.script_check.specs.Spawns.{spawns_in}
-use Rattle.strand_meaning.specs.Machine.{Destination, Spawned, Looped, Half, Effect, Emitted, Exit, loop_effects, sync_effects, handing, inside, child_destination, Level, Frame, Machine, Reached, Stands, Gives, state_of, here_of, with_left, into_level, with_leaving, out_of_level, with_returning, with_scalar, back_in_caller, calling, machine_inside, reached, gives, value_run, statement_move, return_move, level_move, end_move, move_at, move}
+use Rattle.strand_meaning.specs.Machine.{Destination, Spawned, Looped, Half, Effect, Emitted, Exit, loop_effects, sync_effects, parallel, inside, child_destination, Level, Frame, Machine, Reached, Stands, Gives, state_of, here_of, with_left, into_level, with_leaving, out_of_level, with_returning, with_scalar, back_in_caller, calling, machine_inside, reached, gives, value_run, statement_move, return_move, level_move, end_move, move_at, move}
 use Rattle.strand_meaning.specs.Trace.{AwaitedChild}
 use Rattle.strand_meaning.specs.Task.{changed, frame_with_answer, Running, AtSync, stage_after}
 use Rattle.strand_meaning.specs.Sound.{unfilled, is_by, any_by, AreSoundLevels, IsSound, AreSound, IsDestination, AreDestinations, IsHalf, AreHalves, after_sync, IsSoundStage}
@@ -192,8 +192,8 @@ module _ (plan : PlanView) (path : List ℕ) (clear-plan : IsClearPlan plan) (pa
   abbrev InText : Type 0
   InText = spawns_in (function_at (functions_of plan) m.top.function) ≡ true
 
-  abbrev what : Destination → Manner Effect Exit Bool
-  what destination = handing plan destination
+  abbrev what : Destination → Interpretation Effect Exit Bool
+  what destination = parallel plan destination
 
   no-parts : (T : List AwaitedChild → Type 0) → T parts → T (parts ++ [])
   no-parts T t = subst T (sym (append-nil parts)) t
@@ -393,7 +393,7 @@ module _ (plan : PlanView) (path : List ℕ) (clear-plan : IsClearPlan plan) (pa
 
     fine-store : (destination : Destination) (x : Name) (i e : Expr) (n : ℕ) → IsClear pending left ends → Fine (store (what destination) plan now x i e (here n))
     fine-store destination x i e n clear =
-        fine-given destination (value_of i m.top.env) (here n) _ (λ k. by_item (at_index (items_of (slot_of m.top.env x.bytes)) (as_integer k)) _ (fine-given destination (value_of e m.top.env) (here n) _ (λ v. calm left _ ends clear text-more)))
+        fine-given destination (value_of i m.top.env) (here n) _ (λ k. by_item (at_index (items_of (content_of m.top.env x.bytes)) (as_integer k)) _ (fine-given destination (value_of e m.top.env) (here n) _ (λ v. calm left _ ends clear text-more)))
       where
         by_item : (o : Option ℤ) (r : Run Effect Exit (State Bool)) → Fine r → Fine (found (what destination) plan now o (here n) r)
         by_item None r h = (refl, height, sound.0)
@@ -587,8 +587,8 @@ module _ (plan : PlanView) (path : List ℕ) (clear-plan : IsClearPlan plan) (pa
   return-sound : (m : Machine) → m.top.left ≡ [] → m.top.levels ≡ [] → IsSoundStage plan parts (Running m) → SoundEnd plan parts (return_move plan path m false).items (return_move plan path m false).ending
   return-sound m ended outside sound = by_steps m.steps
     where
-      how : Manner Effect Exit Bool
-      how = handing plan (Spawned (length m.below) None)
+      how : Interpretation Effect Exit Bool
+      how = parallel plan (Spawned (length m.below) None)
 
       no-more : (T : List AwaitedChild → Type 0) → T parts → T (parts ++ [])
       no-more T t = subst T (sym (append-nil parts)) t
@@ -662,7 +662,7 @@ module _ (plan : PlanView) (path : List ℕ) (clear-plan : IsClearPlan plan) (pa
           same-variables c = record { clear = c.clear; spawned = c.spawned; faulted = c.faulted; in_text = c.in_text; left_in_text = c.left_in_text; levels = c.levels; leaving = c.leaving; returning = c.returning }
 
       by_value : (f : Function) (o : Result Value FaultKind) →
-          let r : Run Effect Exit (Value × State Bool) = unless_fault (handing plan (Spawned (length m.below) None)) plan (here_of path m) o (state_of m) (λ v. done (v, state_of m)) in SoundEnd plan parts r.items (gives plan m r.ending)
+          let r : Run Effect Exit (Value × State Bool) = unless_fault (parallel plan (Spawned (length m.below) None)) plan (here_of path m) o (state_of m) (λ v. done (v, state_of m)) in SoundEnd plan parts r.items (gives plan m r.ending)
       by_value f (Ok v) = to_caller v m.below none sound.0 sound.2
       by_value f (Err k) = (refl, length m.below, sound.0)
 

@@ -5,21 +5,21 @@ use Rattle.script_grammar.specs.declared.tree.Name.{Name}
 use Rattle.script_grammar.specs.declared.tree.Expr.{Expr}
 use Rattle.serial_meaning.specs.Runs.{◌>>=◌}
 use Rattle.serial_meaning.specs.Names.{Names, names_in}
-use Rattle.serial_meaning.specs.Values.{Env, slot_of, items_of, value_of, values_of}
-use Rattle.serial_meaning.specs.Exec.{with_slot, with_front, with_loop_values, has_room}
+use Rattle.serial_meaning.specs.Values.{Env, content_of, items_of, value_of, values_of}
+use Rattle.serial_meaning.specs.Exec.{with_content, with_front, with_loop_values, has_room}
 use Rattle.serial_meaning.proofs.Equations.Each.{Each, each-at}
 use Rattle.serial_meaning.proofs.RisingPedigrees.Named.{values_depend_on_names}
 use Rattle.serial_meaning.specs.declared.value.Value.{Value}
-use Rattle.serial_meaning.specs.declared.environment.Slot.{Slot}
-use Rattle.serial_meaning.specs.declared.environment.Slot.TheVariants.{Scalar, Array}
+use Rattle.serial_meaning.specs.declared.environment.Content.{Content}
+use Rattle.serial_meaning.specs.declared.environment.Content.TheVariants.{Scalar, Array}
 use Rattle.strand_meaning.specs.Clear.{IsApart, names_in_all, target_names}
 use Rattle.strand_meaning.specs.Machine.{with_scalar}
 use Rattle.strand_meaning.specs.Task.{with_answer}
-use Rattle.strand_meaning.proofs.Unfilled.Variables.{slot-replaced, with-replaced}
+use Rattle.strand_meaning.proofs.Unfilled.Variables.{content-replaced, with-replaced}
 
 -- What a change of variables leaves alone: a variable is read as before, and set before or after.
 abbrev pub Keep : (Env → Env) → List ℕ → Type 0
-Keep fix name = ((env : Env) → slot_of (fix env) name ≡ slot_of env name) × ((env : Env) (s : Slot) → with_slot (fix env) name s ≡ fix (with_slot env name s))
+Keep fix name = ((env : Env) → content_of (fix env) name ≡ content_of env name) × ((env : Env) (s : Content) → with_content (fix env) name s ≡ fix (with_content env name s))
 
 abbrev pub Keeps : (Env → Env) → Names → Type 0
 Keeps fix names = Each (Keep fix) names
@@ -46,7 +46,7 @@ each-of T (x ∷ xs) h = (h x (first-contained x xs), each-of T xs (λ y c. h y 
 pub keeps-answer : (target : Option Name) (v : Value) (names pending : Names) → ((x : Name) → target ≡ Some x → Contains pending x.bytes) → IsApart names pending → Keeps (with_answer target v) names
 keeps-answer None v names pending h apart = each-of (Keep (with_answer None v)) names (λ name c. ((λ env. refl), (λ env s. refl)))
 keeps-answer (Some x) v names pending h apart =
-    each-of (Keep (with_answer (Some x) v)) names (λ name c. ((λ env. slot-replaced env x.bytes name (Scalar v) (λ e. other name c e)), (λ env s. with-replaced env x.bytes name (Scalar v) s (λ e. other name c e))))
+    each-of (Keep (with_answer (Some x) v)) names (λ name c. ((λ env. content-replaced env x.bytes name (Scalar v) (λ e. other name c e)), (λ env s. with-replaced env x.bytes name (Scalar v) s (λ e. other name c e))))
   where
     other : (name : List ℕ) → Contains names name → x.bytes ≡ name → ⊥
     other name c e = let there : Contains pending x.bytes = h x refl in apart name c (rw e at there)
@@ -75,4 +75,4 @@ module _ (fix : Env → Env) where
   pub filled-kept : (target : Option Name) (vs : List Value) (env : Env) → Keeps fix (target_names target) → with_loop_values target vs (fix env) ≡ fix (with_loop_values target vs env)
   filled-kept None vs env k = refl
   filled-kept (Some x) vs env k =
-      ap (λ o. with_slot (fix env) x.bytes (Array (with_front (items_of o) vs))) (k.0.0 env) ∙ k.0.1 env (Array (with_front (items_of (slot_of env x.bytes)) vs))
+      ap (λ o. with_content (fix env) x.bytes (Array (with_front (items_of o) vs))) (k.0.0 env) ∙ k.0.1 env (Array (with_front (items_of (content_of env x.bytes)) vs))

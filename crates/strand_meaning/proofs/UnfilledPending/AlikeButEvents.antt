@@ -8,7 +8,7 @@ use Rattle.serial_meaning.specs.declared.event.Event.{Event}
 use Rattle.serial_meaning.specs.declared.origin.Origin.{Origin}
 use Rattle.script_grammar.specs.declared.tree.Name.{Name}
 use Rattle.strand_meaning.specs.Clear.{IsApart, target_names}
-use Rattle.strand_meaning.specs.Machine.{Destination, Effect, Opens, Closes, Emitted, Handed, Syncs, Loops, Frame}
+use Rattle.strand_meaning.specs.Machine.{Destination, Effect, Opens, Closes, Emitted, Starts, Syncs, Loops, Frame}
 use Rattle.strand_meaning.specs.Trace.{AwaitedChild, Trace, after_last, emit, emit_at, add_child, with_effects}
 use Rattle.strand_meaning.specs.Task.{Stage, Running, AtSync, AtLoop, Ended, takes, takes_all}
 use Rattle.strand_meaning.specs.Rest.{evaluations}
@@ -37,21 +37,21 @@ alike-after : (p : AwaitedChild) (ps : List AwaitedChild) (e : Event) → Alike 
 alike-after p [] e = Next p.child p.destination p.after (p.after ++ e ∷ []) End
 alike-after p (q ∷ qs) e = Next p.child p.destination p.after p.after (alike-after q qs e)
 
-alike-emit : (e : Event) (trace : Trace) → Alike trace.handed (emit e trace).handed
-alike-emit e trace = from trace.handed
+alike-emit : (e : Event) (trace : Trace) → Alike trace.unmerged (emit e trace).unmerged
+alike-emit e trace = from trace.unmerged
   where
-    from : (ps : List AwaitedChild) → Alike ps (emit_at ps e (record trace { handed = ps })).handed
+    from : (ps : List AwaitedChild) → Alike ps (emit_at ps e (record trace { unmerged = ps })).unmerged
     from [] = End
     from (p ∷ ps) = alike-after p ps e
 
 -- what a move shows stands after the parts
-pub alike-effects : (ts : List Effect) (trace : Trace) → Alike (trace.handed ++ effect_parts ts) (with_effects ts trace).handed
-alike-effects [] trace = subst (λ (l : List AwaitedChild). Alike l trace.handed) (sym (append-nil trace.handed)) (alike-itself trace.handed)
+pub alike-effects : (ts : List Effect) (trace : Trace) → Alike (trace.unmerged ++ effect_parts ts) (with_effects ts trace).unmerged
+alike-effects [] trace = subst (λ (l : List AwaitedChild). Alike l trace.unmerged) (sym (append-nil trace.unmerged)) (alike-itself trace.unmerged)
 alike-effects (Opens j ∷ ts) trace = alike-effects ts trace
 alike-effects (Closes j ∷ ts) trace = alike-effects ts trace
 alike-effects (Emitted e ∷ ts) trace = alike-then (alike-append (effect_parts ts) (alike-emit e trace)) (alike-effects ts (emit e trace))
-alike-effects (Handed o destination ∷ ts) trace =
-    subst (λ (l : List AwaitedChild). Alike l (with_effects ts (add_child o destination trace)).handed) (append_assoc trace.handed (record { child = o; destination = destination; after = [] } ∷ []) (effect_parts ts)) (alike-effects ts (add_child o destination trace))
+alike-effects (Starts o destination ∷ ts) trace =
+    subst (λ (l : List AwaitedChild). Alike l (with_effects ts (add_child o destination trace)).unmerged) (append_assoc trace.unmerged (record { child = o; destination = destination; after = [] } ∷ []) (effect_parts ts)) (alike-effects ts (add_child o destination trace))
 alike-effects (Syncs ∷ ts) trace = alike-effects ts trace
 alike-effects (Loops ∷ ts) trace = alike-effects ts trace
 

@@ -20,10 +20,10 @@ use Rattle.script_check.specs.Names.{no_names, with_name, after_right}
 use Rattle.script_check.specs.Statements.{judge}
 use Rattle.serial_meaning.specs.Runs.{Run, done, happens, ◌then◌}
 use Rattle.serial_meaning.specs.Names.{Names}
-use Rattle.serial_meaning.specs.Values.{Env, value_of, values_of, slot_of, items_of, as_integer, is_true, at_index}
+use Rattle.serial_meaning.specs.Values.{Env, value_of, values_of, content_of, items_of, as_integer, is_true, at_index}
 use Rattle.serial_meaning.specs.Functions.{function_number, function_at}
 use Rattle.serial_meaning.specs.Plan.{PlanView, functions_of}
-use Rattle.serial_meaning.specs.Exec.{State, Manner, unless_fault, paid_from, tested, has_room, loop_fits, with_loop_values, spawn, sync_here, implied, frame, called, right_side, found, store, looped, does, count_of, bound}
+use Rattle.serial_meaning.specs.Exec.{State, Interpretation, unless_fault, paid_from, tested, has_room, loop_fits, with_loop_values, spawn, sync_here, implied, frame, called, right_side, found, store, looped, does, count_of, bound}
 use Rattle.serial_meaning.specs.Open.{is_empty_loop}
 use Rattle.serial_meaning.specs.declared.value.Value.{Value}
 use Rattle.serial_meaning.specs.declared.value.Value.TheVariants.{Int}
@@ -35,7 +35,7 @@ use Rattle.serial_meaning.specs.declared.origin.Origin.{Origin}
 use Rattle.serial_meaning.specs.declared.origin.Origin.TheVariants as origin
 use Rattle.strand_meaning.specs.Clear.{pending_right, target_names}
 use Rattle.script_check.specs.Spawns.{spawns_in}
-use Rattle.strand_meaning.specs.Machine.{Destination, Spawned, Looped, Effect, Emitted, Exit, loop_effects, sync_effects, handing, inside, child_destination, Level, Frame, Machine, Reached, Stands, Gives, state_of, here_of, with_left, into_level, with_leaving, out_of_level, with_returning, with_scalar, back_in_caller, calling, machine_inside, reached, gives, value_run, statement_move, return_move, level_move, end_move, move_at, move}
+use Rattle.strand_meaning.specs.Machine.{Destination, Spawned, Looped, Effect, Emitted, Exit, loop_effects, sync_effects, parallel, inside, child_destination, Level, Frame, Machine, Reached, Stands, Gives, state_of, here_of, with_left, into_level, with_leaving, out_of_level, with_returning, with_scalar, back_in_caller, calling, machine_inside, reached, gives, value_run, statement_move, return_move, level_move, end_move, move_at, move}
 use Rattle.strand_meaning.specs.Trace.{AwaitedChild}
 use Rattle.strand_meaning.specs.Task.{Running, AtSync, stage_after}
 use Rattle.strand_meaning.specs.Pending.{act_of, Then, Else, LoopBody, Here, FrameStandsAt, Outside, InScope, judged_by, ArePending, ArePendingStill, IsCall, IsSync, IsPfor}
@@ -139,8 +139,8 @@ module _ (plan : PlanView) (path : List ℕ) (parts : List AwaitedChild) (m : Ma
   abbrev pending : Names
   pending = unfilled height parts
 
-  abbrev what : Destination → Manner Effect Exit Bool
-  what destination = handing plan destination
+  abbrev what : Destination → Interpretation Effect Exit Bool
+  what destination = parallel plan destination
 
   no-parts : (T : List AwaitedChild → Type 0) → T parts → T (parts ++ [])
   no-parts T t = subst T (sym (append-nil parts)) t
@@ -303,7 +303,7 @@ module _ (plan : PlanView) (path : List ℕ) (parts : List AwaitedChild) (m : Ma
 
     fine-store : (destination : Destination) (x : Name) (i e : Expr) (n : ℕ) → AreIn pending ((judge st).after set) → Fine (store (what destination) plan now x i e (here n))
     fine-store destination x i e n w =
-        fine-given destination (value_of i m.top.env) (here n) _ (λ k. by_item (at_index (items_of (slot_of m.top.env x.bytes)) (as_integer k)) _ (fine-given destination (value_of e m.top.env) (here n) _ (λ v. calm w _)))
+        fine-given destination (value_of i m.top.env) (here n) _ (λ k. by_item (at_index (items_of (content_of m.top.env x.bytes)) (as_integer k)) _ (fine-given destination (value_of e m.top.env) (here n) _ (λ v. calm w _)))
       where
         by_item : (o : Option ℤ) (r : Run Effect Exit (State Bool)) → Fine r → Fine (found (what destination) plan now o (here n) r)
         by_item None r h = tt
@@ -491,8 +491,8 @@ module _ (plan : PlanView) (path : List ℕ) (parts : List AwaitedChild) where
   return-pending : (m : Machine) → m.top.left ≡ [] → UnfilledArePending plan parts (Running m) → PendingEnd plan parts (return_move plan path m false).items (return_move plan path m false).ending
   return-pending m ended pends = by_steps m.steps
     where
-      how : Manner Effect Exit Bool
-      how = handing plan (Spawned (length m.below) None)
+      how : Interpretation Effect Exit Bool
+      how = parallel plan (Spawned (length m.below) None)
 
       finished : Run Effect Exit (State Bool) → Type 0
       finished r = PendingEnd plan parts r.items (reached plan (with_returning m) (λ inner s. m) r.ending)
@@ -546,7 +546,7 @@ module _ (plan : PlanView) (path : List ℕ) (parts : List AwaitedChild) where
           same-destination p = record { function = p.function; of_plan = p.of_plan; now = p.now; stands = p.stands; pending = p.pending }
 
       by_value : (o : Result Value FaultKind) →
-          let r : Run Effect Exit (Value × State Bool) = unless_fault (handing plan (Spawned (length m.below) None)) plan (here_of path m) o (state_of m) (λ v. done (v, state_of m)) in PendingEnd plan parts r.items (gives plan m r.ending)
+          let r : Run Effect Exit (Value × State Bool) = unless_fault (parallel plan (Spawned (length m.below) None)) plan (here_of path m) o (state_of m) (λ v. done (v, state_of m)) in PendingEnd plan parts r.items (gives plan m r.ending)
       by_value (Ok v) = to_caller v m.below pends.1
       by_value (Err k) = tt
 

@@ -1,7 +1,7 @@
 use Rattle.std.proofs.Common.{◌≡◌, ℤ, length, Ok, sym, subst, arith, w64, rules, SFits}
 use Rattle.std.proofs.lemmas.Int.{to_z-of_z}
 use Rattle.script_grammar.specs.declared.tree.Expr.TheVariants as variant
-use Rattle.script_check.specs.Places.{has_place}
+use Rattle.script_check.specs.Slots.{has_slot}
 use Rattle.serial_meaning.specs.Values.{value_of}
 use Rattle.serial_meaning.specs.declared.value.Value.TheVariants.{Int}
 use Rattle.strand_values.proofs.Chains.{two_added}
@@ -10,13 +10,13 @@ use Rattle.strand_values.proofs.plain.short.Goals as goal
 
 pub leaf-requires : goal.leaf-requires
 leaf-requires c =
-    let is = has_place c.args.places.now c.args.env.now.names in
+    let is = has_slot c.args.slots.now c.args.env.now.names in
     let found = in_sum is c.args.e.now c.in-Sum.first c.in-Sum.rest c.in-Sum.is c.requires in
     at_summand is c.as_slice.result.now 0 c.part-item.result (rw c.as_slice.ensures found.1) (omega (arith, c.in-len1.len_at_least)) c.part-item.is
 
 pub short_operand-requires : goal.short_operand-requires
 short_operand-requires c =
-    let found = in_sum (has_place c.args.places.now c.args.env.now.names) c.args.e.now c.in-Sum.first c.in-Sum.rest c.in-Sum.is c.requires in
+    let found = in_sum (has_slot c.args.slots.now c.args.env.now.names) c.args.e.now c.in-Sum.first c.in-Sum.rest c.in-Sum.is c.requires in
     rw c.get.ensures found.0
 
 pub returns-in_ok-left-in-Sum : goal.returns-in_ok-left-in-Sum
@@ -37,10 +37,10 @@ returns-in_ok-left-in-Sum c =
 
 pub leaf-requires-in-Compare : goal.leaf-requires-in-Compare
 leaf-requires-in-Compare c =
-    let found = in_comparison (has_place c.args.places.now c.args.env.now.names) c.args.e.now c.in-Compare.left c.in-Compare.how c.in-Compare.right c.in-Compare.is c.requires in
+    let found = in_comparison (has_slot c.args.slots.now c.args.env.now.names) c.args.e.now c.in-Compare.left c.in-Compare.how c.in-Compare.right c.in-Compare.is c.requires in
     rw c.get-in-Compare.ensures found.0
 
 pub leaf-requires-in-Compare-2 : goal.leaf-requires-in-Compare-2
 leaf-requires-in-Compare-2 c =
-    let found = in_comparison (has_place c.args.places.now c.args.env.now.names) c.args.e.now c.in-Compare.left c.in-Compare.how c.in-Compare.right c.in-Compare.is c.requires in
+    let found = in_comparison (has_slot c.args.slots.now c.args.env.now.names) c.args.e.now c.in-Compare.left c.in-Compare.how c.in-Compare.right c.in-Compare.is c.requires in
     rw c.get-in-Compare-2.ensures found.1

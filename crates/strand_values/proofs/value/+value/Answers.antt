@@ -2,7 +2,7 @@ use borrow.Author.Sizes.{sizes}
 use Rattle.script_grammar.specs.declared.tree.Expr.{the_lemmas}
 use Rattle.std.proofs.Common.{◌≡◌, map, add-one, sym, ◌∙◌, w64, rules, SFits}
 use Rattle.std.proofs.lemmas.Int.{to_z-of_z}
-use Rattle.script_check.specs.Places.{has_place}
+use Rattle.script_check.specs.Slots.{has_slot}
 use Rattle.serial_meaning.specs.Values.{value_of, sum_part, product_part}
 use Rattle.strand_values.specs.Gives.{integer_result, integral}
 use Rattle.strand_values.proofs.FoundOperands.{at_factor, at_summand, in_variable}
@@ -12,23 +12,23 @@ use Rattle.strand_values.proofs.value.+value.Goals as goal
 
 pub value-scalar-requires : goal.value-scalar-requires
 value-scalar-requires t c =
-    in_variable (has_place c.args.places.now c.args.env.now.names) c.args.e.now c.in-Var.name c.in-Var.is c.requires.found
+    in_variable (has_slot c.args.slots.now c.args.env.now.names) c.args.e.now c.in-Var.name c.in-Var.is c.requires.found
 
 pub integer-integer_or_zero-requires : goal.integer-integer_or_zero-requires
 integer-integer_or_zero-requires t c =
-    in_variable (has_place c.args.places.now c.args.env.now.names) c.args.e.now c.in-Var.name c.in-Var.is c.requires.found
+    in_variable (has_slot c.args.slots.now c.args.env.now.names) c.args.e.now c.in-Var.name c.in-Var.is c.requires.found
 
 pub operand-integer_or_zero-requires : goal.operand-integer_or_zero-requires
 operand-integer_or_zero-requires t c =
-    in_variable (has_place c.args.places.now c.args.env.now.names) c.args.e.now c.in-Var.name c.in-Var.is c.requires.found
+    in_variable (has_slot c.args.slots.now c.args.env.now.names) c.args.e.now c.in-Var.name c.in-Var.is c.requires.found
 
 pub add-operand-requires : goal.add-operand-requires
 add-operand-requires t c =
-    (search (rules, sizes, the_lemmas), at_summand (has_place c.args.places.now c.args.env.now.names) c.args.rest.now c.loop-part.part-index c.part-item.result c.requires.found c.loop-part-test.true c.part-item.is)
+    (search (rules, sizes, the_lemmas), at_summand (has_slot c.args.slots.now c.args.env.now.names) c.args.rest.now c.loop-part.part-index c.part-item.result c.requires.found c.loop-part-test.true c.part-item.is)
 
 pub multiply-operand-requires : goal.multiply-operand-requires
 multiply-operand-requires t c =
-    (search (rules, sizes, the_lemmas), at_factor (has_place c.args.places.now c.args.env.now.names) c.args.rest.now c.loop-part.part-index c.part-item.result c.requires.found c.loop-part-test.true c.part-item.is)
+    (search (rules, sizes, the_lemmas), at_factor (has_slot c.args.slots.now c.args.env.now.names) c.args.rest.now c.loop-part.part-index c.part-item.result c.requires.found c.loop-part-test.true c.part-item.is)
 
 pub add-loop-part-preserved : goal.add-loop-part-preserved
 add-loop-part-preserved t c =

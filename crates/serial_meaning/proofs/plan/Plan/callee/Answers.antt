@@ -1,7 +1,7 @@
 use Rattle.std.proofs.Common.{◌≡◌, List, Some, sym, ap, subst, ◌∙◌}
 use Rattle.script_grammar.specs.declared.tree.Function.{Function}
 use Rattle.script_check.specs.Functions.{first_named}
-use Rattle.script_check.specs.Places.{finds_callee}
+use Rattle.script_check.specs.Slots.{finds_callee}
 use Rattle.serial_meaning.specs.Plan.{PlanView, functions_of}
 use Rattle.serial_meaning.proofs.OriginFaults.Callees.{number_found}
 use Rattle.serial_meaning.proofs.plan.Plan.callee.Goals as goal

@@ -1,12 +1,12 @@
 use Rattle.std.specs.Result.{IsErrAnd}
 use Rattle.std.proofs.Common.{◌≡◌, Ok, Err, Result, is_some, ap, sym, subst, arith}
-use Rattle.script_check.specs.Places.{has_place}
+use Rattle.script_check.specs.Slots.{has_slot}
 use Rattle.serial_meaning.specs.declared.event.FaultKind.{FaultKind}
 use Rattle.strand_values.specs.Changes.{called_with}
 use Rattle.strand_values.specs.Environments.{held}
 use Rattle.strand_values.specs.Gives.{Calculates}
-use Rattle.strand_values.specs.declared.halt.Halt.{Halt}
-use Rattle.strand_values.proofs.BoundLemmas.{called-begins, called-ends, called-fails, called-more, called-past, place_for}
+use Rattle.strand_values.specs.declared.evaluation_error.EvaluationError.{EvaluationError}
+use Rattle.strand_values.proofs.BoundLemmas.{called-begins, called-ends, called-fails, called-more, called-past, slot_for}
 use Rattle.strand_values.proofs.FoundOperands.{at_argument}
 use Rattle.strand_values.proofs.environment.Environment.called_with.Goals.{then-i-params, else-i-params+in-Id-1, else-i-params+in-Int-1}
 use Rattle.strand_values.proofs.environment.Environment.called_with.Goals as goal
@@ -15,10 +15,10 @@ pub loop-i-init : goal.loop-i-init
 loop-i-init c = called-begins c.args.names.now c.args.self.now.variables c.args.params.now c.args.args.now c.in_ok-env.env c.in_ok-env.ensures
 
 pub evaluate-requires : goal.evaluate-requires
-evaluate-requires c = at_argument (has_place c.args.places.now c.args.self.now.names) c.args.args.now c.loop-i.i c.index-args-i.result c.requires.args c.loop-i-test.true c.index-args-i.is
+evaluate-requires c = at_argument (has_slot c.args.slots.now c.args.self.now.names) c.args.args.now c.loop-i.i c.index-args-i.result c.requires.args c.loop-i-test.true c.index-args-i.is
 
 pub put-requires-clause-there : goal.put-requires-clause-there
-put-requires-clause-there c = place_for c.args.names.now c.args.params.now c.loop-i.i c.loop-i.env c.requires.params c.loop-i.invariant.names_are c.if-i-params.true
+put-requires-clause-there c = slot_for c.args.names.now c.args.params.now c.loop-i.i c.loop-i.env c.requires.params c.loop-i.invariant.names_are c.if-i-params.true
 
 pub put-requires-clause-some : goal.put-requires-clause-some
 put-requires-clause-some c = ap (λ o. is_some o) c.of.ensures
@@ -41,10 +41,10 @@ loop-i-preserved c =
       | else-i-params+in-Int-1 w ↦ rw w.env-is (called-past names env ps es i made c.loop-i.invariant e v c.in_ok-value.ensures c.loop-i-test.true c.index-args-i.is w.if-i-params.false)
     ]
 
--- the halt that is met is the answer
-halts : {A : Type 0} (r : Result A Halt) (h : Halt) (defined : Result A FaultKind) → IsErrAnd r (λ y. y ≡ h) → Calculates {A = A} (Err h) defined → Calculates r defined
+-- the error that is met is the answer
+halts : {A : Type 0} (r : Result A EvaluationError) (h : EvaluationError) (defined : Result A FaultKind) → IsErrAnd r (λ y. y ≡ h) → Calculates {A = A} (Err h) defined → Calculates r defined
 halts (Ok a) h defined is g = absurd is
-halts {A} (Err y) h defined is g = let P : Halt → Type 0 = λ z. Calculates {A = A} (Err z) defined in subst P (sym is) g
+halts {A} (Err y) h defined is g = let P : EvaluationError → Type 0 = λ z. Calculates {A = A} (Err z) defined in subst P (sym is) g
 
 pub returns-in_err-value : goal.returns-in_err-value
 returns-in_err-value c =

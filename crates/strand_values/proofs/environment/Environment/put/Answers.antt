@@ -7,14 +7,14 @@ pub index-requires : goal.index-requires
 index-requires c =
     let i = c.self.inside in
     let env = c.args.self.now in
-    let within = entry_there i.names.value i.entries.items i.filled.items c.self.invariant env c.self.view_is c.args.place (get_or env.names c.args.place []) c.requires.there in
+    let within = entry_there i.names.value i.entries.items i.filled.items c.self.invariant env c.self.view_is c.args.slot (get_or env.names c.args.slot []) c.requires.there in
     omega (arith, within, i.entries.ok.0)
 
 pub index_mut-requires : goal.index_mut-requires
 index_mut-requires c =
     let i = c.self.inside in
     let env = c.args.self.now in
-    let within = entry_there i.names.value i.entries.items i.filled.items c.self.invariant env c.self.view_is c.args.place (get_or env.names c.args.place []) c.requires.there in
+    let within = entry_there i.names.value i.entries.items i.filled.items c.self.invariant env c.self.view_is c.args.slot (get_or env.names c.args.slot []) c.requires.there in
     omega (arith, within, i.entries.ok.0)
 
 pub invariant_of-self : goal.invariant_of-self
@@ -23,7 +23,7 @@ invariant_of-self c =
     let env = c.args.self.now in
     let listed_now = rw c.replace.ensures.value at c.with_filled.ensures in
     let some = some_of (held c.args.entry) c.requires.some in
-    entry_put i.names.value i.entries.items i.filled.items c.self.invariant env c.self.view_is c.args.place (get_or env.names c.args.place []) c.requires.there
+    entry_put i.names.value i.entries.items i.filled.items c.self.invariant env c.self.view_is c.args.slot (get_or env.names c.args.slot []) c.requires.there
     c.index.result.now c.index.ensures c.with_filled.result.items listed_now c.args.entry some.0 some.1
 
 pub returns : goal.returns
@@ -32,6 +32,6 @@ returns c = λ name there.
     let env = c.args.self.now in
     let listed_now = rw c.replace.ensures.value at c.with_filled.ensures in
     let some = some_of (held c.args.entry) c.requires.some in
-    seen_put i.names.value i.entries.items i.filled.items c.self.invariant env c.self.view_is c.args.place name there
+    seen_put i.names.value i.entries.items i.filled.items c.self.invariant env c.self.view_is c.args.slot name there
     c.index.result.now c.index.ensures c.with_filled.result.items listed_now c.args.entry some.0 some.1
     ∙ ap (λ o. with_variables env (with_what env.variables name o)) (sym some.1)

@@ -8,19 +8,19 @@ use Rattle.script_grammar.specs.declared.tree.Name.{Name}
 use Rattle.script_grammar.specs.declared.tree.ProductPart.{ProductPart}
 use Rattle.script_grammar.specs.declared.tree.ProductSign.{ProductSign}
 use Rattle.script_grammar.specs.declared.tree.SumPart.{SumPart}
-use Rattle.script_check.specs.Places.{every_in, has_place}
+use Rattle.script_check.specs.Slots.{every_in, has_slot}
 use Rattle.serial_meaning.specs.Runs.{◌>>=◌}
 use Rattle.serial_meaning.specs.Values.{Val, Meaning, item, items_of, as_integer, product_at, scalar, sum_at, value_at, value_of}
-use Rattle.serial_meaning.specs.declared.environment.Slot.{Slot}
+use Rattle.serial_meaning.specs.declared.environment.Content.{Content}
 use Rattle.strand_values.specs.Environments.{IsEnvironment, held_at, filled_variables}
 use Rattle.strand_values.specs.declared.entry.Entry.{Entry}
 
-module _ (slot : Name → Option Slot) where
+module _ (content : Name → Option Content) where
   -- one node, with what its parts give in their places
   abbrev pub found_at : Expr-F Meaning (ProductSign × Meaning) (Bool × Meaning) → Meaning
   found_at (node.Number n) env = value_at (node.Number n) env
-  found_at (node.Var x) env = Ok (scalar (slot x))
-  found_at (node.Item x i) env = i env >>= λ v. item (items_of (slot x)) (as_integer v)
+  found_at (node.Var x) env = Ok (scalar (content x))
+  found_at (node.Item x i) env = i env >>= λ v. item (items_of (content x)) (as_integer v)
   found_at (node.Neg at e) env = value_at (node.Neg at e) env
   found_at (node.Same at a b) env = value_at (node.Same at a b) env
   found_at (node.Older at a b) env = value_at (node.Older at a b) env
@@ -41,8 +41,8 @@ module _ (slot : Name → Option Slot) where
   abbrev pub value_by : Expr → Val
   value_by e = meaning_by e []
 
--- where a table has the place of each variable, what stands in the places gives the value that the names give
-abbrev pub PlacesMeanNames : Type 0
-PlacesMeanNames =
-    (table : List ℕ) (names : List (List ℕ)) (entries : List Entry) (filled : List ℕ) → IsEnvironment names entries filled → (e : Expr) → every_in (has_place table names) e ≡ true →
+-- where a table has the slot of each variable, what stands in the slots gives the value that the names give
+abbrev pub SlotsMeanNames : Type 0
+SlotsMeanNames =
+    (table : List ℕ) (names : List (List ℕ)) (entries : List Entry) (filled : List ℕ) → IsEnvironment names entries filled → (e : Expr) → every_in (has_slot table names) e ≡ true →
     value_by (λ x. held_at entries (get_or table x.at 0)) e ≡ value_of e (filled_variables names entries filled)
