@@ -29,7 +29,7 @@ has_fault (Some f) = true
 abbrev pub IsWithoutFault : Found → Type 0
 IsWithoutFault found = (strand : Strand) × (found ≡ FoundStrand strand) × (strand.fault ≡ None)
 
--- It tells the fault and the place; or that the strand has none; or as `replay` why there is no strand.
+-- It tells the fault and the place; or that the strand has none; or why there is no strand, as `replay` does.
 abbrev pub AnswersFaultPlace : PlanView → List ℕ → Result (Option PlacedFault) ReplayError → Type 0
 AnswersFaultPlace plan j (Ok (Some met)) = IsFaultPlace plan j met
 AnswersFaultPlace plan j (Ok None) = IsWithoutFault (strand_at plan j)
@@ -37,7 +37,7 @@ AnswersFaultPlace plan j (Err error.NoStrand) = strand_at plan j ≡ Missing
 AnswersFaultPlace plan j (Err (error.Blocked f)) = strand_at plan j ≡ Blocked f
 AnswersFaultPlace plan j (Err error.Memory) = Unit {0}
 
--- The same by the function's place in the script, and the offset of what was next in it.
+-- The same, with the function by its index in the script, and the offset of its next statement.
 pub record FaultsAt (plan : PlanView) (j : List ℕ) (function at : ℕ) : Type 0 where
   pub met : PlacedFault
   pub is : IsFaultPlace plan j met

@@ -18,17 +18,17 @@ use std::sync::Arc;
 use strand_family::iteration_args;
 use strand_meaning::laws;
 
-/// Where an instance leads to.
+// Where the way goes on from an instance.
 #[derive(Drop)]
 pub(crate) enum Way {
-    /// The strand is one of its own.
+    // The strand is one of its own.
     Found(Strand),
-    /// The strand, if there is one, is below this instance.
+    // The strand, if there is one, is below this instance.
     Down(Origin),
 }
 
-/// The instance below a child: a spawned one itself; of a loop the iteration that the pedigree names next, where it doesn't end there and
-/// there is that iteration.
+// The instance below a child: a spawned one itself; of a loop the iteration that the pedigree names next, where it doesn't end there and
+// there is that iteration.
 fn enter(alloc: Global, child: Origin, at: &Pedigree) -> Result<Option<Origin>, ReplayError>
     ensures ok { IfOk result (λ next. next ≡ entered_child at.now child) }
     ensures err { IfErr result (λ e. e ≡ ReplayError.Memory) }
@@ -58,7 +58,7 @@ fn enter(alloc: Global, child: Origin, at: &Pedigree) -> Result<Option<Origin>, 
     }))
 }
 
-/// One node of the walk.
+// One node of the walk.
 pub(crate) fn descend(
     alloc: Global,
     plan: &Arc<Plan>,

@@ -10,10 +10,10 @@ use serial_meaning::Fault;
 pub enum ReplayError {
     /// There is no strand of this pedigree.
     NoStrand,
-    /// It isn't known, since an instance on the way down to it, or its own, ended before by this fault, the least one of the children that
-    /// it waited for.
+    /// Unknown: an instance on the way down, or the strand's own, ended before it by this fault, the least of the
+    /// children that it waited for.
     Blocked(Fault),
-    /// Want of memory.
+    /// There was no memory for the replay.
     Memory,
 }
 

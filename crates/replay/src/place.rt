@@ -13,7 +13,7 @@ use std::alloc::Global;
 use std::sync::Arc;
 use strand_family::share_origin;
 
-/// Whether a strand ended by a fault of its own.
+// Whether a strand ended by a fault of its own.
 fn has_fault(strand: &Strand) -> bool
     ensures { result ≡ has_fault strand.now.fault }
 {

@@ -4,6 +4,6 @@ pub mod Taking
 pub mod Passing
 pub mod Waking
 pub mod Running
-pub mod Handing
+pub mod Spawning
 pub mod Ending
 pub mod Resuming

@@ -2,6 +2,7 @@
 use Rattle.std.specs.Prelude.{◌≡◌, ℕ, ◌-◌, List, [], ◌∷◌, Some, None, replicate}
 use Rattle.serial_meaning.specs.Eval.{main_origin}
 use Rattle.serial_meaning.specs.Plan.{PlanView}
+use Rattle.strand_machine.specs.Links.{detached}
 use Rattle.strand_machine.specs.Tasks.{TaskView, fresh}
 use Rattle.sched_core.specs.Cores.{plan_of}
 use Rattle.sched_core.specs.Moves.{job}
@@ -15,7 +16,7 @@ hired main workers = worker_with (Some (job main 0)) ∷ replicate (workers - 1)
 
 pub record IsBegun (plan : PlanView) (workers : ℕ) (s : CoreState) : Type 0 where
   pub plan_is : plan_of s ≡ plan
-  pub hired : s.workers.items ≡ hired (fresh plan (main_origin plan)) workers
+  pub hired : s.workers.items ≡ hired (fresh plan (main_origin plan) detached) workers
   pub nodes : s.nodes.items ≡ new_node (main_origin plan) None ∷ []
   pub given : s.given ≡ []
   pub root : s.root ≡ None

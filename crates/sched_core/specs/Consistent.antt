@@ -36,7 +36,7 @@ pub record IsJob (nodes : List SpawnNode) (j : Job) : Type 0 where
   pub node : SpawnNode
   pub there : slice_get nodes j.number ≡ Some node
   pub origin : node.origin ≡ (task_in j).origin
-  pub awaits : Awaits (origins_of nodes) node.children (awaited (task_in j).trace.handed)
+  pub awaits : Awaits (origins_of nodes) node.children (awaited (task_in j).trace.unmerged)
   pub uncut : j.task.cut ≡ None
 
 pub record AreJobs (nodes : List SpawnNode) (w : WorkerView) : Type 0 where

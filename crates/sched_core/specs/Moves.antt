@@ -3,7 +3,7 @@ use Rattle.std.specs.Prelude.{◌≡◌, ◌<◌, ◌≤◌, ℕ, true, List, []
 use Rattle.serial_meaning.specs.Answer.{AnswerView}
 use Rattle.serial_meaning.specs.declared.keep.All.{All}
 use Rattle.strand_machine.specs.Tasks.{TaskView}
-use Rattle.strand_machine.specs.Family.{tags}
+use Rattle.strand_machine.specs.Links.{tags}
 use Rattle.strand_machine.specs.AwaitedChildren.{awaited}
 use Rattle.strand_machine.specs.Stops.{WentOn, answer_tags}
 use Rattle.strand_machine.specs.declared.stop.Stop.{Stop}
@@ -20,8 +20,8 @@ job t n = record { task = t; number = n }
 
 -- Workers
 
-abbrev pub HandsOutJob : Job → Job → WorkerView → WorkerView → Type 0
-HandsOutJob child rest w next = next ≡ record w { current = Some child; deque = w.deque ++ rest ∷ [] }
+abbrev pub SwitchesToChild : Job → Job → WorkerView → WorkerView → Type 0
+SwitchesToChild child rest w next = next ≡ record w { current = Some child; deque = w.deque ++ rest ∷ [] }
 
 abbrev pub Stalls : Job → WorkerView → WorkerView → Type 0
 Stalls rest w next = next ≡ record w { stalled = w.stalled ++ rest ∷ [] }
@@ -79,7 +79,7 @@ pub record PutsAnswer (number : ℕ) (answer : AnswerView) (s next : CoreState) 
 pub record BeginsTask (w number : ℕ) (child rest : TaskView) (s next : CoreState) : Type 0 where
   pub begun : ℕ
   pub nodes : BeginsChild number child.task.origin s.nodes.items next.nodes.items
-  pub workers : WorkerChanges w (HandsOutJob (job child begun) (job rest number)) s.workers.items next.workers.items
+  pub workers : WorkerChanges w (SwitchesToChild (job child begun) (job rest number)) s.workers.items next.workers.items
   pub begun_is : begun ≡ length s.nodes.items
   pub plan : next.plan ≡ s.plan
   pub given : next.given ≡ s.given
@@ -132,7 +132,7 @@ pub record CanResume (nodes : List SpawnNode) (j : Job) : Type 0 where
   pub there : slice_get nodes j.number ≡ Some node
   pub answered : missing node.children ≡ 0
   pub waits : j.task.task.waiting ≡ true
-  pub tags : answer_tags (answers_in node.children) ≡ tags j.task.task.plan (awaited j.task.task.trace.handed)
+  pub tags : answer_tags (answers_in node.children) ≡ tags j.task.task.plan (awaited j.task.task.trace.unmerged)
 
 -- A task continued with the answers of its children, which its node gave up.
 pub record Resumes (j next : Job) (nodes after : List SpawnNode) : Type 0 where

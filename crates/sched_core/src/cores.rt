@@ -13,7 +13,7 @@ use strand_machine::Memory;
 /// core.
 ///
 /// For stepping a schedule by hand: where main's first stop is a spawn, worker 1 can steal nothing at first (`NotLawful`), and
-/// main's rest after `Run(0)`. `stolen_rest_answers` in the tests of `worked_schedules` goes on so up to main's answer.
+/// main's rest after `Run(0)`. `stolen_rest_answers` in the tests of `test_schedules` goes on so up to main's answer.
 #[derive(Drop)]
 pub struct Core {
     pub(crate) state: CoreState,

@@ -2,6 +2,7 @@
 ghost use Rattle.std.specs.Prelude.{◌≡◌, ◌≤◌, IfOk};
 ghost use Rattle.std.specs.Arc.{arc_value};
 ghost use Rattle.serial_meaning.specs.Eval.{main_origin};
+ghost use Rattle.strand_machine.specs.Links.{detached};
 ghost use Rattle.strand_machine.specs.Tasks.{fresh};
 ghost use Rattle.sched_core.specs.Begun.{IsBegun, hired};
 ghost use Rattle.sched_core.specs.Consistent.{IsConsistent};
@@ -10,7 +11,7 @@ use crate::job::Job;
 use crate::node::SpawnNode;
 use crate::state::CoreState;
 use crate::worker::Worker;
-use script_grammar::Items;
+use contract_views::Items;
 use serial_meaning::Plan;
 use std::alloc::Global;
 use std::sync::Arc;
@@ -19,9 +20,9 @@ use strand_machine::{Memory, Task};
 // Main's task. Nobody waits for its value or for those of the tasks below it: the core keeps their answers.
 #[tactic(auto, using(crate::proofs::KnownOfNodes::Mains::main_known))]
 fn main_task(alloc: Global, plan: &Arc<Plan>) -> Result<Task, Memory>
-    ensures { IfOk result (λ task. task ≡ fresh (arc_value plan.now) (main_origin (arc_value plan.now))) }
+    ensures { IfOk result (λ task. task ≡ fresh (arc_value plan.now) (main_origin (arc_value plan.now)) detached) }
 {
-    Ok(Task::alone(alloc, plan, plan.main_origin(alloc)?)?)
+    Ok(Task::detached(alloc, plan, plan.main_origin(alloc)?)?)
 }
 
 // This many workers, of which the first has this task.

@@ -2,7 +2,7 @@
 ghost use Rattle.std.specs.Prelude.{◌≡◌, ◌<◌, ◌≤◌, ◌↔◌, IsTrue, [], ◌∷◌, ◌++◌, Some, None, IfOk, OnOk, length, slice_get, slice_set};
 ghost use Rattle.sched_core.specs.Nodes.{BeginsChild, Hears, answers_in, awaiting, missing, new_node, settled};
 
-use script_grammar::Items;
+use contract_views::Items;
 use serial_meaning::{Answer, Origin};
 use std::alloc::Global;
 use std::mem;

@@ -1,6 +1,6 @@
 use crate::node::SpawnNode;
 use crate::worker::Worker;
-use script_grammar::Items;
+use contract_views::Items;
 use serial_meaning::{Answer, Origin, Plan};
 use std::sync::Arc;
 

@@ -57,7 +57,7 @@ fn begin_task(
         number: begun,
     };
     let rest = Job { task: rest, number };
-    state.workers[w].hand_out(child, rest)
+    state.workers[w].switch_to_child(child, rest)
 }
 
 // The task with this number, which was taken from its worker, comes to this stop.

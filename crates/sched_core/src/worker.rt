@@ -33,7 +33,7 @@ impl Model for Worker {
 
 impl Worker {
     ghost use Rattle.std.specs.Prelude.{◌≡◌, ◌≢◌, ◌<◌, [], Some, None, OnOk, is_some, length, nat_eq, not, slice_get};
-    ghost use Rattle.sched_core.specs.Moves.{HandsOutJob, Stalls, Lets, BacksJob, GivesJob, TakesJob, Leaves};
+    ghost use Rattle.sched_core.specs.Moves.{SwitchesToChild, Stalls, Lets, BacksJob, GivesJob, TakesJob, Leaves};
     ghost use Rattle.sched_core.specs.Workers.{worker_with};
 
     /// A worker whose only task is this one.
@@ -80,8 +80,8 @@ impl Worker {
     }
 
     /// The child becomes the current task, and its parent's rest goes to the back of the deque.
-    pub fn hand_out(&mut self, child: Job, rest: Job) -> Result<(), Memory>
-        ensures { OnOk result (HandsOutJob child rest self.old self.new) }
+    pub fn switch_to_child(&mut self, child: Job, rest: Job) -> Result<(), Memory>
+        ensures { OnOk result (SwitchesToChild child rest self.old self.new) }
     {
         self.deque.push_back(rest)?;
         self.current = Some(child);

@@ -19,7 +19,7 @@ use Rattle.strand_meaning.proofs.SoundSteps.StepsKeepTasks.{tasks_begin}
 use Rattle.strand_meaning.proofs.NextStops.StopsLeaveFewer.{stops_fall}
 use Rattle.strand_meaning.proofs.TakenAnswers.AnswersKeepTasks.{answers_keep_tasks}
 use Rattle.strand_meaning.proofs.NextStops.OneSoundStop.{stops_are_sound, stops_keep_origins}
-use Rattle.strand_machine.specs.Family.{tag, tags}
+use Rattle.strand_machine.specs.Links.{GiveView, JoinNames, tag, tags}
 use Rattle.strand_machine.specs.Faults.{is_fault, EndsByFault}
 use Rattle.strand_machine.specs.AwaitedChildren.{awaited}
 use Rattle.strand_machine.specs.Stops.{IsStop, WentOn, answer_tags, any_cut, is_cut, with_evaluations, view_on}
@@ -31,7 +31,7 @@ use Rattle.serial_runner.specs.declared.stack.Stack.{Stack}
 use Rattle.serial_runner.specs.declared.stack.Advanced.{Advanced}
 use Rattle.serial_runner.specs.declared.stack.Advanced.TheVariants.{Continues, Ends}
 use Rattle.strand_machine.specs.declared.memory.Memory.{Memory}
-use Rattle.serial_runner.proofs.Handed.{handed, HandsStop, stops_hand}
+use Rattle.serial_runner.proofs.Starts.{unmerged, StartsBeforeStop, stops_start}
 
 -- Tags
 
@@ -74,12 +74,12 @@ went_whole answers t next whole h = h.whole whole
 
 -- Children that a wait is over with aren't awaited
 
-heard-none : (f : Option Fault) (prefix : List Event) (p : AwaitedChild) (events : List Event) (ending : Result (List Value) Fault) → (merged_answer_unless f prefix p events ending).handed ≡ []
+heard-none : (f : Option Fault) (prefix : List Event) (p : AwaitedChild) (events : List Event) (ending : Result (List Value) Fault) → (merged_answer_unless f prefix p events ending).unmerged ≡ []
 heard-none (Some f) prefix p events ending = refl
 heard-none None prefix p events (Ok vs) = refl
 heard-none None prefix p events (Err f) = refl
 
-pub none-heard : (ps : List AwaitedChild) (answers : List Evaluation) (trace : Trace) → trace.handed ≡ [] → (merged_answers ps answers trace).handed ≡ []
+pub none-heard : (ps : List AwaitedChild) (answers : List Evaluation) (trace : Trace) → trace.unmerged ≡ [] → (merged_answers ps answers trace).unmerged ≡ []
 none-heard [] answers trace h = h
 none-heard (p ∷ ps) [] trace h = h
 none-heard (p ∷ ps) (a ∷ answers) trace h = none-heard ps answers (merged_answer p a trace) (heard-none trace.fault trace.prefix p a.items a.ending)
@@ -95,12 +95,12 @@ pub lowest-same : {K : Type 0} (t u : Task) (fs : List (OpenTask K)) → IsSameT
 lowest-same t u [] same = same
 lowest-same t u (f ∷ fs) same = (refl, refl)
 
-begun-open_task : {K : Type 0} (plan : PlanView) (o : Origin) → IsTask (start plan o) → IsOpenTask {K = K} [] (record { task = fresh plan o; answers = [] })
-begun-open_task plan o is = record { task = is; idle = refl; goes_on = refl; whole = refl; answers = refl }
+begun-open_task : {K : Type 0} (plan : PlanView) (o : Origin) (joins : JoinNames) → IsTask (start plan o) → IsOpenTask {K = K} [] (record { task = fresh plan o joins; answers = [] })
+begun-open_task plan o joins is = record { task = is; idle = refl; goes_on = refl; whole = refl; answers = refl }
 
 -- the stack of an origin's task alone
-pub begun_stack : {K : Type 0} (plan : PlanView) (o : Origin) (top : OpenTask K) (below : List (OpenTask K)) → IsTask (start plan o) → top ≡ record { task = fresh plan o; answers = [] } → below ≡ [] → IsStack (record { top = top; below = below })
-begun_stack plan o top below is e h = record { top = subst (IsOpenTask []) (sym e) (begun-open_task plan o is); below = subst (AreBelow (task_of top)) (sym h) tt }
+pub begun_stack : {K : Type 0} (plan : PlanView) (o : Origin) (joins : JoinNames) (top : OpenTask K) (below : List (OpenTask K)) → IsTask (start plan o) → top ≡ record { task = fresh plan o joins; answers = [] } → below ≡ [] → IsStack (record { top = top; below = below })
+begun_stack plan o joins top below is e h = record { top = subst (IsOpenTask []) (sym e) (begun-open_task plan o joins is); below = subst (AreBelow (task_of top)) (sym h) tt }
 
 -- What is left of a sound stack, by the stop of its topmost task
 module _ {K : Type 0} (s : Stack K) (is : IsStack s) where
@@ -117,16 +117,16 @@ module _ {K : Type 0} (s : Stack K) (is : IsStack s) where
     abbrev to : Stop
     to = Spawn c rest.task
 
-    is-fresh : child ≡ fresh t.plan c
+    is-fresh : child ≡ fresh t.plan c child.joins
     is-fresh = at.keeps.0
 
     begun : child.task ≡ start t.plan c
     begun = ap (λ (v : TaskView). v.task) is-fresh
 
-    with-child : IsSoundStop t to → KeepsOrigin t to → LeavesFewer t to → HandsStop t to → StepsStack s (record { top = open_task child []; below = open_task rest s.top.answers ∷ s.below })
-    with-child sound same fewer hands = record {
+    with-child : IsSoundStop t to → KeepsOrigin t to → LeavesFewer t to → StartsBeforeStop t to → StepsStack s (record { top = open_task child []; below = open_task rest s.top.answers ∷ s.below })
+    with-child sound same fewer starts = record {
       sound = record {
-        top = subst (λ (v : TaskView). IsOpenTask [] (open_task v [])) (sym is-fresh) (begun-open_task t.plan c (tasks_begin t.plan c sound.0 is.top.task.clear));
+        top = subst (λ (v : TaskView). IsOpenTask [] (open_task v [])) (sym is-fresh) (begun-open_task t.plan c child.joins (tasks_begin t.plan c sound.0 is.top.task.clear));
         below = (ap (λ (u : Task). u.plan) begun ∙ sym same.0, record { task = sound.1; idle = fewer.1; goes_on = at.keeps.3; whole = is.top.whole; answers = answers }, below-same t rest.task s.below same is.below);
       };
       lowest = lowest-same t rest.task s.below same;
@@ -135,30 +135,30 @@ module _ {K : Type 0} (s : Stack K) (is : IsStack s) where
       leaves = ap (λ (u : Task). u ∷ rest.task ∷ tasks s.below) (begun ∙ ap (λ (p : PlanView). start p c) (sym same.0));
     }
       where
-        answers : answer_tags s.top.answers ++ tags rest.task.plan (c ∷ []) ≡ tags rest.task.plan (handed rest.task)
+        answers : answer_tags s.top.answers ++ tags rest.task.plan (c ∷ []) ≡ tags rest.task.plan (unmerged rest.task)
         answers =
-            ap (λ (l : List AnswerTag). l ++ tags rest.task.plan (c ∷ [])) (sym (append-nil (answer_tags s.top.answers)) ∙ is.top.answers ∙ ap (λ (p : PlanView). tags p (handed t)) (sym same.0))
-            ∙ sym (tags-append rest.task.plan (handed t) (c ∷ [])) ∙ ap (tags rest.task.plan) (sym hands.0)
+            ap (λ (l : List AnswerTag). l ++ tags rest.task.plan (c ∷ [])) (sym (append-nil (answer_tags s.top.answers)) ∙ is.top.answers ∙ ap (λ (p : PlanView). tags p (unmerged t)) (sym same.0))
+            ∙ sym (tags-append rest.task.plan (unmerged t) (c ∷ [])) ∙ ap (tags rest.task.plan) (sym starts.0)
 
     -- A child goes on top.
     pub spawned : (top : OpenTask K) (below : List (OpenTask K)) → top ≡ record { task = child; answers = [] } → below ≡ record { task = rest; answers = s.top.answers } ∷ s.below → StepsStack s (record { top = top; below = below })
     spawned top below e h =
         subst (λ (f : OpenTask _). StepsStack s (record { top = f; below = below })) (sym e) (subst (λ (fs : List (OpenTask _)). StepsStack s (record { top = open_task child []; below = fs })) (sym h)
-        (with-child (stops_are_sound t to is.top.task at.next) (stops_keep_origins t to at.next) (stops_fall t to is.top.task is.top.idle at.next) (stops_hand t to is.top.task at.next)))
+        (with-child (stops_are_sound t to is.top.task at.next) (stops_keep_origins t to at.next) (stops_fall t to is.top.task is.top.idle at.next) (stops_start t to is.top.task at.next)))
 
   module _ (rest : TaskView) (at : IsStop {K = K} s.top.task (stop.Wait rest)) where
     -- At a wait the answers are those of all children.
     pub waits : rest.task.waiting ≡ true
     waits = let fewer : LeavesFewer t (Wait rest.task) = stops_fall t (Wait rest.task) is.top.task is.top.idle at.next in fewer.1
 
-    pub has_answers : answer_tags s.top.answers ≡ tags rest.task.plan (awaited rest.task.trace.handed)
+    pub has_answers : answer_tags s.top.answers ≡ tags rest.task.plan (awaited rest.task.trace.unmerged)
     has_answers =
         let same : KeepsOrigin t (Wait rest.task) = stops_keep_origins t (Wait rest.task) at.next in
-        let hands : HandsStop t (Wait rest.task) = stops_hand t (Wait rest.task) is.top.task at.next in
-        sym (append-nil (answer_tags s.top.answers)) ∙ is.top.answers ∙ ap (λ (p : PlanView). tags p (handed t)) (sym same.0) ∙ ap (tags rest.task.plan) (sym hands)
+        let starts : StartsBeforeStop t (Wait rest.task) = stops_start t (Wait rest.task) is.top.task at.next in
+        sym (append-nil (answer_tags s.top.answers)) ∙ is.top.answers ∙ ap (λ (p : PlanView). tags p (unmerged t)) (sym same.0) ∙ ap (tags rest.task.plan) (sym starts)
 
-    none : (with_evaluations rest).trace.handed ≡ []
-    none = none-heard rest.task.trace.handed (evaluations (eval rest.task.plan) rest.task.trace.handed) _ refl
+    none : (with_evaluations rest).trace.unmerged ≡ []
+    none = none-heard rest.task.trace.unmerged (evaluations (eval rest.task.plan) rest.task.trace.unmerged) _ refl
 
     gone-on : IsSoundStop t (Wait rest.task) → KeepsOrigin t (Wait rest.task) → StepsStack s (record { top = open_task (view_on rest) []; below = s.below })
     gone-on sound same = record {
@@ -178,7 +178,7 @@ module _ {K : Type 0} (s : Stack K) (is : IsStack s) where
         subst (λ (f : OpenTask _). StepsStack s (record { top = f; below = s.below })) (sym (e ∙ ap (λ (w : TaskView). open_task w []) h))
         (gone-on (stops_are_sound t (Wait rest.task) is.top.task at.next) (stops_keep_origins t (Wait rest.task) at.next))
 
-  module _ (answer : AnswerView) (give : AnswerTag) (at : IsStop {K = K} s.top.task (stop.Done answer give)) where
+  module _ (answer : AnswerView) (give : GiveView AnswerTag) (at : IsStop {K = K} s.top.task (stop.Done answer give)) where
     to-parent : (f : OpenTask K) (fs : List (OpenTask K)) → s.below ≡ f ∷ fs → AreBelow t (f ∷ fs) → StepsStack s (stack_with_answer answer f fs)
     to-parent f fs e b = record {
       sound = record { top = record { task = b.1.task; idle = b.1.idle; goes_on = b.1.goes_on; whole = more-uncut f.answers answer b.1.whole whole; answers = answers }; below = b.2 };
@@ -191,7 +191,7 @@ module _ {K : Type 0} (s : Stack K) (is : IsStack s) where
         whole : is_cut answer.outcome ≡ false
         whole = uncut t.plan answer.outcome at.known
 
-        answers : answer_tags (f.answers ++ answer ∷ []) ++ [] ≡ tags (task_of f).plan (awaited (task_of f).trace.handed)
+        answers : answer_tags (f.answers ++ answer ∷ []) ++ [] ≡ tags (task_of f).plan (awaited (task_of f).trace.unmerged)
         answers =
             append-nil (answer_tags (f.answers ++ answer ∷ [])) ∙ answer-tags-append f.answers (answer ∷ [])
             ∙ ap (λ (p : PlanView). answer_tags f.answers ++ tag p answer.origin ∷ []) (at.keeps.0 ∙ b.0)
@@ -239,7 +239,7 @@ pub record EndsAt {K : Type 0} (bottom : Task) (answer : AnswerView) (fs : List 
   pub known : IsFaultOf answer.plan answer.outcome
   pub lowest : IsSameTask bottom (lowest_of (task_of_answer answer) fs)
 
-pub ends-next : {K : Type 0} (bottom : Task) (a b : AnswerView) (by : AnswerTag) (f : OpenTask K) (fs gs : List (OpenTask K)) → gs ≡ f ∷ fs → EndsAt bottom a gs → EndsByFault f.task b by → EndsAt bottom b fs
+pub ends-next : {K : Type 0} (bottom : Task) (a b : AnswerView) (by : GiveView AnswerTag) (f : OpenTask K) (fs gs : List (OpenTask K)) → gs ≡ f ∷ fs → EndsAt bottom a gs → EndsByFault f.task b by → EndsAt bottom b fs
 ends-next bottom a b by f fs gs e at ends =
     let was : EndsAt bottom a (f ∷ fs) = subst (EndsAt bottom a) e at in
     let same : IsSameTask (task_of f) (task_of_answer b) = (ends.plan, ends.origin) in

@@ -5,7 +5,7 @@ use Rattle.std.proofs.lemmas.Option.{slice_get_read}
 use Rattle.serial_meaning.specs.Answer.{AnswerView}
 use Rattle.serial_meaning.specs.Plan.{PlanView}
 use Rattle.serial_meaning.specs.declared.origin.Origin.{Origin}
-use Rattle.strand_machine.specs.Family.{tag, tags}
+use Rattle.strand_machine.specs.Links.{tag, tags}
 use Rattle.strand_machine.specs.Stops.{answer_tags}
 use Rattle.serial_runner.proofs.Advancing.{answer-tags-append}
 

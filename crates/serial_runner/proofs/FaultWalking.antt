@@ -13,7 +13,7 @@ use Rattle.strand_meaning.specs.Task.{Task, start}
 use Rattle.strand_meaning.proofs.NextStops.StopsLeaveFewer.{stops_fall, answers_leave_no_more}
 use Rattle.strand_meaning.proofs.TakenAnswers.AnswersKeepTasks.{answers_keep_tasks}
 use Rattle.strand_meaning.proofs.NextStops.OneSoundStop.{stops_are_sound, stops_keep_origins}
-use Rattle.strand_machine.specs.Family.{tags}
+use Rattle.strand_machine.specs.Links.{GiveView, tags}
 use Rattle.strand_machine.specs.AwaitedChildren.{awaited}
 use Rattle.strand_machine.specs.Placed.{IsPlaced, latest}
 use Rattle.strand_machine.specs.Stops.{stop_of, answer_tags, any_cut, with_evaluations, view_on, WentOn}
@@ -29,7 +29,7 @@ use Rattle.serial_runner.specs.declared.fault_walk.FaultWalk.{FaultWalk}
 use Rattle.serial_runner.specs.declared.fault_walk.FaultWalked.{FaultWalked}
 use Rattle.serial_runner.specs.declared.fault_walk.FaultWalked.TheVariants.{Continues, Ends}
 use Rattle.serial_runner.proofs.Advancing.{none-heard, went_whole}
-use Rattle.serial_runner.proofs.Handed.{handed, HandsStop, stops_hand}
+use Rattle.serial_runner.proofs.Starts.{unmerged, StartsBeforeStop, stops_start}
 use Rattle.serial_runner.proofs.Walking.{parts-known}
 
 -- A walk begins with a task of which nothing is done.
@@ -59,7 +59,7 @@ module _ (plan : PlanView) (o : Origin) (w : FaultWalk) (is : IsFaultWalk plan o
   -- The children that it awaits are origins of the plan.
   pub children_are_known : AreOriginsOf plan w.awaited
   children_are_known =
-      subst (AreOriginsOf plan) (sym is.awaits) (subst (λ (p : PlanView). AreOriginsOf p (handed t)) is.plan_is (parts-known t.plan t.origin t.trace.handed is.task.awaiting))
+      subst (AreOriginsOf plan) (sym is.awaits) (subst (λ (p : PlanView). AreOriginsOf p (unmerged t)) is.plan_is (parts-known t.plan t.origin t.trace.unmerged is.task.awaiting))
 
   module _ (n : PlacedStop) (placed : IsPlaced w.task n) where
     abbrev met : Option PlacedFault
@@ -74,8 +74,8 @@ module _ (plan : PlanView) (o : Origin) (w : FaultWalk) (is : IsFaultWalk plan o
     fewer : (s : stops.Stop All) → n.stop ≡ s → LeavesFewer t (stop_of s)
     fewer s e = subst (λ (x : stops.Stop All). LeavesFewer t (stop_of x)) e (stops_fall t (stop_of n.stop) is.task is.idle placed.stop.next)
 
-    hands : (s : stops.Stop All) → n.stop ≡ s → HandsStop t (stop_of s)
-    hands s e = subst (λ (x : stops.Stop All). HandsStop t (stop_of x)) e (stops_hand t (stop_of n.stop) is.task placed.stop.next)
+    starts : (s : stops.Stop All) → n.stop ≡ s → StartsBeforeStop t (stop_of s)
+    starts s e = subst (λ (x : stops.Stop All). StartsBeforeStop t (stop_of x)) e (stops_start t (stop_of n.stop) is.task placed.stop.next)
 
     at-stop : (s : stops.Stop All) → n.stop ≡ s → IsPlaced w.task (record n { stop = s })
     at-stop s e = subst (λ (x : stops.Stop All). IsPlaced w.task (record n { stop = x })) e placed
@@ -96,8 +96,8 @@ module _ (plan : PlanView) (o : Origin) (w : FaultWalk) (is : IsFaultWalk plan o
       task : IsSoundStop t (stop_of s)
       task = sound s stopped
 
-      more : HandsStop t (stop_of s)
-      more = hands s stopped
+      more : StartsBeforeStop t (stop_of s)
+      more = starts s stopped
 
       there : IsPlaced w.task (record n { stop = s })
       there = at-stop s stopped
@@ -130,8 +130,8 @@ module _ (plan : PlanView) (o : Origin) (w : FaultWalk) (is : IsFaultWalk plan o
       wait-task : IsSoundStop t (stop_of at)
       wait-task = sound at stopped
 
-      wait-hands : HandsStop t (stop_of at)
-      wait-hands = hands at stopped
+      wait-starts : StartsBeforeStop t (stop_of at)
+      wait-starts = starts at stopped
 
       wait-there : IsPlaced w.task (record n { stop = at })
       wait-there = at-stop at stopped
@@ -140,8 +140,8 @@ module _ (plan : PlanView) (o : Origin) (w : FaultWalk) (is : IsFaultWalk plan o
       then_waits = wait-less.1
 
       -- These are the answers that it awaits.
-      pub then_has_answers : (answers : List AnswerView) → answer_tags answers ≡ tags plan w.awaited → answer_tags answers ≡ tags rest.task.plan (awaited rest.task.trace.handed)
-      then_has_answers answers h = h ∙ ap (tags plan) (is.awaits ∙ sym wait-hands) ∙ ap (λ (p : PlanView). tags p (handed rest.task)) (sym (wait-kept.0 ∙ is.plan_is))
+      pub then_has_answers : (answers : List AnswerView) → answer_tags answers ≡ tags plan w.awaited → answer_tags answers ≡ tags rest.task.plan (awaited rest.task.trace.unmerged)
+      then_has_answers answers h = h ∙ ap (tags plan) (is.awaits ∙ sym wait-starts) ∙ ap (λ (p : PlanView). tags p (unmerged rest.task)) (sym (wait-kept.0 ∙ is.plan_is))
 
       -- The walk goes on with the answers, and awaits no child.
       pub faults_by_wait : (answers : List AnswerView) → any_cut answers ≡ false → (v : TaskView) → WentOn answers rest v → (os : List Origin) → os ≡ [] → (after : Option PlacedFault) → after ≡ met → FaultWalksOn plan o w (Continues (record { task = v; awaited = os; met = after }))
@@ -155,8 +155,8 @@ module _ (plan : PlanView) (o : Origin) (w : FaultWalk) (is : IsFaultWalk plan o
           left : stops_left (with_evaluations rest) < stops_left t
           left = let l : stops_left rest.task < stops_left t = wait-less.0 in omega (arith, l, no_more)
 
-          none : (with_evaluations rest).trace.handed ≡ []
-          none = none-heard rest.task.trace.handed (evaluations (eval rest.task.plan) rest.task.trace.handed) _ refl
+          none : (with_evaluations rest).trace.unmerged ≡ []
+          none = none-heard rest.task.trace.unmerged (evaluations (eval rest.task.plan) rest.task.trace.unmerged) _ refl
 
           walk : IsFaultWalk plan o (record { task = view_on rest; awaited = os; met = met })
           walk = record {
@@ -170,7 +170,7 @@ module _ (plan : PlanView) (o : Origin) (w : FaultWalk) (is : IsFaultWalk plan o
           }
 
     -- The task has ended.
-    pub fault_walk_ends : (answer : AnswerView) (give : AnswerTag) → n.stop ≡ stop.Done answer give → (after : Option PlacedFault) → after ≡ met → FaultWalksOn plan o w (Ends after)
+    pub fault_walk_ends : (answer : AnswerView) (give : GiveView AnswerTag) → n.stop ≡ stop.Done answer give → (after : Option PlacedFault) → after ≡ met → FaultWalksOn plan o w (Ends after)
     fault_walk_ends answer give stopped after e =
         let there = at-stop (stop.Done answer give) stopped in
         subst (OriginMeets plan o) (sym e) (is.meets n.met (AtEnd answer.out answer.outcome there.meets))

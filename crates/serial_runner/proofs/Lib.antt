@@ -3,7 +3,7 @@ pub mod Answered
 pub mod Below
 pub mod FaultEnds
 pub mod FaultWalking
-pub mod Handed
+pub mod Starts
 pub mod Measure
 pub mod ObservedStops
 pub mod Over

@@ -1,4 +1,4 @@
--- How many stops a task and all that it hands out come to, where each child is run to its end first. It falls by one with each stop.
+-- How many stops a task and all that it begins come to, where each child is run to its end first. It falls by one with each stop.
 use Rattle.std.proofs.Common.{◌≡◌, ℕ, zero, suc, ◌+◌, ◌<◌, ◌≤◌, inl, inr, Bool, true, false, nat_lt, List, [], ◌∷◌, refl, sym, ap, ◌∙◌, subst, arith, if◌then◌else◌}
 use Rattle.std.proofs.lemmas.Bool.Decides.{nat_tests}
 use Rattle.serial_meaning.specs.Plan.{PlanView}
@@ -18,7 +18,7 @@ use Rattle.strand_meaning.proofs.NextStops.OneSoundStop.{stops_are_one, stops_ar
 use Rattle.strand_meaning.proofs.TakenAnswers.AnswersKeepTasks.{answers_keep_tasks}
 use Rattle.serial_runner.specs.Stacks.{task_of, IsStack, tasks, tasks_after, StepsStack}
 use Rattle.serial_runner.specs.declared.stack.Stack.{Stack}
-use Rattle.serial_runner.proofs.Handed.{size_of, IsSmaller, HandsStop, stops_hand}
+use Rattle.serial_runner.proofs.Starts.{size_of, IsSmaller, StartsBeforeStop, stops_start}
 
 -- the stop that a task comes to
 pub next : Task → Stop
@@ -33,7 +33,7 @@ unfolding next
 next-is t stop n = stops_are_one t (stops_come t).0 stop (stops_come t).1 n
 
 abbrev gone_on : Task → Task
-gone_on t = on (evaluations (eval t.plan) t.trace.handed) t
+gone_on t = on (evaluations (eval t.plan) t.trace.unmerged) t
 
 -- this stop, and what comes after it
 abbrev with_stop : (Origin → ℕ) → (Task → ℕ) → Stop → ℕ
@@ -63,22 +63,22 @@ FewerAfter plan o n (Wait t) = IsAt plan o (gone_on t) × (stops_left (gone_on t
 FewerAfter plan o n (End out ended) = Unit {0}
 
 after-stop : (plan : PlanView) (o : Origin) (t : Task) (stop : Stop) → IsAt plan o t → IsNext t stop → FewerAfter plan o (stops_left t) stop
-after-stop plan o t stop at n = from stop (stops_are_sound t stop at.task n) (stops_keep_origins t stop n) (stops_fall t stop at.task at.idle n) (stops_hand t stop at.task n)
+after-stop plan o t stop at n = from stop (stops_are_sound t stop at.task n) (stops_keep_origins t stop n) (stops_fall t stop at.task at.idle n) (stops_start t stop at.task n)
   where
-    from : (stop : Stop) → IsSoundStop t stop → KeepsOrigin t stop → LeavesFewer t stop → HandsStop t stop → FewerAfter plan o (stops_left t) stop
-    from (Spawn c r) sound same fewer hands = (
+    from : (stop : Stop) → IsSoundStop t stop → KeepsOrigin t stop → LeavesFewer t stop → StartsBeforeStop t stop → FewerAfter plan o (stops_left t) stop
+    from (Spawn c r) sound same fewer starts = (
       subst (λ (p : PlanView). IsOriginOf p c) at.plan_is sound.0,
-      subst (λ (q : Origin). IsSmaller plan q c) at.origin_is (subst (λ (p : PlanView). IsSmaller p t.origin c) at.plan_is hands.1),
+      subst (λ (q : Origin). IsSmaller plan q c) at.origin_is (subst (λ (p : PlanView). IsSmaller p t.origin c) at.plan_is starts.1),
       record { task = sound.1; idle = fewer.1; plan_is = same.0 ∙ at.plan_is; origin_is = same.1 ∙ at.origin_is },
       fewer.0,
     )
-    from (Wait r) sound same fewer hands =
+    from (Wait r) sound same fewer starts =
         let more : stops_left (gone_on r) ≤ stops_left r = answers_leave_no_more r sound fewer.1 in
         (record { task = answers_keep_tasks r sound; idle = refl; plan_is = same.0 ∙ at.plan_is; origin_is = same.1 ∙ at.origin_is }, less more fewer.0)
       where
         less : {a b c : ℕ} → a ≤ b → b < c → a < c
         less h k = omega arith
-    from (End out ended) sound same fewer hands = tt
+    from (End out ended) sound same fewer starts = tt
 
 module _ (plan : PlanView) where
   -- an origin of so many ranks left, where deeper ones come to so many, and where it has less than so many iterations
@@ -91,7 +91,7 @@ module _ (plan : PlanView) where
   deep zero o = 0
   deep (suc d) o = sized (depth_left plan o) (deep d) (suc (size_of o)) o
 
-  -- an origin, with all that it hands out
+  -- an origin, with all that it begins
   pub whole : Origin → ℕ
   whole o = deep (suc (depth_left plan o)) o
 
@@ -156,7 +156,7 @@ module _ (plan : PlanView) (clear : IsClearPlan plan) where
           subst (λ (n : ℕ). sized plan n (deep plan n) (size_of o) c ≡ deep plan (suc (depth_left plan c)) c) same.0
           (sized-agree (depth_left plan c) (deep plan (depth_left plan c)) (deep plan (depth_left plan c)) (λ x k l. refl) (size_of o) (suc (size_of c)) c there refl same.1 (omega arith))
 
--- all stops of a task and of what it hands out
+-- all stops of a task and of what it begins
 pub own_stops : Task → ℕ
 own_stops t = all_stops (whole t.plan) t
 

@@ -14,9 +14,9 @@ use Rattle.strand_meaning.specs.Observation.{IsInstanceOrigin, Observation, also
 use Rattle.strand_meaning.specs.Task.{Task}
 use Rattle.strand_meaning.specs.Strands.{Strand, is_below, events_at, own_events, own_fault_at, fault_of_child, last_pedigree, ended_before, child_on_way, is_one_of, strand_of, blocking_fault}
 use Rattle.strand_meaning.proofs.NodesObserved.EventsOfPedigree.{events_at-append}
-use Rattle.strand_machine.specs.Eyes.{new_eye, eye_after, is_none_ahead}
-use Rattle.strand_machine.specs.declared.eye.Eye.{Eye}
-use Rattle.strand_machine.proofs.NodesObserved.Eyes.{looks-append, own-append, places-seen, places-without, past-seen}
+use Rattle.strand_machine.specs.Probes.{new_probe, probe_after, is_none_ahead}
+use Rattle.strand_machine.specs.declared.probe.StrandProbe.{StrandProbe}
+use Rattle.strand_machine.proofs.NodesObserved.Probes.{looks-append, own-append, places-seen, places-without, past-seen}
 use Rattle.serial_runner.specs.Nodes.{IsBelow, node_by, node_at, fault_at, is_none, came_to, strand_seen, child_fault_before, node_seen}
 use Rattle.serial_runner.specs.Observed.{with_observation, first_child, with_child, observed_on, IsSeen, is_some, is_over}
 use Rattle.serial_runner.specs.declared.observed.ObservedInstance.{ObservedInstance}
@@ -73,7 +73,7 @@ first-only (Some o) = refl
 module _ (path j : List ℕ) (observation later : Observation) where
   abbrev observed_so_far : Option Origin → ObservedInstance
   observed_so_far child = record {
-    eye = eye_after j (new_eye path j) (observation.items ++ later.items);
+    probe = probe_after j (new_probe path j) (observation.items ++ later.items);
     events = events_at j (own_events (observation.items ++ later.items));
     fault = newest observation.fault later.fault;
     child = child;
@@ -85,16 +85,16 @@ module _ (path j : List ℕ) (observation later : Observation) where
       ap (λ (l : List Event). l ++ events) e ∙ ap (λ (l : List Event). events_at j (own_events observation.items) ++ l) h ∙ sym (events_at-append j (own_events observation.items) (own_events later.items))
       ∙ ap (events_at j) (sym (own-append observation.items later.items))
 
-  pub seen-with : (s : ObservedInstance) (eye : Eye) (events : List Event) (fault child_fault : Option Fault) → s ≡ observed_on path j observation → eye ≡ eye_after j s.eye later.items → events ≡ events_at j (own_events later.items) →
-      fault ≡ later.fault → child_fault ≡ later.child_fault → with_observation eye events fault child_fault s ≡ observed_so_far (child_on_way j observation.items)
-  seen-with s eye events fault child_fault e r v f g =
-      ap (with_observation eye events fault child_fault) e
-      ∙ ap (λ (b : Eye). record (with_observation eye events fault child_fault (observed_on path j observation)) { eye = b }) (r ∙ ap (λ (t : ObservedInstance). eye_after j t.eye later.items) e ∙ sym (looks-append j (new_eye path j) observation.items later.items))
+  pub seen-with : (s : ObservedInstance) (probe : StrandProbe) (events : List Event) (fault child_fault : Option Fault) → s ≡ observed_on path j observation → probe ≡ probe_after j s.probe later.items → events ≡ events_at j (own_events later.items) →
+      fault ≡ later.fault → child_fault ≡ later.child_fault → with_observation probe events fault child_fault s ≡ observed_so_far (child_on_way j observation.items)
+  seen-with s probe events fault child_fault e r v f g =
+      ap (with_observation probe events fault child_fault) e
+      ∙ ap (λ (b : StrandProbe). record (with_observation probe events fault child_fault (observed_on path j observation)) { probe = b }) (r ∙ ap (λ (t : ObservedInstance). probe_after j t.probe later.items) e ∙ sym (looks-append j (new_probe path j) observation.items later.items))
       ∙ ap (λ (l : List Event). record (observed_so_far (child_on_way j observation.items)) { events = l; fault = newest observation.fault fault; child_fault = newest observation.child_fault child_fault }) (with-events (events_at j (own_events observation.items)) events refl v)
       ∙ ap (λ (x : Option Fault). record (observed_so_far (child_on_way j observation.items)) { fault = newest observation.fault x; child_fault = newest observation.child_fault child_fault }) f
       ∙ ap (λ (x : Option Fault). record (observed_so_far (child_on_way j observation.items)) { child_fault = newest observation.child_fault x }) g
 
-  -- where a child was handed out, and where none was
+  -- where a child was begun, and where none was
   pub seen_child : (c : Origin) (s : ObservedInstance) → item_children later.items ≡ c ∷ [] → s ≡ observed_so_far (child_on_way j observation.items) → with_child j c s ≡ observed_on path j (also observation later)
   seen_child c s h e =
       ap (with_child j c) e
@@ -110,8 +110,8 @@ module _ (path j : List ℕ) (observation later : Observation) where
 abbrev a_strand : List Event → Option Fault → Strand
 a_strand events fault = record { events = events; fault = fault }
 
-abbrev an_observed : Eye → List Event → Option Fault → Option Origin → Option Fault → ObservedInstance
-an_observed eye events fault child child_fault = record { eye = eye; events = events; fault = fault; child = child; child_fault = child_fault }
+abbrev an_observed : StrandProbe → List Event → Option Fault → Option Origin → Option Fault → ObservedInstance
+an_observed probe events fault child child_fault = record { probe = probe; events = events; fault = fault; child = child; child_fault = child_fault }
 
 own-at : (j : List ℕ) (e : Result (List Value) NodeFault) → fault_at j (own_fault_of e) ≡ own_fault_at j e
 own-at j (Ok vs) = refl
@@ -147,18 +147,18 @@ module _ (function : ℕ) (args : List Value) (path : List ℕ) (r : ℕ) (more 
   start = path ++ 0 ∷ []
 
   abbrev observed_of : List Item → Result (List Value) NodeFault → ObservedInstance
-  observed_of items e = an_observed (eye_after j (new_eye path j) items) (events_at j (own_events items)) (own_fault_of e) (child_on_way j items) (fault_of_child e)
+  observed_of items e = an_observed (probe_after j (new_probe path j) items) (events_at j (own_events items)) (own_fault_of e) (child_on_way j items) (fault_of_child e)
 
   -- whether the instance came to the strand
   came-is : (e : Result (List Value) NodeFault) → came_to (observed_of n.items e) ≡ is_one_of j (strand_pedigrees o (record n { ending = e }))
-  came-is (Ok vs) = let eye = eye_after j (new_eye path j) n.items in and-true eye.came (is_none_ahead eye.ahead) ∙ sym (places-seen r more start (new_eye path j) n.items refl)
-  came-is (Err (Own f)) = let eye = eye_after j (new_eye path j) n.items in and-true eye.came (is_none_ahead eye.ahead) ∙ sym (places-seen r more start (new_eye path j) n.items refl)
-  came-is (Err (ChildFaulted f)) = let eye = eye_after j (new_eye path j) n.items in and-false eye.came (is_none_ahead eye.ahead) ∙ sym (places-without r more start (new_eye path j) n.items refl)
+  came-is (Ok vs) = let probe = probe_after j (new_probe path j) n.items in and-true probe.came (is_none_ahead probe.ahead) ∙ sym (places-seen r more start (new_probe path j) n.items refl)
+  came-is (Err (Own f)) = let probe = probe_after j (new_probe path j) n.items in and-true probe.came (is_none_ahead probe.ahead) ∙ sym (places-seen r more start (new_probe path j) n.items refl)
+  came-is (Err (ChildFaulted f)) = let probe = probe_after j (new_probe path j) n.items in and-false probe.came (is_none_ahead probe.ahead) ∙ sym (places-without r more start (new_probe path j) n.items refl)
 
   child_fault-is : (e : Result (List Value) NodeFault) → child_fault_before (observed_of n.items e) ≡ blocking_fault (record n { ending = e }) j
-  child_fault-is (Ok vs) = if-none (eye_after j (new_eye path j) n.items).past
-  child_fault-is (Err (Own f)) = if-none (eye_after j (new_eye path j) n.items).past
-  child_fault-is (Err (ChildFaulted f)) = ap (λ (b : Bool). if b then Some f else None) (past-seen j [] (new_eye path j) n.items refl)
+  child_fault-is (Ok vs) = if-none (probe_after j (new_probe path j) n.items).past
+  child_fault-is (Err (Own f)) = if-none (probe_after j (new_probe path j) n.items).past
+  child_fault-is (Err (ChildFaulted f)) = ap (λ (b : Bool). if b then Some f else None) (past-seen j [] (new_probe path j) n.items refl)
 
   strand-is : strand_seen j (observed_of n.items n.ending) ≡ strand_of o n j
   strand-is =
@@ -169,7 +169,7 @@ module _ (function : ℕ) (args : List Value) (path : List ℕ) (r : ℕ) (more 
   node-is = ap (λ (t : Option Strand). node_by (child_on_way j n.items) t (child_fault_before (observed_of n.items n.ending))) strand-is ∙ ap (λ (f : Option Fault). node_by (child_on_way j n.items) (strand_of o n j) f) (child_fault-is n.ending)
 
   -- Where a strand of its own was over before some of its items, the others tell no more.
-  module _ (follows : NodeFollows path n) (xs ys : List Item) (parts : n.items ≡ xs ++ ys) (came : (eye_after j (new_eye path j) xs).came ≡ true) where
+  module _ (follows : NodeFollows path n) (xs ys : List Item) (parts : n.items ≡ xs ++ ys) (came : (probe_after j (new_probe path j) xs).came ≡ true) where
     whole : NodeFollows path (record n { items = xs ++ ys })
     whole = subst (λ (l : List Item). NodeFollows path (record n { items = l })) parts follows
 
@@ -180,7 +180,7 @@ module _ (function : ℕ) (args : List Value) (path : List ℕ) (r : ℕ) (more 
     by = came_by [] (xs ++ ys)
 
     over : IsOver j (stands start xs) (came_by [] xs)
-    over = comes j start [] xs (follow-front start [] xs ys (whole.follow [])) (places-without r more start (new_eye path j) xs refl ∙ came)
+    over = comes j start [] xs (follow-front start [] xs ys (whole.follow [])) (places-without r more start (new_probe path j) xs refl ∙ came)
 
     at-end : IsOver j here by
     at-end =
@@ -198,8 +198,8 @@ module _ (function : ℕ) (args : List Value) (path : List ℕ) (r : ℕ) (more 
         ap (λ (l : List Item). events_at j (own_events l)) parts ∙ ap (events_at j) (own-append xs ys) ∙ events_at-append j (own_events xs) (own_events ys)
         ∙ ap (λ (l : List Event). events_at j (own_events xs) ++ l) later.0 ∙ append-nil (events_at j (own_events xs))
 
-    still : (eye_after j (new_eye path j) n.items).came ≡ true
-    still = ap (λ (l : List Item). (eye_after j (new_eye path j) l).came) parts ∙ ap (λ (e : Eye). e.came) (looks-append j (new_eye path j) xs ys) ∙ came-stays j (eye_after j (new_eye path j) xs) ys came
+    still : (probe_after j (new_probe path j) n.items).came ≡ true
+    still = ap (λ (l : List Item). (probe_after j (new_probe path j) l).came) parts ∙ ap (λ (e : StrandProbe). e.came) (looks-append j (new_probe path j) xs ys) ∙ came-stays j (probe_after j (new_probe path j) xs) ys came
 
     no-fault : (e : Result (List Value) NodeFault) → NodeEnds here by e → fault_at j (own_fault_of e) ≡ None
     no-fault (Ok vs) h = refl
@@ -207,11 +207,11 @@ module _ (function : ℕ) (args : List Value) (path : List ℕ) (r : ℕ) (more 
     no-fault (Err (ChildFaulted f)) h = refl
 
     no-block : (e : Result (List Value) NodeFault) → NodeEnds here by e → child_fault_before (observed_of n.items e) ≡ None
-    no-block (Ok vs) h = if-none (eye_after j (new_eye path j) n.items).past
-    no-block (Err (Own f)) h = if-none (eye_after j (new_eye path j) n.items).past
+    no-block (Ok vs) h = if-none (probe_after j (new_probe path j) n.items).past
+    no-block (Err (Own f)) h = if-none (probe_after j (new_probe path j) n.items).past
     no-block (Err (ChildFaulted f)) h =
         ap (λ (b : Bool). if b then Some f else None)
-        (past-seen j [] (new_eye path j) n.items refl
+        (past-seen j [] (new_probe path j) n.items refl
         ∙ ap (λ (l : List ℕ). ended_before l j) (ap (λ (l : List Item). last_pedigree [] (own_events l)) parts ∙ last-led [] [] (xs ++ ys) (λ q. refl) h.1)
         ∙ not-ended j by (at-end.after h.1))
 
@@ -221,24 +221,24 @@ module _ (function : ℕ) (args : List Value) (path : List ℕ) (r : ℕ) (more 
     strand-there : strand_of o n j ≡ strand None
     strand-there =
         sym strand-is
-        ∙ ap (λ (b : Bool). if b || (is_none_ahead (eye_after j (new_eye path j) n.items).ahead && is_none (fault_of_child n.ending)) then Some (a_strand (events_at j (own_events n.items)) (fault_at j (own_fault_of n.ending))) else None) still
+        ∙ ap (λ (b : Bool). if b || (is_none_ahead (probe_after j (new_probe path j) n.items).ahead && is_none (fault_of_child n.ending)) then Some (a_strand (events_at j (own_events n.items)) (fault_at j (own_fault_of n.ending))) else None) still
         ∙ ap (λ (l : List Event). Some (a_strand l (fault_at j (own_fault_of n.ending)))) same-events
         ∙ ap strand (no-fault n.ending (whole.ends []))
 
-    pub over-is : (s : ObservedInstance) → s.eye ≡ eye_after j (new_eye path j) xs → s.events ≡ events_at j (own_events xs) → s.fault ≡ None → s.child ≡ child_on_way j xs → s.child_fault ≡ None → node_seen j s ≡ node_at o n j
-    over-is s eye events fault child child_fault =
+    pub over-is : (s : ObservedInstance) → s.probe ≡ probe_after j (new_probe path j) xs → s.events ≡ events_at j (own_events xs) → s.fault ≡ None → s.child ≡ child_on_way j xs → s.child_fault ≡ None → node_seen j s ≡ node_at o n j
+    over-is s probe events fault child child_fault =
         ap (λ (c : Option Origin). node_by c (strand_seen j s) (child_fault_before s)) (child ∙ sym same-child)
         ∙ ap (λ (t : Option Strand). node_by (child_on_way j n.items) t (child_fault_before s)) (here-strand ∙ sym strand-there)
         ∙ ap (λ (f : Option Fault). node_by (child_on_way j n.items) (strand_of o n j) f) (here-child_fault ∙ sym (sym (child_fault-is n.ending) ∙ no-block n.ending (whole.ends [])))
       where
         here-strand : strand_seen j s ≡ strand None
         here-strand =
-            ap (λ (b : Bool). if b || (is_none_ahead s.eye.ahead && is_none s.child_fault) then Some (a_strand s.events (fault_at j s.fault)) else None) (ap (λ (e : Eye). e.came) eye ∙ came)
+            ap (λ (b : Bool). if b || (is_none_ahead s.probe.ahead && is_none s.child_fault) then Some (a_strand s.events (fault_at j s.fault)) else None) (ap (λ (e : StrandProbe). e.came) probe ∙ came)
             ∙ ap (λ (l : List Event). Some (a_strand l (fault_at j s.fault))) events
             ∙ ap (λ (f : Option Fault). strand (fault_at j f)) fault
 
         here-child_fault : child_fault_before s ≡ None
-        here-child_fault = ap (λ (f : Option Fault). if s.eye.past then f else None) child_fault ∙ if-none s.eye.past
+        here-child_fault = ap (λ (f : Option Fault). if s.probe.past then f else None) child_fault ∙ if-none s.probe.past
 
 -- The node
 
@@ -254,14 +254,14 @@ module _ (plan : PlanView) (o : Origin) (j : List ℕ) (i : IsInstanceOrigin o) 
       n : open_tree.Node
       n = node_of plan o
 
-      same : observed_on (path_of o) j observation ≡ an_observed (eye_after j (new_eye (path_of o) j) n.items) (events_at j (own_events n.items)) (own_fault_of n.ending) (child_on_way j n.items) (fault_of_child n.ending)
+      same : observed_on (path_of o) j observation ≡ an_observed (probe_after j (new_probe (path_of o) j) n.items) (events_at j (own_events n.items)) (own_fault_of n.ending) (child_on_way j n.items) (fault_of_child n.ending)
       same =
-          ap (λ (l : List Item). an_observed (eye_after j (new_eye (path_of o) j) l) (events_at j (own_events l)) observation.fault (child_on_way j l) observation.child_fault) (sym w.items)
-          ∙ ap (λ (f : Option Fault). an_observed (eye_after j (new_eye (path_of o) j) n.items) (events_at j (own_events n.items)) f (child_on_way j n.items) observation.child_fault) (sym w.fault)
-          ∙ ap (λ (f : Option Fault). an_observed (eye_after j (new_eye (path_of o) j) n.items) (events_at j (own_events n.items)) (own_fault_of n.ending) (child_on_way j n.items) f) (sym w.child_fault)
+          ap (λ (l : List Item). an_observed (probe_after j (new_probe (path_of o) j) l) (events_at j (own_events l)) observation.fault (child_on_way j l) observation.child_fault) (sym w.items)
+          ∙ ap (λ (f : Option Fault). an_observed (probe_after j (new_probe (path_of o) j) n.items) (events_at j (own_events n.items)) f (child_on_way j n.items) observation.child_fault) (sym w.fault)
+          ∙ ap (λ (f : Option Fault). an_observed (probe_after j (new_probe (path_of o) j) n.items) (events_at j (own_events n.items)) (own_fault_of n.ending) (child_on_way j n.items) f) (sym w.child_fault)
 
       from : (o : Origin) → IsInstanceOrigin o → (j : List ℕ) → IsBelow (path_of o) j → (n : open_tree.Node) →
-          node_seen j (an_observed (eye_after j (new_eye (path_of o) j) n.items) (events_at j (own_events n.items)) (own_fault_of n.ending) (child_on_way j n.items) (fault_of_child n.ending)) ≡ node_at o n j
+          node_seen j (an_observed (probe_after j (new_probe (path_of o) j) n.items) (events_at j (own_events n.items)) (own_fault_of n.ending) (child_on_way j n.items) (fault_of_child n.ending)) ≡ node_at o n j
       from (Instance function args path) i [] b n = absurd (let l = b.longer in omega (arith, l))
       from (Instance function args path) i (r ∷ more) b n = node-is function args path r more n
       from (Loop function rest first path range) i j b n = absurd i
@@ -285,23 +285,23 @@ module _ (plan : PlanView) (o : Origin) (j : List ℕ) (i : IsInstanceOrigin o) 
           there : child_on_way j (node_of plan o).items ≡ Some c
           there = ap (child_on_way j) parts ∙ child-append j observation.items (node_left u).items ∙ ap (λ (d : Option Origin). first_child d (child_on_way j (node_left u).items)) (sym child ∙ g)
 
-      came : s.child ≡ None → (s.eye.came ≡ true) × (s.fault ≡ None)
-      came g = split s.eye.came s.fault (sym (ap (λ (d : Option Origin). is_some d || (s.eye.came && is_none s.fault)) g) ∙ h)
+      came : s.child ≡ None → (s.probe.came ≡ true) × (s.fault ≡ None)
+      came g = split s.probe.came s.fault (sym (ap (λ (d : Option Origin). is_some d || (s.probe.came && is_none s.fault)) g) ∙ h)
         where
           split : (b : Bool) (f : Option Fault) → (b && is_none f) ≡ true → (b ≡ true) × (f ≡ None)
           split true None k = (refl, refl)
           split true (Some f) k = absurd (cc)
           split false f k = absurd (cc)
 
-      from : (o : Origin) → IsInstanceOrigin o → (j : List ℕ) → IsBelow (path_of o) j → (n : open_tree.Node) → NodeFollows (path_of o) n → n.items ≡ observation.items ++ (node_left u).items → (eye_after j (new_eye (path_of o) j) observation.items).came ≡ true →
-          s.eye ≡ eye_after j (new_eye (path_of o) j) observation.items → s.events ≡ events_at j (own_events observation.items) → s.fault ≡ None → s.child ≡ child_on_way j observation.items → s.child_fault ≡ None → node_seen j s ≡ node_at o n j
-      from (Instance function args path) i [] b n follows p c eye events fault one child_fault = absurd (let l = b.longer in omega (arith, l))
-      from (Instance function args path) i (r ∷ more) b n follows p c eye events fault one child_fault = over-is function args path r more n follows observation.items (node_left u).items p c s eye events fault one child_fault
-      from (Loop function rest first path range) i j b n follows p c eye events fault one child_fault = absurd i
+      from : (o : Origin) → IsInstanceOrigin o → (j : List ℕ) → IsBelow (path_of o) j → (n : open_tree.Node) → NodeFollows (path_of o) n → n.items ≡ observation.items ++ (node_left u).items → (probe_after j (new_probe (path_of o) j) observation.items).came ≡ true →
+          s.probe ≡ probe_after j (new_probe (path_of o) j) observation.items → s.events ≡ events_at j (own_events observation.items) → s.fault ≡ None → s.child ≡ child_on_way j observation.items → s.child_fault ≡ None → node_seen j s ≡ node_at o n j
+      from (Instance function args path) i [] b n follows p c probe events fault one child_fault = absurd (let l = b.longer in omega (arith, l))
+      from (Instance function args path) i (r ∷ more) b n follows p c probe events fault one child_fault = over-is function args path r more n follows observation.items (node_left u).items p c s probe events fault one child_fault
+      from (Loop function rest first path range) i j b n follows p c probe events fault one child_fault = absurd i
 
       by_child : (c : Option Origin) → s.child ≡ c → IsSeen plan o j s
       by_child (Some c) g = found c g
       by_child None g =
           let k = came g in
-          let eye : s.eye ≡ eye_after j (new_eye (path_of o) j) observation.items = ap (λ (t : ObservedInstance). t.eye) e in
-          from o i j below (node_of plan o) (node-follows plan o i) parts (sym (ap (λ (y : Eye). y.came) eye) ∙ k.0) eye (ap (λ (t : ObservedInstance). t.events) e) k.1 child (ap (λ (t : ObservedInstance). t.child_fault) e ∙ way.child_fault)
+          let probe : s.probe ≡ probe_after j (new_probe (path_of o) j) observation.items = ap (λ (t : ObservedInstance). t.probe) e in
+          from o i j below (node_of plan o) (node-follows plan o i) parts (sym (ap (λ (y : StrandProbe). y.came) probe) ∙ k.0) probe (ap (λ (t : ObservedInstance). t.events) e) k.1 child (ap (λ (t : ObservedInstance). t.child_fault) e ∙ way.child_fault)

@@ -13,9 +13,9 @@ use Rattle.serial_meaning.specs.declared.event.Event.{Event}
 use Rattle.serial_meaning.specs.declared.event.Event.TheVariants as event
 use Rattle.strand_meaning.specs.Strands.{pedigree_of, events_at, own_events, last_pedigree, is_below, child_on_way, ended_before, is_one_of}
 use Rattle.strand_meaning.proofs.Unfilled.Variables.{same-name, is-other}
-use Rattle.strand_machine.specs.Eyes.{eye_after, goes_to, less, ahead_of, is_none_ahead}
-use Rattle.strand_machine.specs.declared.eye.Eye.{Eye}
-use Rattle.strand_machine.proofs.NodesObserved.Eyes.{risen-last}
+use Rattle.strand_machine.specs.Probes.{probe_after, goes_to, less, ahead_of, is_none_ahead}
+use Rattle.strand_machine.specs.declared.probe.StrandProbe.{StrandProbe}
+use Rattle.strand_machine.proofs.NodesObserved.Probes.{risen-last}
 use Rattle.serial_runner.proofs.Below.{below-of}
 use Rattle.serial_runner.proofs.Places.{IsStrand, stands, came_by, Follow}
 
@@ -156,14 +156,14 @@ last-led last by (Opened k ∷ items) h s = last-led last [] items (λ q. absurd
 last-led last by (Closed k ∷ items) h s = last-led last [] items (λ q. absurd (no-strand q)) s
 
 -- A strand that was over is over.
-pub came-stays : (j : List ℕ) (eye : Eye) (items : List Item) → eye.came ≡ true → (eye_after j eye items).came ≡ true
-came-stays j eye [] h = h
-came-stays j eye (Happened (event.Print k v) ∷ items) h = came-stays j (record eye { past = ended_before k j }) items h
-came-stays j eye (Happened (event.Draw k n) ∷ items) h = came-stays j (goes_to (less eye.ahead) (record eye { past = ended_before k j })) items (ap (λ (b : Bool). b || is_none_ahead eye.ahead) h)
-came-stays j eye (Happened (event.New k) ∷ items) h = came-stays j (goes_to (less eye.ahead) (record eye { past = ended_before k j })) items (ap (λ (b : Bool). b || is_none_ahead eye.ahead) h)
-came-stays j eye (Happened (event.Spawn k) ∷ items) h = came-stays j (goes_to (less eye.ahead) (record eye { past = ended_before k j })) items (ap (λ (b : Bool). b || is_none_ahead eye.ahead) h)
-came-stays j eye (Happened (event.Sync k) ∷ items) h = came-stays j (goes_to (less eye.ahead) (record eye { past = ended_before k j })) items (ap (λ (b : Bool). b || is_none_ahead eye.ahead) h)
-came-stays j eye (Happened (event.Loop k) ∷ items) h = came-stays j (goes_to (less eye.ahead) (record eye { past = ended_before k j })) items (ap (λ (b : Bool). b || is_none_ahead eye.ahead) h)
-came-stays j eye (Child o ∷ items) h = came-stays j eye items h
-came-stays j eye (Opened k ∷ items) h = came-stays j (goes_to (ahead_of (k ++ 0 ∷ []) j) eye) items (ap (λ (b : Bool). b || is_none_ahead eye.ahead) h)
-came-stays j eye (Closed k ∷ items) h = came-stays j (goes_to (ahead_of (raised k) j) eye) items (ap (λ (b : Bool). b || is_none_ahead eye.ahead) h)
+pub came-stays : (j : List ℕ) (probe : StrandProbe) (items : List Item) → probe.came ≡ true → (probe_after j probe items).came ≡ true
+came-stays j probe [] h = h
+came-stays j probe (Happened (event.Print k v) ∷ items) h = came-stays j (record probe { past = ended_before k j }) items h
+came-stays j probe (Happened (event.Draw k n) ∷ items) h = came-stays j (goes_to (less probe.ahead) (record probe { past = ended_before k j })) items (ap (λ (b : Bool). b || is_none_ahead probe.ahead) h)
+came-stays j probe (Happened (event.New k) ∷ items) h = came-stays j (goes_to (less probe.ahead) (record probe { past = ended_before k j })) items (ap (λ (b : Bool). b || is_none_ahead probe.ahead) h)
+came-stays j probe (Happened (event.Spawn k) ∷ items) h = came-stays j (goes_to (less probe.ahead) (record probe { past = ended_before k j })) items (ap (λ (b : Bool). b || is_none_ahead probe.ahead) h)
+came-stays j probe (Happened (event.Sync k) ∷ items) h = came-stays j (goes_to (less probe.ahead) (record probe { past = ended_before k j })) items (ap (λ (b : Bool). b || is_none_ahead probe.ahead) h)
+came-stays j probe (Happened (event.Loop k) ∷ items) h = came-stays j (goes_to (less probe.ahead) (record probe { past = ended_before k j })) items (ap (λ (b : Bool). b || is_none_ahead probe.ahead) h)
+came-stays j probe (Child o ∷ items) h = came-stays j probe items h
+came-stays j probe (Opened k ∷ items) h = came-stays j (goes_to (ahead_of (k ++ 0 ∷ []) j) probe) items (ap (λ (b : Bool). b || is_none_ahead probe.ahead) h)
+came-stays j probe (Closed k ∷ items) h = came-stays j (goes_to (ahead_of (raised k) j) probe) items (ap (λ (b : Bool). b || is_none_ahead probe.ahead) h)

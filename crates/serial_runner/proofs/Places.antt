@@ -17,7 +17,7 @@ use Rattle.serial_meaning.specs.declared.origin.Origin.{Origin}
 use Rattle.serial_meaning.specs.declared.origin.Origin.TheVariants as origin
 use Rattle.strand_meaning.specs.Observation.{IsInstanceOrigin}
 use Rattle.strand_meaning.specs.Strands.{pedigree_of}
-use Rattle.strand_machine.proofs.NodesObserved.Eyes.{risen-last}
+use Rattle.strand_machine.proofs.NodesObserved.Probes.{risen-last}
 
 -- a strand's pedigree: a path and a rank
 abbrev pub IsStrand : List ℕ → Type 0

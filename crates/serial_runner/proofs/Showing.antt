@@ -1,4 +1,4 @@
--- The children among what a task of an instance shows up to its next stop: the one that it hands out there, and no other.
+-- The children among what a task of an instance shows up to its next stop: the one that it begins there, and no other.
 use Rattle.std.proofs.Common.{◌≡◌, true, false, List, [], ◌∷◌, ◌++◌, Option, Some, None, Result, Ok, Err, refl, sym, ap, ◌∙◌, subst}
 use Rattle.loop_range.specs.Range.{Range}
 use Rattle.serial_meaning.specs.Eval.{path_of}
@@ -8,7 +8,7 @@ use Rattle.serial_meaning.specs.declared.event.Fault.{Fault}
 use Rattle.serial_meaning.specs.declared.origin.Origin.{Origin}
 use Rattle.serial_meaning.specs.declared.origin.Origin.TheVariants.{Instance, Loop}
 use Rattle.serial_meaning.specs.declared.answer.Outcome.{Outcome}
-use Rattle.strand_meaning.specs.Machine.{Effect, Opens, Closes, Emitted, Handed, Syncs, Loops, Reached, Stands, Gives, move}
+use Rattle.strand_meaning.specs.Machine.{Effect, Opens, Closes, Emitted, Starts, Syncs, Loops, Reached, Stands, Gives, move}
 use Rattle.strand_meaning.specs.Observation.{IsInstanceOrigin, Observation, effect_items, remaining_observation, step_observation, Shows, Now, Later}
 use Rattle.strand_meaning.specs.Trace.{AwaitedChild}
 use Rattle.strand_meaning.specs.Task.{Running, AtSync, AtLoop, Ended, Remaining, Splits, Runs, Finished, Task, own_instance, MoveOrStop, Passes, Stops, Stop, Spawn, Wait, End, stage_after, child_in, stops_at, passing, step_result, ends_unless, faults_after, returned, remaining_step}
@@ -16,8 +16,8 @@ use Rattle.strand_meaning.specs.Sound.{IsEndOf, IsLoop, IsSoundRemaining, IsTask
 use Rattle.strand_meaning.specs.Laws.{IsSoundStep}
 use Rattle.strand_meaning.proofs.SoundSteps.StepsKeepTasks.{steps_are_sound}
 use Rattle.strand_meaning.proofs.NextStops.OneSoundStop.{KeepsStep, step-keeps}
-use Rattle.serial_runner.proofs.Shows.{children, AtMostOne, MoveHands, move_hands}
-use Rattle.serial_runner.proofs.Handed.{first, child-first}
+use Rattle.serial_runner.proofs.Shows.{children, AtMostOne, MoveStarts, move_starts}
+use Rattle.serial_runner.proofs.Starts.{first, child-first}
 use Rattle.serial_runner.proofs.Observing.{item_children, children-append}
 
 effect-children : (ts : List Effect) → item_children (effect_items ts) ≡ children ts
@@ -25,7 +25,7 @@ effect-children [] = refl
 effect-children (Opens j ∷ ts) = effect-children ts
 effect-children (Closes j ∷ ts) = effect-children ts
 effect-children (Emitted e ∷ ts) = effect-children ts
-effect-children (Handed o destination ∷ ts) = ap (λ l. o ∷ l) (effect-children ts)
+effect-children (Starts o destination ∷ ts) = ap (λ l. o ∷ l) (effect-children ts)
 effect-children (Syncs ∷ ts) = effect-children ts
 effect-children (Loops ∷ ts) = effect-children ts
 
@@ -55,7 +55,7 @@ module _ (t : Task) where
   at-child is (c ∷ []) (Some o) next h e k = let same : c ≡ o = cc in h ∙ ap (λ d. d ∷ []) same
   at-child is (c ∷ d ∷ os) o next h e k = absurd k
 
-  at-move : (ts : List Effect) (e : Result Reached Fault) → MoveHands t.plan (path_of (own_instance t.origin)) (children ts) e → ShowsStep (effect_items ts) (step_result t ts e)
+  at-move : (ts : List Effect) (e : Result Reached Fault) → MoveStarts t.plan (path_of (own_instance t.origin)) (children ts) e → ShowsStep (effect_items ts) (step_result t ts e)
   at-move ts (Ok (Stands m)) h = at-child (effect_items ts) (children ts) (child_in ts) (passing t ts (Runs (stage_after ts m))) (effect-children ts) (child-first ts) h
   at-move ts (Ok (Gives v)) h = effect-children ts ∙ h
   at-move ts (Err f) h = effect-children ts ∙ h
@@ -68,14 +68,14 @@ module _ (t : Task) where
   at-value (Instance function args path) v = at-end t.trace.fault _
   at-value (Loop function rest first path range) v = refl
 
-  at-remaining : (remaining : Remaining) → IsInstanceOrigin t.origin → IsSoundRemaining t.plan t.origin t.trace.handed remaining → ShowsStep (remaining_observation t.plan (path_of (own_instance t.origin)) remaining).items (remaining_step t remaining)
+  at-remaining : (remaining : Remaining) → IsInstanceOrigin t.origin → IsSoundRemaining t.plan t.origin t.trace.unmerged remaining → ShowsStep (remaining_observation t.plan (path_of (own_instance t.origin)) remaining).items (remaining_step t remaining)
   at-remaining (Splits left) i is = absurd (no_end t.origin left i is.0)
   at-remaining (Runs (Running m)) i is =
-      let path = path_of (own_instance t.origin) in let r = move t.plan path m in at-move r.items r.ending (move_hands t.plan path m)
+      let path = path_of (own_instance t.origin) in let r = move t.plan path m in at-move r.items r.ending (move_starts t.plan path m)
   at-remaining (Runs (AtSync m)) i is = refl
   at-remaining (Runs (AtLoop m)) i is = refl
   at-remaining (Runs (Ended (Ok v))) i is = at-value t.origin v
-  at-remaining (Runs (Ended (Err (Own f)))) i is = at-fault t.trace.handed f
+  at-remaining (Runs (Ended (Err (Own f)))) i is = at-fault t.trace.unmerged f
   at-remaining (Runs (Ended (Err (ChildFaulted f)))) i is = at-end t.trace.fault _
   at-remaining (Finished v true) i is = absurd (no_loop t.origin i is.0)
   at-remaining (Finished v false) i is = absurd (no_loop t.origin i is.0)

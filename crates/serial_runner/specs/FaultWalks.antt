@@ -11,6 +11,7 @@ use Rattle.strand_meaning.specs.Sound.{IsTask}
 use Rattle.strand_meaning.specs.Task.{Task, start, Spawn, Wait, End, on}
 use Rattle.strand_machine.specs.AwaitedChildren.{awaited}
 use Rattle.strand_machine.specs.Placed.{Meets, latest}
+use Rattle.strand_machine.specs.Links.{detached}
 use Rattle.strand_machine.specs.Tasks.{fresh}
 use Rattle.strand_machine.specs.declared.placed.PlacedFault.{PlacedFault}
 use Rattle.serial_runner.specs.declared.fault_walk.FaultWalk.{FaultWalk}
@@ -21,7 +22,7 @@ use Rattle.serial_runner.specs.declared.fault_walk.FaultWalked.TheVariants.{Cont
 pub data MeetsToEnd : Task → Option PlacedFault → Type 0 where
   AtEnd : {t : Task} {met : Option PlacedFault} (out : List Event) (ended : Outcome) → Meets t met (End out ended) → MeetsToEnd t met
   AfterSpawn : {t : Task} {met : Option PlacedFault} (child : Origin) (rest : Task) (here later : Option PlacedFault) → Meets t here (Spawn child rest) → MeetsToEnd rest later → met ≡ latest here later → MeetsToEnd t met
-  AfterWait : {t : Task} {met : Option PlacedFault} (rest : Task) (here later : Option PlacedFault) → Meets t here (Wait rest) → MeetsToEnd (on (evaluations (eval rest.plan) rest.trace.handed) rest) later → met ≡ latest here later → MeetsToEnd t met
+  AfterWait : {t : Task} {met : Option PlacedFault} (rest : Task) (here later : Option PlacedFault) → Meets t here (Wait rest) → MeetsToEnd (on (evaluations (eval rest.plan) rest.trace.unmerged) rest) later → met ≡ latest here later → MeetsToEnd t met
 
 -- The same of an origin of the plan.
 abbrev pub OriginMeets : PlanView → Origin → Option PlacedFault → Type 0
@@ -32,7 +33,7 @@ origin_in w = w.task.task.origin
 
 -- a walk of which nothing is done
 abbrev pub begun_fault_walk : PlanView → Origin → FaultWalk
-begun_fault_walk plan o = record { task = fresh plan o; awaited = []; met = None }
+begun_fault_walk plan o = record { task = fresh plan o detached; awaited = []; met = None }
 
 -- An origin's task on its way, the children whose answers it awaits, and the fault that it met so far.
 pub record IsFaultWalk (plan : PlanView) (o : Origin) (w : FaultWalk) : Type 0 where
@@ -41,7 +42,7 @@ pub record IsFaultWalk (plan : PlanView) (o : Origin) (w : FaultWalk) : Type 0 w
   pub goes_on : w.task.cut ≡ None
   pub plan_is : w.task.task.plan ≡ plan
   pub origin_is : origin_in w ≡ o
-  pub awaits : w.awaited ≡ awaited w.task.task.trace.handed
+  pub awaits : w.awaited ≡ awaited w.task.task.trace.unmerged
   pub meets : (later : Option PlacedFault) → MeetsToEnd w.task.task later → OriginMeets plan o (latest w.met later)
 
 -- One stop further: a walk with fewer stops left, or all that is met.

@@ -1,4 +1,4 @@
-pub mod Beside
+pub mod Zips
 pub mod FaultWalks
 pub mod Nodes
 pub mod Observed

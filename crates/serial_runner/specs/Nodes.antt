@@ -6,7 +6,7 @@ use Rattle.serial_meaning.specs.Plan.{PlanView}
 use Rattle.serial_meaning.specs.declared.event.Fault.{Fault}
 use Rattle.serial_meaning.specs.declared.origin.Origin.{Origin}
 use Rattle.strand_meaning.specs.Strands.{Strand, child_on_way, strand_of, blocking_fault}
-use Rattle.strand_machine.specs.Eyes.{is_none_ahead}
+use Rattle.strand_machine.specs.Probes.{is_none_ahead}
 use Rattle.serial_runner.specs.declared.node.Node.{Node}
 use Rattle.serial_runner.specs.declared.observed.ObservedInstance.{ObservedInstance}
 
@@ -27,7 +27,7 @@ node_at o n j = node_by (child_on_way j n.items) (strand_of o n j) (blocking_fau
 abbrev pub node_toward : PlanView → Origin → List ℕ → Node
 node_toward plan o j = node_at o (node_of plan o) j
 
--- What is seen of an instance with an eye on one pedigree
+-- What is seen of an instance with a probe for one pedigree
 
 abbrev pub fault_at : List ℕ → Option Fault → Option Fault
 fault_at j None = None
@@ -39,13 +39,13 @@ is_none (Some f) = false
 
 -- whether a strand of the instance's own had the pedigree; one that ended by a child's fault hasn't come to the strand after its last event
 abbrev pub came_to : ObservedInstance → Bool
-came_to s = s.eye.came || (is_none_ahead s.eye.ahead && is_none s.child_fault)
+came_to s = s.probe.came || (is_none_ahead s.probe.ahead && is_none s.child_fault)
 
 abbrev pub strand_seen : List ℕ → ObservedInstance → Option Strand
 strand_seen j s = if came_to s then Some (record { events = s.events; fault = fault_at j s.fault }) else None
 
 abbrev pub child_fault_before : ObservedInstance → Option Fault
-child_fault_before s = if s.eye.past then s.child_fault else None
+child_fault_before s = if s.probe.past then s.child_fault else None
 
 abbrev pub node_seen : List ℕ → ObservedInstance → Node
 node_seen j s = node_by s.child (strand_seen j s) (child_fault_before s)

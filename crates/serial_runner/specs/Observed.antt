@@ -1,4 +1,4 @@
--- What is seen of an instance that runs, with an eye on one pedigree.
+-- What is seen of an instance that runs, with a probe for one pedigree.
 use Rattle.std.specs.Prelude.{◌≡◌, ◌<◌, ℕ, Bool, ◌||◌, ◌&&◌, true, false, List, [], ◌∷◌, ◌++◌, Option, Some, None, Contains}
 use Rattle.serial_meaning.specs.Eval.{path_of}
 use Rattle.serial_meaning.specs.Laws.{IsOriginOf}
@@ -13,24 +13,25 @@ use Rattle.strand_meaning.specs.Observation.{Observation, newest, IsInstanceOrig
 use Rattle.strand_meaning.specs.Sound.{IsTask}
 use Rattle.strand_meaning.specs.Strands.{own_events, events_at, child_on_way}
 use Rattle.strand_machine.specs.AwaitedChildren.{awaited}
-use Rattle.strand_machine.specs.Eyes.{new_eye, eye_after}
+use Rattle.strand_machine.specs.Probes.{new_probe, probe_after}
 use Rattle.strand_machine.specs.Observed.{IsObserved}
 use Rattle.strand_machine.specs.declared.observe.ObservedStop.{ObservedStop}
 use Rattle.strand_machine.specs.declared.stop.Stop.{Stop}
+use Rattle.strand_machine.specs.Links.{detached}
 use Rattle.strand_machine.specs.Tasks.{fresh}
-use Rattle.strand_machine.specs.declared.eye.Eye.{Eye}
+use Rattle.strand_machine.specs.declared.probe.StrandProbe.{StrandProbe}
 use Rattle.serial_runner.specs.Nodes.{is_none, node_seen, node_toward}
 use Rattle.serial_runner.specs.declared.observed.ObservedInstance.{ObservedInstance}
 use Rattle.serial_runner.specs.declared.walk.NodeWalk.{NodeWalk}
 use Rattle.serial_runner.specs.declared.walk.Walked.{Walked}
 use Rattle.serial_runner.specs.declared.walk.Walked.TheVariants.{Continues, Ends}
 
-abbrev pub nothing_seen : Eye → ObservedInstance
-nothing_seen eye = record { eye = eye; events = []; fault = None; child = None; child_fault = None }
+abbrev pub nothing_seen : StrandProbe → ObservedInstance
+nothing_seen probe = record { probe = probe; events = []; fault = None; child = None; child_fault = None }
 
-abbrev pub with_observation : Eye → List Event → Option Fault → Option Fault → ObservedInstance → ObservedInstance
-with_observation eye events fault child_fault s = record s {
-  eye = eye;
+abbrev pub with_observation : StrandProbe → List Event → Option Fault → Option Fault → ObservedInstance → ObservedInstance
+with_observation probe events fault child_fault s = record s {
+  probe = probe;
   events = s.events ++ events;
   fault = newest s.fault fault;
   child_fault = newest s.child_fault child_fault;
@@ -46,7 +47,7 @@ with_child j o s = record s { child = first_child s.child (child_on_way j (Child
 -- what an observation says of a pedigree, of an instance with this path
 abbrev pub observed_on : List ℕ → List ℕ → Observation → ObservedInstance
 observed_on path j observation = record {
-  eye = eye_after j (new_eye path j) observation.items;
+  probe = probe_after j (new_probe path j) observation.items;
   events = events_at j (own_events observation.items);
   fault = observation.fault;
   child = child_on_way j observation.items;
@@ -55,7 +56,7 @@ observed_on path j observation = record {
 
 -- a walk of which nothing is done
 abbrev pub begun_walk : PlanView → Origin → List ℕ → NodeWalk
-begun_walk plan o j = record { task = fresh plan o; awaited = []; observed = nothing_seen (new_eye (path_of o) j) }
+begun_walk plan o j = record { task = fresh plan o detached; awaited = []; observed = nothing_seen (new_probe (path_of o) j) }
 
 abbrev pub origin_of : NodeWalk → Origin
 origin_of w = w.task.task.origin
@@ -71,7 +72,7 @@ pub record IsWalk (plan : PlanView) (o : Origin) (j : List ℕ) (w : NodeWalk) :
   pub goes_on : w.task.cut ≡ None
   pub plan_is : w.task.task.plan ≡ plan
   pub origin_is : origin_of w ≡ o
-  pub awaits : w.awaited ≡ awaited w.task.task.trace.handed
+  pub awaits : w.awaited ≡ awaited w.task.task.trace.unmerged
   pub observation : Observation
   pub on : IsOnWay observation w.task.task
   pub says : w.observed ≡ observed_on (path_of o) j observation
@@ -79,9 +80,9 @@ pub record IsWalk (plan : PlanView) (o : Origin) (j : List ℕ) (w : NodeWalk) :
 -- The task of a walk has come to this stop, and this is what is seen then.
 pub record ObservesStop (j : List ℕ) (w : NodeWalk) (stop : Stop All) (observed : ObservedInstance) : Type 0 where
   pub observed_stop : ObservedStop
-  pub is_observed : IsObserved w.task j w.observed.eye observed_stop
+  pub is_observed : IsObserved w.task j w.observed.probe observed_stop
   pub stops : stop ≡ observed_stop.stop
-  pub sees : observed ≡ with_observation observed_stop.eye observed_stop.events observed_stop.fault observed_stop.child_fault w.observed
+  pub sees : observed ≡ with_observation observed_stop.probe observed_stop.events observed_stop.fault observed_stop.child_fault w.observed
 
 -- What is seen of an instance, for a node, is what its node shows.
 abbrev pub IsSeen : PlanView → Origin → List ℕ → ObservedInstance → Type 0
@@ -94,7 +95,7 @@ is_some None = false
 is_some (Some o) = true
 
 abbrev pub is_over : ObservedInstance → Bool
-is_over s = is_some s.child || (s.eye.came && is_none s.fault)
+is_over s = is_some s.child || (s.probe.came && is_none s.fault)
 
 -- One stop further: a walk with fewer stops left, or all that is to be seen, since the instance has ended or nothing that it does later counts.
 abbrev pub WalksOn : PlanView → Origin → List ℕ → NodeWalk → Walked → Type 0

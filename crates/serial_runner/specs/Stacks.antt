@@ -7,7 +7,7 @@ use Rattle.strand_meaning.specs.Laws.{IsFaultOf, IsSameTask}
 use Rattle.strand_meaning.specs.Rest.{evaluations}
 use Rattle.strand_meaning.specs.Sound.{IsTask}
 use Rattle.strand_meaning.specs.Task.{Task, start, Stop, Spawn, Wait, End, IsNext, on}
-use Rattle.strand_machine.specs.Family.{tags}
+use Rattle.strand_machine.specs.Links.{tags}
 use Rattle.strand_machine.specs.AwaitedChildren.{awaited}
 use Rattle.strand_machine.specs.Stops.{answer_tags, any_cut}
 use Rattle.serial_runner.specs.declared.open_tasks.OpenTask.{OpenTask}
@@ -25,7 +25,7 @@ pub record IsOpenTask {K : Type 0} (missing : List Origin) (f : OpenTask K) : Ty
   pub idle : (task_of f).waiting ≡ false
   pub goes_on : f.task.cut ≡ None
   pub whole : any_cut f.answers ≡ false
-  pub answers : answer_tags f.answers ++ tags (task_of f).plan missing ≡ tags (task_of f).plan (awaited (task_of f).trace.handed)
+  pub answers : answer_tags f.answers ++ tags (task_of f).plan missing ≡ tags (task_of f).plan (awaited (task_of f).trace.unmerged)
 
 -- Of each open task the child above it is all that is missing.
 abbrev pub AreBelow : {K : Type 0} → Task → List (OpenTask K) → Type 0
@@ -52,7 +52,7 @@ tasks (f ∷ fs) = task_of f ∷ tasks fs
 
 abbrev pub tasks_after : Stop → List Task → List Task
 tasks_after (Spawn child rest) ts = start rest.plan child ∷ rest ∷ ts
-tasks_after (Wait rest) ts = on (evaluations (eval rest.plan) rest.trace.handed) rest ∷ ts
+tasks_after (Wait rest) ts = on (evaluations (eval rest.plan) rest.trace.unmerged) rest ∷ ts
 tasks_after (End out ended) ts = ts
 
 -- the stack once the task at the head of these has one answer more

@@ -1,14 +1,14 @@
-// One stop of a worker that runs each child to its end before what stands after it.
+// One stop of a worker that runs each child to its end before its parent continues.
 ghost use Rattle.std.specs.Prelude.{◌≡◌, List, [], ◌∷◌, true, IfOk};
 ghost use Rattle.strand_meaning.specs.Laws.{IsFaultOf};
 ghost use Rattle.strand_machine.specs.Faults.{is_fault};
 ghost use Rattle.serial_runner.specs.declared.open_tasks.OpenTask.{OpenTask};
 ghost use Rattle.serial_runner.specs.Stacks.{AreBelow, IsAnswerOf, IsStack, AdvancesTo, lowest_of, task_of_answer, stack_with_answer};
 
-use crate::beside::beside;
 use crate::open_tasks::{OpenTask, OpenTasks};
 use crate::stack::{Advanced, Stack};
-use script_grammar::{Boxed, Items};
+use crate::zip::zip;
+use contract_views::{Boxed, Items};
 use serial_meaning::{Answer, Keep};
 use std::alloc::Global;
 use strand_machine::{Memory, Paused, is_fault};
@@ -19,7 +19,7 @@ fn boxed<K: Keep>(alloc: Global, answer: Answer<K>) -> Result<Boxed<Answer<K>>, 
     Ok(Boxed(Box::new(alloc, answer)?))
 }
 
-/// The answer of a task that has ended goes to the one below it. The list of the answers that it took is of use again.
+// Gives the answer of a task that has ended to the one below it. Its list of answers is used again.
 fn answer_below<K: Keep>(
     alloc: Global,
     answer: Answer<K>,
@@ -45,8 +45,8 @@ fn answer_below<K: Keep>(
     }
 }
 
-/// The answer of the task at the bottom, where this one, of the task on top, is a fault. It is the fault of each task below too, since
-/// nothing that stands after it counts.
+// The answer of the task at the bottom, where the answer of the one on top is this fault. Each task below ends by the
+// same fault, since nothing after it counts.
 fn end_all<K: Keep>(
     alloc: Global,
     answer: Answer<K>,
@@ -66,8 +66,8 @@ fn end_all<K: Keep>(
     Ok(answer)
 }
 
-/// Runs the topmost task to its next stop. A child goes on top of it. Where it waits its children have ended, and it takes their
-/// answers. Its own answer goes to the task below, and where it is a fault it ends all of them.
+// Runs the topmost task to its next stop. A child goes on top of it. Where it waits its children have ended, and it takes their
+// answers. Its own answer goes to the task below, and where it is a fault it ends all of them.
 #[inline(always)]
 pub(crate) fn advance<K: Keep>(stack: Stack<K>, alloc: Global) -> Result<Advanced<K>, Memory>
     requires { IsStack stack }
@@ -82,7 +82,7 @@ pub(crate) fn advance<K: Keep>(stack: Stack<K>, alloc: Global) -> Result<Advance
                 task: rest,
                 answers,
             };
-            let (child, ()) = beside(child, below.push(parent))?;
+            let (child, ()) = zip(child, below.push(parent))?;
             let top = below.open_task(alloc, child);
             Ok(Advanced::Continues(Stack { top, below }))
         }

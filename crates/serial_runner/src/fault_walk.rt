@@ -10,31 +10,31 @@ ghost use Rattle.strand_machine.specs.Placed.{fault_met, latest};
 ghost use Rattle.serial_runner.specs.FaultWalks.{FaultWalksOn, IsFaultWalk, OriginMeets, begun_fault_walk, origin_in};
 
 use crate::walk::answers_of;
-use script_grammar::Items;
+use contract_views::Items;
 use serial_meaning::{Origin, Plan};
 use std::alloc::Global;
 use std::sync::Arc;
 use strand_machine::{Memory, PlacedFault, PlacedStop, Stop, Task};
 use strand_meaning::laws;
 
-/// An origin's task, and the fault of its instance's own that it met so far.
+// An origin's task, and the fault of its instance's own that it met so far.
 #[derive(Drop)]
 pub(crate) struct FaultWalk {
     pub task: Task,
-    /// The children whose answers the task awaits, in order.
+    // The children whose answers the task awaits, in order.
     pub awaited: Items<Origin>,
     pub met: Option<PlacedFault>,
 }
 
-/// What a stop of the task makes of a walk.
+// The walk after a stop of its task.
 #[derive(Drop)]
 pub(crate) enum FaultWalked {
     Continues(FaultWalk),
-    /// The task has ended.
+    // The task has ended.
     Ends(Option<PlacedFault>),
 }
 
-/// The later fault, if there is one.
+// The later fault, if there is one.
 fn latest(old: Option<PlacedFault>, new: Option<PlacedFault>) -> Option<PlacedFault>
     ensures { result ≡ latest old new }
 {
@@ -44,7 +44,7 @@ fn latest(old: Option<PlacedFault>, new: Option<PlacedFault>) -> Option<PlacedFa
     }
 }
 
-/// A walk through the origin of which nothing is done.
+// A walk that hasn't begun.
 fn begin_walk(alloc: Global, plan: &Arc<Plan>, origin: Origin) -> Result<FaultWalk, Memory>
     requires { IsOriginOf (arc_value plan.now) origin }
     ensures walk { IfOk result (λ walk. walk ≡ begun_fault_walk (arc_value plan.now) origin) }
@@ -54,7 +54,7 @@ fn begin_walk(alloc: Global, plan: &Arc<Plan>, origin: Origin) -> Result<FaultWa
     let _script = plan.checked.script();
     laws::valid_plans_are_clear();
     laws::tasks_begin();
-    let task = Task::alone(alloc, plan, origin)?;
+    let task = Task::detached(alloc, plan, origin)?;
     Ok(FaultWalk {
         task,
         awaited: Items(Vec::new(alloc)),
@@ -62,7 +62,7 @@ fn begin_walk(alloc: Global, plan: &Arc<Plan>, origin: Origin) -> Result<FaultWa
     })
 }
 
-/// Runs the task to its next stop. Where it waits there, the children that it awaits are run.
+// Runs the task to its next stop. Where it waits there, the children that it awaits are run.
 fn walk_on(walk: FaultWalk, alloc: Global, plan: &Arc<Plan>) -> Result<FaultWalked, Memory>
     requires { IsFaultWalk (arc_value plan.now) (origin_in walk) walk }
     ensures { IfOk result (FaultWalksOn (arc_value plan.now) (origin_in walk) walk) }
@@ -101,8 +101,8 @@ fn walk_on(walk: FaultWalk, alloc: Global, plan: &Arc<Plan>) -> Result<FaultWalk
     }
 }
 
-/// The fault of its own by which an instance of the plan ends, with the place where the instance stood. None where it ends by a value, or
-/// by a fault of a child.
+/// The fault of its own by which an instance of the plan ends, and where the instance stood then. None where it ends by
+/// a value, or by a fault of a child.
 ///
 /// It runs the instance to its end, and where it waits the children for which it waits.
 pub fn meet_fault(

@@ -6,7 +6,6 @@
 #![tactic(auto)]
 
 mod advance;
-mod beside;
 mod fault_walk;
 mod node;
 mod observed;
@@ -14,6 +13,7 @@ mod open_tasks;
 mod serial;
 mod stack;
 mod walk;
+mod zip;
 
 pub use fault_walk::meet_fault;
 pub use node::{Node, walk_node};

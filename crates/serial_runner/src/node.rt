@@ -19,13 +19,13 @@ use strand_machine::Memory;
 pub struct Node {
     /// The strand of the pedigree, where no child is on the way there: exactly where the instance had it.
     pub strand: Option<Strand>,
-    /// The child on the way: an instance or a whole loop whose path the pedigree begins with and goes on from.
+    /// The child on the way: an instance or a whole loop whose path is a proper prefix of the pedigree.
     pub child: Option<Origin>,
     /// The fault of a child by which the instance ended before the pedigree, where no child is on the way there.
     pub child_fault: Option<Fault>,
 }
 
-/// The fault, where it came in the strand with this pedigree.
+// The fault, where it came in the strand with this pedigree.
 fn fault_at(fault: Option<Fault>, at: &Pedigree) -> Option<Fault>
     ensures { result ≡ fault_at at.now fault }
 {
@@ -33,7 +33,7 @@ fn fault_at(fault: Option<Fault>, at: &Pedigree) -> Option<Fault>
     if fault.at.same(at) { Some(fault) } else { None }
 }
 
-/// The strand that did this, if it came.
+// The strand that did this, if it came.
 fn strand_if(came: bool, events: Out, fault: Option<Fault>) -> Option<Strand>
     ensures { result ≡ (if came then Some (record { events = events; fault = fault }) else None) }
 {
@@ -44,12 +44,12 @@ fn strand_if(came: bool, events: Out, fault: Option<Fault>) -> Option<Strand>
     }
 }
 
-/// What is seen of an instance, as a node.
+// A node, from what was seen of its instance.
 fn node_seen(observed: ObservedInstance, at: &Pedigree) -> Node
     ensures { result ≡ node_seen at.now observed }
 {
     let ObservedInstance {
-        eye,
+        probe,
         events,
         fault,
         child,
@@ -62,15 +62,15 @@ fn node_seen(observed: ObservedInstance, at: &Pedigree) -> Node
             child_fault: None,
         };
     }
-    let came = eye.came || (eye.is_here() && child_fault.is_none());
+    let came = probe.came || (probe.is_here() && child_fault.is_none());
     Node {
         strand: strand_if(came, events, fault_at(fault, at)),
         child: None,
-        child_fault: if eye.past { child_fault } else { None },
+        child_fault: if probe.past { child_fault } else { None },
     }
 }
 
-/// Says what an instance of the plan shows on the way down to a pedigree that begins with its path and is longer.
+/// What an instance of the plan shows on the way down to a pedigree that is longer than its path and begins with it.
 ///
 /// It runs the instance up to the first stop at which a child on the way is known or the strand is over, since nothing that the instance
 /// does later counts. Where it waits before that, the children for which it waits are run.

@@ -1,4 +1,4 @@
-// What is seen of an instance that runs.
+// What is seen of a running instance.
 ghost use Rattle.std.specs.Prelude.{◌≡◌, IfOk, OnOk};
 ghost use Rattle.strand_meaning.specs.Observation.{newest};
 ghost use Rattle.strand_meaning.specs.Strands.{is_below};
@@ -8,30 +8,30 @@ use ped_path::{Ped, Pedigree};
 use serial_meaning::{Fault, Origin, Out};
 use std::alloc::Global;
 use strand_family::path;
-use strand_machine::{Eye, Memory, Task};
+use strand_machine::{Memory, StrandProbe, Task};
 
-/// What is seen of an instance up to some moment, with an eye on one pedigree.
+// What was seen of an instance so far, by a probe for one pedigree.
 #[derive(Drop)]
 pub(crate) struct ObservedInstance {
-    pub eye: Eye,
-    /// What the strand with the pedigree did.
+    pub probe: StrandProbe,
+    // What the strand with the pedigree did.
     pub events: Out,
-    /// The instance's own fault, wherever it came.
+    // The instance's own fault, wherever it came.
     pub fault: Option<Fault>,
-    /// The child on the way to the pedigree.
+    // The child on the way to the pedigree.
     pub child: Option<Origin>,
-    /// The fault of a child by which the instance ended, wherever it did.
+    // The fault of a child by which the instance ended, wherever it did.
     pub child_fault: Option<Fault>,
 }
 
-/// Whether a pedigree begins with this path, and goes on.
+// Whether a pedigree is longer than this path and begins with it.
 fn is_below(path: &Ped, at: &Pedigree) -> bool
     ensures { result ≡ is_below path.now at.now }
 {
     path.len() < at.len() && at.begins_with(path)
 }
 
-/// The later fault, if there is one.
+// The later fault, if there is one.
 fn newest(old: Option<Fault>, new: Option<Fault>) -> Option<Fault>
     ensures { result ≡ newest old new }
 {
@@ -43,11 +43,11 @@ fn newest(old: Option<Fault>, new: Option<Fault>) -> Option<Fault>
 
 impl ObservedInstance {
     /// Nothing yet.
-    pub fn new(eye: Eye) -> ObservedInstance
-        ensures { result ≡ nothing_seen eye }
+    pub fn new(probe: StrandProbe) -> ObservedInstance
+        ensures { result ≡ nothing_seen probe }
     {
         ObservedInstance {
-            eye,
+            probe,
             events: Out::new(),
             fault: None,
             child: None,
@@ -55,20 +55,20 @@ impl ObservedInstance {
         }
     }
 
-    /// What is observed of the instance up to its next stop, where the eye has what it had seen before that too.
+    /// Adds what was observed of the instance up to its next stop. The probe has all that it has seen so far.
     pub fn observe(
         self,
-        eye: Eye,
+        probe: StrandProbe,
         events: Out,
         fault: Option<Fault>,
         child_fault: Option<Fault>,
     ) -> Result<ObservedInstance, Memory>
-        ensures { IfOk result (λ observed. observed ≡ with_observation eye events fault child_fault self) }
+        ensures { IfOk result (λ observed. observed ≡ with_observation probe events fault child_fault self) }
     {
         let mut so_far = self.events;
         so_far.append(events)?;
         Ok(ObservedInstance {
-            eye,
+            probe,
             events: so_far,
             fault: newest(self.fault, fault),
             child: self.child,
@@ -76,7 +76,7 @@ impl ObservedInstance {
         })
     }
 
-    /// A child that is handed out.
+    /// Adds a child that was begun.
     pub fn observe_child(
         &mut self,
         alloc: Global,
@@ -91,10 +91,11 @@ impl ObservedInstance {
         Ok(())
     }
 
-    /// Whether what the instance does later tells no more of the pedigree: the child on the way there is known, or the strand is over.
+    /// Whether nothing that the instance does later matters for the pedigree: the child on the way there is known, or
+    /// the strand is over.
     pub fn is_over(&self) -> bool
         ensures { result ≡ is_over self.now }
     {
-        self.child.is_some() || (self.eye.came && self.fault.is_none())
+        self.child.is_some() || (self.probe.came && self.fault.is_none())
     }
 }

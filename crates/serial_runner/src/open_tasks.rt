@@ -1,20 +1,20 @@
 ghost use Rattle.std.specs.Prelude.{◌≡◌, ◌∷◌, [], OnOk, IfSome, IfNone};
 
-use script_grammar::Items;
+use contract_views::Items;
 use serial_meaning::{Answer, Keep};
 use std::alloc::Global;
 use std::marker::Model;
 use strand_machine::{Memory, Task};
 
-/// A task, and the answers of its children so far, in order.
+// A task, and the answers of its children so far, in order.
 #[derive(Drop)]
 pub(crate) struct OpenTask<K: Keep> {
     pub task: Task<K>,
     pub answers: Items<Answer<K>>,
 }
 
-/// Open tasks of which the last one is taken first. Contracts see them in the order in which they will be taken. The lists of answers that they no longer
-/// need are kept for the next ones, since most tasks want one.
+// Open tasks of which the last one is taken first. Contracts see them in the order in which they will be taken. The lists of answers that they no longer
+// need are kept for the next ones, since most tasks want one.
 #[derive(Drop)]
 pub(crate) struct OpenTasks<K: Keep> {
     open_tasks: Vec<OpenTask<K>>,
@@ -46,7 +46,7 @@ impl<K: Keep> OpenTasks<K> {
         }
     }
 
-    /// A task that has no answer yet.
+    /// A task that has no child's answer yet.
     pub fn open_task(&mut self, alloc: Global, task: Task<K>) -> OpenTask<K>
         ensures open_task { result ≡ record { task = task; answers = [] } }
         ensures same { self.new ≡ self.old }
@@ -71,7 +71,7 @@ impl<K: Keep> OpenTasks<K> {
         }
     }
 
-    /// One more, to be taken first.
+    /// Pushes a task, which is then the first to be taken.
     pub fn push(&mut self, open_task: OpenTask<K>) -> Result<(), Memory>
         ensures { OnOk result (self.new ≡ open_task ∷ self.old) }
     {

@@ -15,7 +15,7 @@ use std::sync::Arc;
 use strand_machine::{Memory, Task};
 use strand_meaning::laws;
 
-/// The stack of this task alone.
+// The stack of this task alone.
 pub(crate) fn stack_of<K: Keep>(
     alloc: Global,
     plan: &Arc<Plan>,
@@ -29,17 +29,17 @@ pub(crate) fn stack_of<K: Keep>(
     let _script = plan.checked.script();
     laws::valid_plans_are_clear();
     laws::tasks_begin();
-    let task = Task::alone_keeping(alloc, plan, origin)?;
+    let task = Task::detached_keeping(alloc, plan, origin)?;
     let mut below = OpenTasks::new(alloc);
     let top = below.open_task(alloc, task);
     Ok(Stack { top, below })
 }
 
-/// Runs an origin of the plan on this thread. A child is run to its end before the rest of the task that handed it out, so that all
+/// Runs an origin of the plan on this thread. A child is run to its end before the rest of its parent, so that all
 /// children have answered where a task waits.
 ///
-/// The tasks that are begun stand in memory, and not on the thread's stack, however deep they are nested. The answers of a task's
-/// children are moved into its own.
+/// The tasks under way are on the heap and not on the thread's stack, however deep they are nested. The answers of a
+/// task's children are moved into its own.
 pub fn run_serial(alloc: Global, plan: &Arc<Plan>, origin: Origin) -> Result<Answer, Memory>
     requires { IsOriginOf (arc_value plan.now) origin }
     ensures plan { IfOk result (λ answer. answer.plan ≡ arc_value plan.now) }

@@ -1,4 +1,4 @@
-// An instance that is run with an eye on the strand of one pedigree.
+// An instance that is run with a probe for the strand of one pedigree.
 ghost use Rattle.std.specs.Prelude.{◌≡◌, ◌++◌, ◌∷◌, [], IfOk, OnOk, None, false};
 ghost use Rattle.std.specs.Arc.{arc_value};
 ghost use Rattle.serial_meaning.specs.Eval.{path_of};
@@ -6,41 +6,41 @@ ghost use Rattle.serial_meaning.specs.Laws.{IsOriginOf};
 ghost use Rattle.strand_meaning.specs.Observation.{IsInstanceOrigin};
 ghost use Rattle.strand_meaning.specs.Sound.{IsTask};
 ghost use Rattle.strand_meaning.specs.Task.{start};
-ghost use Rattle.strand_machine.specs.Family.{tags};
+ghost use Rattle.strand_machine.specs.Links.{tags};
 ghost use Rattle.strand_machine.specs.Stops.{answer_tags, any_cut};
 ghost use Rattle.serial_runner.specs.Nodes.{IsBelow};
 ghost use Rattle.serial_runner.specs.Observed.{AreOriginsOf, IsSeen, ObservesStop, IsWalk, WalksOn, begun_walk, origin_of, with_child};
 
-use crate::beside::beside;
 use crate::observed::ObservedInstance;
 use crate::serial::run_serial;
+use crate::zip::zip;
+use contract_views::Items;
 use ped_path::Pedigree;
-use script_grammar::Items;
 use serial_meaning::{Answer, Origin, Plan};
 use std::alloc::Global;
 use std::sync::Arc;
 use strand_family::path;
-use strand_machine::{Eye, Memory, ObservedStop, Stop, Task, share_origin};
+use strand_machine::{Memory, ObservedStop, Stop, StrandProbe, Task, share_origin};
 use strand_meaning::laws;
 
-/// An instance's task, and what is seen of it so far.
+// An instance's task, and what is seen of it so far.
 #[derive(Drop)]
 pub(crate) struct NodeWalk {
     pub task: Task,
-    /// The children whose answers the task awaits, in order.
+    // The children whose answers the task awaits, in order.
     pub awaited: Items<Origin>,
     pub observed: ObservedInstance,
 }
 
-/// What a stop of the task makes of a walk.
+// The walk after a stop of its task.
 #[derive(Drop)]
 pub(crate) enum Walked {
     Continues(NodeWalk),
-    /// The instance has ended, or nothing that it does later counts.
+    // The instance has ended, or nothing that it does later counts.
     Ends(ObservedInstance),
 }
 
-/// The answers of these origins of the plan, in order.
+// The answers of these origins of the plan, in order.
 pub(crate) fn answers_of(
     alloc: Global,
     plan: &Arc<Plan>,
@@ -57,7 +57,7 @@ pub(crate) fn answers_of(
     Ok(Items(answers))
 }
 
-/// Runs the task to its next stop, and observes what it shows up to there. The children that it awaited come back.
+// Runs the task to its next stop and observes what it shows. The children that it awaits come back.
 fn run_to_stop(
     walk: NodeWalk,
     alloc: Global,
@@ -73,25 +73,25 @@ fn run_to_stop(
         awaited,
         observed,
     } = walk;
-    let seen = observed.eye;
-    let ((awaited, observed), observed_stop) = beside(
+    let seen = observed.probe;
+    let ((awaited, observed), observed_stop) = zip(
         (awaited, observed),
         task.advance_observed(alloc, at, seen),
     )?;
     let ObservedStop {
         stop,
-        eye,
+        probe,
         events,
         fault,
         child_fault,
     } = observed_stop;
-    let observed = observed.observe(eye, events, fault, child_fault);
-    let ((stop, awaited), observed) = beside((stop, awaited), observed)?;
+    let observed = observed.observe(probe, events, fault, child_fault);
+    let ((stop, awaited), observed) = zip((stop, awaited), observed)?;
     Ok((stop, awaited, observed))
 }
 
-/// A child is handed out: it is observed, and awaited.
-fn hand_out(
+// Observes a child that was begun, and awaits it.
+fn await_child(
     alloc: Global,
     child: &Task,
     at: &Pedigree,
@@ -106,7 +106,7 @@ fn hand_out(
     Ok(())
 }
 
-/// Runs the task to its next stop. Where it waits there, the children that it awaits are run, unless nothing that it does later counts.
+// Runs the task to its next stop. Where it waits there, the children that it awaits are run, unless nothing that it does later counts.
 fn walk_on(walk: NodeWalk, alloc: Global, plan: &Arc<Plan>, at: &Pedigree) -> Result<Walked, Memory>
     requires below { IsBelow (path_of (origin_of walk)) at.now }
     requires walk { IsWalk (arc_value plan.now) (origin_of walk) at.now walk }
@@ -117,9 +117,9 @@ fn walk_on(walk: NodeWalk, alloc: Global, plan: &Arc<Plan>, at: &Pedigree) -> Re
     let (stop, mut awaited, mut observed) = run_to_stop(walk, alloc, at)?;
     match stop {
         Stop::Spawn { child, rest } => {
-            let handed = hand_out(alloc, &child, at, &mut awaited, &mut observed);
+            let unmerged = await_child(alloc, &child, at, &mut awaited, &mut observed);
             drop(child);
-            let ((task, awaited, observed), ()) = beside((rest, awaited, observed), handed)?;
+            let ((task, awaited, observed), ()) = zip((rest, awaited, observed), unmerged)?;
             if observed.is_over() {
                 drop((task, awaited));
                 return Ok(Walked::Ends(observed));
@@ -137,8 +137,8 @@ fn walk_on(walk: NodeWalk, alloc: Global, plan: &Arc<Plan>, at: &Pedigree) -> Re
             }
             let answers = answers_of(alloc, plan, awaited.as_slice());
             drop(awaited);
-            let ((rest, observed), answers) = beside((rest, observed), answers)?;
-            let (observed, task) = beside(observed, rest.resume_with(alloc, answers))?;
+            let ((rest, observed), answers) = zip((rest, observed), answers)?;
+            let (observed, task) = zip(observed, rest.resume_with(alloc, answers))?;
             Ok(Walked::Continues(NodeWalk {
                 task,
                 awaited: Items(Vec::new(alloc)),
@@ -152,7 +152,7 @@ fn walk_on(walk: NodeWalk, alloc: Global, plan: &Arc<Plan>, at: &Pedigree) -> Re
     }
 }
 
-/// A walk through the origin of which nothing is done.
+// A walk that hasn't begun.
 fn begin_walk(
     alloc: Global,
     plan: &Arc<Plan>,
@@ -167,17 +167,17 @@ fn begin_walk(
     let _script = plan.checked.script();
     laws::valid_plans_are_clear();
     laws::tasks_begin();
-    let eye = Eye::new(path(&origin), at);
-    let task = Task::alone(alloc, plan, origin)?;
+    let probe = StrandProbe::new(path(&origin), at);
+    let task = Task::detached(alloc, plan, origin)?;
     Ok(NodeWalk {
         task,
         awaited: Items(Vec::new(alloc)),
-        observed: ObservedInstance::new(eye),
+        observed: ObservedInstance::new(probe),
     })
 }
 
-/// Runs an instance of the plan until nothing that it does later counts for the pedigree, or to its end. Its children are run where it waits
-/// for them.
+// Runs an instance of the plan until nothing that it does later counts for the pedigree, or to its end. Its children are run where it waits
+// for them.
 pub(crate) fn observe_instance(
     alloc: Global,
     plan: &Arc<Plan>,

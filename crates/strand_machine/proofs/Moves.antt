@@ -1,6 +1,6 @@
 pub mod Arms
 pub mod Dispatch
-pub mod Handed
+pub mod Starts
 pub mod Making
 pub mod Moving
 pub mod Halves

@@ -1,2 +1,2 @@
-pub mod Eyes
+pub mod Probes
 pub mod Observing

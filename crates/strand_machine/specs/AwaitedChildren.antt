@@ -30,4 +30,4 @@ awaited (p ∷ ps) = p.child ∷ awaited ps
 pub record IsParted {K : Type 0} (trace : Trace) (prefix : List Event) (fault : Option Fault) (after : List (AfterChild K)) : Type 0 where
   pub children : List Origin
   pub many : length children ≡ length after
-  pub is : ◌≡◌ {A = Trace} (record { prefix = prefix; fault = fault; handed = awaited_children children after }) trace
+  pub is : ◌≡◌ {A = Trace} (record { prefix = prefix; fault = fault; unmerged = awaited_children children after }) trace

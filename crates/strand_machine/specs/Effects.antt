@@ -17,7 +17,7 @@ use Rattle.strand_machine.specs.declared.task_state.TaskState.{TaskState}
 -- the task after a move that showed this and left the instance so
 abbrev pub task_after_effects : {K : Type 0} → TaskState K → Instance → Effects → Task
 task_after_effects b i s =
-    let m = machine_of b.family.plan i in
+    let m = machine_of b.links.plan i in
     passing (task_with b (meaning.Runs (meaning.Running m))) (effects_of s) (meaning.Runs (stage_after (effects_of s) m))
 
 abbrev pub IsKnownChild : PlanView → Option Origin → Type 0
@@ -27,7 +27,7 @@ IsKnownChild plan (Some o) = IsOriginOf plan o
 -- That task is sound, and its child, if any, an origin of the plan with its trail.
 pub record HasSoundEffects {K : Type 0} (b : TaskState K) (i : Instance) (s : Effects) : Type 0 where
   pub task : IsTask (task_after_effects b i s)
-  pub child : IsKnownChild b.family.plan (child_in (effects_of s))
-  pub family : AwaitsLast b.family b.trace.handed
-  pub runs : RunsAt b.family.plan (path_of (own_instance b.family.origin)) i
-  pub trail : ShowsTrail b.family.plan s
+  pub child : IsKnownChild b.links.plan (child_in (effects_of s))
+  pub links : AwaitsLast b.links b.trace.unmerged
+  pub runs : RunsAt b.links.plan (path_of (own_instance b.links.origin)) i
+  pub trail : ShowsTrail b.links.plan s

@@ -1,10 +1,10 @@
 -- A task that ends by a fault of its children.
 use Rattle.std.specs.Prelude.{◌≡◌, Bool, true, false}
-use Rattle.serial_meaning.specs.Answer.{AnswerView, AnswerTag}
+use Rattle.serial_meaning.specs.Answer.{AnswerTag, AnswerView}
 use Rattle.serial_meaning.specs.declared.answer.Outcome.{Outcome}
 use Rattle.serial_meaning.specs.declared.answer.Outcome.TheVariants as outcome
 use Rattle.strand_meaning.specs.Laws.{IsFaultOf}
-use Rattle.strand_machine.specs.Family.{tag}
+use Rattle.strand_machine.specs.Links.{GiveView, task_give}
 use Rattle.strand_machine.specs.Tasks.{TaskView}
 
 abbrev pub is_fault : Outcome → Bool
@@ -15,9 +15,9 @@ is_fault (outcome.Cut f) = false
 
 -- What a task answers that has ended by a fault of its plan, and the give for it. That events and fault are the origin's is the answer's
 -- own invariant.
-pub record EndsByFault (t : TaskView) (answer : AnswerView) (by : AnswerTag) : Type 0 where
+pub record EndsByFault (t : TaskView) (answer : AnswerView) (by : GiveView AnswerTag) : Type 0 where
   pub plan : answer.plan ≡ t.task.plan
   pub origin : answer.origin ≡ t.task.origin
-  pub give : by ≡ tag t.task.plan t.task.origin
+  pub give : by ≡ task_give t.task.plan t.task.origin t.joins
   pub fault : is_fault answer.outcome ≡ true
   pub known : IsFaultOf t.task.plan answer.outcome

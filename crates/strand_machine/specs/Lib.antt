@@ -1,6 +1,6 @@
 pub mod TaskStates
-pub mod Eyes
-pub mod Family
+pub mod Probes
+pub mod Links
 pub mod Faults
 pub mod Merge
 pub mod Made

@@ -1,14 +1,17 @@
 -- What the code makes of a task in place: moves in a row, a stop, or a look.
 use Rattle.std.specs.Prelude.{◌≡◌, ◌≤◌, Bool, true, false, Some, None}
-use Rattle.serial_meaning.specs.Answer.{AnswerView, IsAnswer}
+use Rattle.serial_meaning.specs.Answer.{AnswerTag, AnswerView, IsAnswer}
 use Rattle.serial_meaning.specs.declared.answer.Outcome.{Outcome}
+use Rattle.serial_meaning.specs.declared.origin.Origin.{Origin}
 use Rattle.strand_meaning.specs.Cuts.{IsByFaultOf}
 use Rattle.strand_meaning.specs.Left.{moves_left}
 use Rattle.strand_meaning.specs.Task as meaning
 use Rattle.strand_meaning.specs.Task.{IsNext}
-use Rattle.strand_machine.specs.Family.{tag}
+use Rattle.strand_machine.specs.Links.{AreJoinNames, GiveView, JoinNames, task_give}
 use Rattle.strand_machine.specs.Stops.{IsStep, IsStop}
-use Rattle.strand_machine.specs.Tasks.{TaskView, IsSound, ended_by, view_of}
+use Rattle.strand_machine.specs.Tasks.{TaskView, IsSound, ended_by, fresh, view_of, with_child}
+use Rattle.strand_machine.specs.declared.destination.Destination.{Destination}
+use Rattle.strand_machine.specs.declared.remaining.Remaining.{Remaining}
 use Rattle.strand_machine.specs.declared.task_state.TaskState.{TaskState}
 use Rattle.strand_machine.specs.declared.parts.Parts.{Parts}
 use Rattle.strand_machine.specs.declared.stop.Passed.{Passed}
@@ -30,6 +33,7 @@ pub record LeadsTo (first now : TaskView) : Type 0 where
   pub origin : now.task.origin ≡ first.task.origin
   pub children : now.children ≡ first.children
   pub loads : now.loads ≡ first.loads
+  pub joins : now.joins ≡ first.joins
   pub cut : now.cut ≡ None
 
 -- Moves of a task in a row, and the next move or stop after them.
@@ -52,13 +56,17 @@ StepsOn t = remaining_goes_on t.task.remaining t
 
 -- that a task may end so, and its end: by the fault in its trace, or else so
 abbrev pub CanEnd : {K : Type 0} → TaskState K → Outcome → Type 0
-CanEnd b o = IsAnswer b.family.plan b.family.origin b.trace.prefix (ended_by b.trace.fault o)
+CanEnd b o = IsAnswer b.links.plan b.links.origin b.trace.prefix (ended_by b.trace.fault o)
 
 abbrev pub ended_move : {K : Type 0} → TaskState K → Outcome → MoveOrStop K
 ended_move b o =
     step.Stops
-    (stop.Done (record { plan = b.family.plan; origin = b.family.origin; out = b.trace.prefix; outcome = ended_by b.trace.fault o })
-    (tag b.family.plan b.family.origin))
+    (stop.Done (record { plan = b.links.plan; origin = b.links.origin; out = b.trace.prefix; outcome = ended_by b.trace.fault o })
+    (task_give b.links.plan b.links.origin b.links.joins))
+
+-- A stop that begins a child of this origin, of which nothing is done. Its give is of the task's own join, and this remains.
+abbrev pub IsSpawn : {K : Type 0} → TaskState K → Origin → Destination → Remaining → MoveOrStop K → Type 0
+IsSpawn b o at w s = (joins : JoinNames) × AreJoinNames b.links.joins.own joins × (s ≡ step.Stops (stop.Spawn (fresh b.links.plan o joins) (view_of (with_child b o at) w)))
 
 -- The move or stop that left the task's parts so.
 abbrev pub made : {K : Type 0} → Parts K → Passed K → MoveOrStop K
@@ -86,21 +94,21 @@ abbrev pub KnowsEnd : {K : Type 0} → Parts K → Passed K → Type 0
 KnowsEnd p passed.Continues = Unit {0}
 KnowsEnd p passed.Waits = Unit {0}
 KnowsEnd p (passed.Spawned child) = Unit {0}
-KnowsEnd p (passed.Ends outcome) = IsByFaultOf p.state.family.plan (ended_by p.state.trace.fault outcome)
+KnowsEnd p (passed.Ends outcome) = IsByFaultOf p.state.links.plan (ended_by p.state.trace.fault outcome)
 
--- The task has ended, and still has this answer.
-abbrev pub KeepsAnswer : {K : Type 0} → AnswerView → Paused K → Type 0
-KeepsAnswer answer (paused.Spawn child rest) = ⊥
-KeepsAnswer answer (paused.Wait rest) = ⊥
-KeepsAnswer answer (paused.Ended rest) =
-    (rest.task.plan ≡ answer.plan) × (rest.task.origin ≡ answer.origin) × (rest.task.trace.prefix ≡ answer.out) × (rest.cut ≡ Some answer.outcome)
+-- The task has ended, and still has this answer and this give.
+abbrev pub KeepsAnswer : {K : Type 0} → AnswerView → GiveView AnswerTag → Paused K → Type 0
+KeepsAnswer answer give (paused.Spawn child rest) = ⊥
+KeepsAnswer answer give (paused.Wait rest) = ⊥
+KeepsAnswer answer give (paused.Ended rest) =
+    (rest.task.plan ≡ answer.plan) × (rest.task.origin ≡ answer.origin) × (rest.task.trace.prefix ≡ answer.out) × (rest.cut ≡ Some answer.outcome) × (rest.joins.parents ≡ give.join)
 
 -- It is this stop.
 abbrev pub PausesAs : {K : Type 0} → MoveOrStop K → Paused K → Type 0
 PausesAs (step.Passes next) p = ⊥
 PausesAs (step.Stops (stop.Spawn child rest)) p = p ≡ paused.Spawn child rest
 PausesAs (step.Stops (stop.Wait rest)) p = p ≡ paused.Wait rest
-PausesAs (step.Stops (stop.Done answer give)) p = KeepsAnswer answer p
+PausesAs (step.Stops (stop.Done answer give)) p = KeepsAnswer answer give p
 
 -- It is a stop, the task's next one.
 abbrev pub StopsSo : {K : Type 0} → TaskView → MoveOrStop K → Type 0

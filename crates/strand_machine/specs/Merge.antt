@@ -17,7 +17,7 @@ use Rattle.strand_meaning.specs.Found.{FindsDestination, functions_at, functions
 use Rattle.strand_meaning.specs.Sound.{IsTask}
 use Rattle.strand_meaning.specs.Task as meaning
 use Rattle.strand_meaning.specs.Task.{Splits, Runs, Finished, takes_all, all_values}
-use Rattle.strand_machine.specs.Family.{FamilyView}
+use Rattle.strand_machine.specs.Links.{LinksView}
 use Rattle.strand_machine.specs.AwaitedChildren.{destination_of}
 use Rattle.strand_machine.specs.Stops.{any_cut}
 use Rattle.strand_machine.specs.Tasks.{TaskView, stage_of, remaining_of, task_of, StandsAt, RemainsAt}
@@ -85,10 +85,10 @@ merge_of p h = record { prefix = p.state.trace.prefix; fault = p.state.trace.fau
 -- An answer changes nothing else, and none is awaited.
 pub record KeepsRest {K : Type 0} (before after : Parts K) : Type 0 where
   pub state : after.state ≡ record before.state { trace = after.state.trace; values = after.state.values }
-  pub handed : after.state.trace.handed ≡ []
+  pub unmerged : after.state.trace.unmerged ≡ []
 
 abbrev pub trace_of : Merge → Trace
-trace_of g = record { prefix = g.prefix; fault = g.fault; handed = [] }
+trace_of g = record { prefix = g.prefix; fault = g.fault; unmerged = [] }
 
 -- A task took the answers of these children.
 pub record IsMergeOf (parts : List AwaitedChild) (answers : List Evaluation) (before after : Merge) : Type 0 where
@@ -118,31 +118,32 @@ pub record TakesAnswers (parts : List AwaitedChild) (answers : List AnswerView) 
   pub said : AreSaid answers
 
 -- How a task ends that took a cut.
-pub record EndsShort (family : FamilyView) (g : Merge) : Type 0 where
+pub record EndsShort (links : LinksView) (g : Merge) : Type 0 where
   pub outcome : Outcome
   pub ended : ended_of g ≡ Some outcome
-  pub answers : IsAnswer family.plan family.origin g.prefix outcome
-  pub known : IsByFaultOf family.plan outcome
+  pub answers : IsAnswer links.plan links.origin g.prefix outcome
+  pub known : IsByFaultOf links.plan outcome
 
 -- what is left of it
-pub record IsShort (family : FamilyView) (g : Merge) (was_advanced : Bool) (next : TaskView) : Type 0 where
-  pub plan : next.task.plan ≡ family.plan
-  pub origin : next.task.origin ≡ family.origin
+pub record IsShort (links : LinksView) (g : Merge) (was_advanced : Bool) (next : TaskView) : Type 0 where
+  pub plan : next.task.plan ≡ links.plan
+  pub origin : next.task.origin ≡ links.origin
   pub prefix : next.task.trace.prefix ≡ g.prefix
-  pub handed : next.task.trace.handed ≡ []
+  pub unmerged : next.task.trace.unmerged ≡ []
   pub waits : next.task.waiting ≡ false
   pub advanced : next.task.advanced ≡ was_advanced
   pub cut : next.cut ≡ ended_of g
-  pub children : next.children ≡ family.children
-  pub loads : next.loads ≡ family.loads
+  pub children : next.children ≡ links.children
+  pub loads : next.loads ≡ links.loads
+  pub joins : next.joins ≡ links.joins
 
 -- what origins give by the serial meaning
 abbrev pub meanings : List AnswerTag → List Evaluation
 meanings [] = []
 meanings (t ∷ ts) = eval t.plan t.origin ∷ meanings ts
 
--- What holds of a task whose children's answers are at hand: those of all children that it handed out were taken from its join.
+-- What holds of a task whose children's answers are at hand: those of all children that it began were taken from its join.
 pub record HasTakenAnswers {K : Type 0} (b : TaskState K) (w : Remaining) : Type 0 where
   pub task : IsTask (task_of b w)
-  pub taken : length b.family.taken ≡ length b.family.children
-  pub of_plan : RemainsAt b.family.plan b.family.origin w
+  pub taken : length b.links.taken ≡ length b.links.children
+  pub of_plan : RemainsAt b.links.plan b.links.origin w

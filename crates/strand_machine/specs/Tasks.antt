@@ -18,7 +18,7 @@ use Rattle.strand_meaning.specs.Sound.{IsTask}
 use Rattle.strand_moves.specs.Machines as moves
 use Rattle.strand_moves.specs.Moves.{IsTrailOf}
 use Rattle.strand_moves.specs.declared.instance.Instance.{Instance}
-use Rattle.strand_machine.specs.Family.{FamilyView, family_with_child}
+use Rattle.strand_machine.specs.Links.{LinksView, JoinNames, links_with_child}
 use Rattle.strand_machine.specs.AwaitedChildren.{awaited, destination_of}
 use Rattle.strand_machine.specs.declared.task_state.TaskState.{TaskState}
 use Rattle.strand_machine.specs.declared.destination.Destination.{Destination}
@@ -27,18 +27,19 @@ use Rattle.strand_machine.specs.declared.remaining.Stage.TheVariants as stage
 use Rattle.strand_machine.specs.declared.remaining.Remaining.{Remaining}
 use Rattle.strand_machine.specs.declared.remaining.Remaining.TheVariants as remaining
 
--- A task as contracts see it: what it is by its meaning, the origins of all children that it handed out, in order, and the numbers that
--- looks at their join have loaded; and of a task that took a cut for an answer, or that has ended and still has its answer, how it ends.
--- Such a task isn't finished: of its meaning its plan and origin count, and its own events.
+-- A task as contracts see it: what it is by its meaning, the origins of all children that it began, in order, the numbers that looks
+-- at their join have loaded, and the names of its joins; and of a task that took a cut for an answer, or that has ended and still has its
+-- answer, how it ends. Such a task isn't finished: of its meaning its plan and origin count, and its own events.
 pub record TaskView : Type 0 where
   pub task : Task
   pub children : List Origin
   pub loads : List ℕ
+  pub joins : JoinNames
   pub cut : Option Outcome
 
 -- a task of which nothing is done
-abbrev pub fresh : PlanView → Origin → TaskView
-fresh plan o = record { task = start plan o; children = []; loads = []; cut = None }
+abbrev pub fresh : PlanView → Origin → JoinNames → TaskView
+fresh plan o joins = record { task = start plan o; children = []; loads = []; joins = joins; cut = None }
 
 abbrev pub stage_of : PlanView → Stage → meaning.Stage
 stage_of plan (stage.Running i) = meaning.Running (moves.machine_of plan i)
@@ -60,14 +61,14 @@ cut_of (remaining.Runs s) = None
 cut_of (remaining.Finished v gone_on) = None
 cut_of (remaining.Ends o) = Some o
 
-abbrev pub is_cut_short : Option Outcome → Bool
-is_cut_short None = false
-is_cut_short (Some ended) = true
+abbrev pub has_outcome : Option Outcome → Bool
+has_outcome None = false
+has_outcome (Some ended) = true
 
 abbrev pub task_with : {K : Type 0} → TaskState K → meaning.Remaining → Task
 task_with b w = record {
-  plan = b.family.plan;
-  origin = b.family.origin;
+  plan = b.links.plan;
+  origin = b.links.origin;
   trace = b.trace;
   values = b.values;
   remaining = w;
@@ -76,18 +77,18 @@ task_with b w = record {
 }
 
 abbrev pub task_of : {K : Type 0} → TaskState K → Remaining → Task
-task_of b w = task_with b (remaining_of b.family.plan w)
+task_of b w = task_with b (remaining_of b.links.plan w)
 
 abbrev pub view_of : {K : Type 0} → TaskState K → Remaining → TaskView
-view_of b w = record { task = task_of b w; children = b.family.children; loads = b.family.loads; cut = cut_of w }
+view_of b w = record { task = task_of b w; children = b.links.children; loads = b.links.loads; joins = b.links.joins; cut = cut_of w }
 
 -- The join's last tags are those of the children whose answers aren't taken.
-pub record AwaitsLast (family : FamilyView) (parts : List AwaitedChild) : Type 0 where
+pub record AwaitsLast (links : LinksView) (parts : List AwaitedChild) : Type 0 where
   pub before : List Origin
   pub passed : List Bool
   pub same : length passed ≡ length before
-  pub children : family.children ≡ before ++ awaited parts
-  pub taken : family.taken ≡ passed ++ replicate (length parts) false
+  pub children : links.children ≡ before ++ awaited parts
+  pub taken : links.taken ≡ passed ++ replicate (length parts) false
 
 -- An instance that runs is one of the plan, at this path.
 pub record RunsAt (plan : PlanView) (path : List ℕ) (i : Instance) : Type 0 where
@@ -112,13 +113,13 @@ RemainsAt plan o (remaining.Ends ended) = ⊥
 -- What holds of a task that goes on: it hasn't ended, and took no cut.
 pub record IsSound {K : Type 0} (b : TaskState K) (w : Remaining) : Type 0 where
   pub task : IsTask (task_of b w)
-  pub family : AwaitsLast b.family b.trace.handed
-  pub of_plan : RemainsAt b.family.plan b.family.origin w
+  pub links : AwaitsLast b.links b.trace.unmerged
+  pub of_plan : RemainsAt b.links.plan b.links.origin w
 
 -- What holds of a task that has ended, or that took a cut: it ends so.
 pub record IsCutShort {K : Type 0} (b : TaskState K) (ended : Outcome) : Type 0 where
-  pub answers : IsAnswer b.family.plan b.family.origin b.trace.prefix ended
-  pub known : IsByFaultOf b.family.plan ended
+  pub answers : IsAnswer b.links.plan b.links.origin b.trace.prefix ended
+  pub known : IsByFaultOf b.links.plan ended
   pub waits : b.waiting ≡ false
 
 -- What holds of a task at all times.
@@ -128,7 +129,7 @@ HoldsOfTask b (remaining.Runs s) = IsSound b (remaining.Runs s)
 HoldsOfTask b (remaining.Finished v gone_on) = IsSound b (remaining.Finished v gone_on)
 HoldsOfTask b (remaining.Ends ended) = IsCutShort b ended
 
--- after a step; where it waits; where it handed out a child
+-- after a step; where it waits; where it began a child
 abbrev pub gone : {K : Type 0} → TaskState K → TaskState K
 gone b = record b { advanced = true }
 
@@ -136,7 +137,7 @@ abbrev pub waiting : {K : Type 0} → TaskState K → TaskState K
 waiting b = record b { waiting = true; advanced = true }
 
 abbrev pub with_child : {K : Type 0} → TaskState K → Origin → Destination → TaskState K
-with_child b o p = record b { family = family_with_child b.family o; trace = add_child o (destination_of p) b.trace; advanced = true }
+with_child b o p = record b { links = links_with_child b.links o; trace = add_child o (destination_of p) b.trace; advanced = true }
 
 -- the fault in the trace, or else so
 abbrev pub ended_by : Option Fault → Outcome → Outcome

@@ -3,7 +3,7 @@ ghost use Rattle.std.specs.Prelude.{◌≡◌, IfOk, None, true};
 ghost use Rattle.strand_meaning.specs.Cuts.{IsByFaultOf};
 ghost use Rattle.strand_machine.specs.Made.{CanEnd, IsSoundMade, IsStopped, KnowsEnd, PausesAs, made};
 ghost use Rattle.strand_machine.specs.Stops.{Advances, Pauses};
-ghost use Rattle.strand_machine.specs.Tasks.{HoldsOfTask, ended_by, is_cut_short};
+ghost use Rattle.strand_machine.specs.Tasks.{HoldsOfTask, ended_by, has_outcome};
 ghost use Rattle.strand_machine.specs.declared.stop.Stop.TheVariants as stop;
 ghost use Rattle.strand_machine.specs.declared.remaining.Remaining.TheVariants as remaining;
 
@@ -11,7 +11,7 @@ use crate::memory::Memory;
 use crate::parts::Parts;
 use crate::remaining::Remaining;
 use crate::replace::set_remaining;
-use crate::step::run_on;
+use crate::step::run_in_place;
 use crate::stop::{Passed, Paused, Stop};
 use crate::task::Task;
 use crate::task_state::TaskState;
@@ -19,13 +19,13 @@ use meet_block::Give;
 use serial_meaning::{Answer, Keep, Outcome};
 use std::alloc::Global;
 
-/// The task has ended so, but for a fault in its trace.
+// Records a task's end: the fault in its trace, or else this outcome.
 #[inline(always)]
 fn keep_end<K: Keep>(parts: &mut Parts<K>, outcome: Outcome)
     requires can { CanEnd parts.old.state outcome }
-    requires known { IsByFaultOf parts.old.state.family.plan (ended_by parts.old.state.trace.fault outcome) }
+    requires known { IsByFaultOf parts.old.state.links.plan (ended_by parts.old.state.trace.fault outcome) }
     ensures remaining { parts.new.remaining ≡ remaining.Ends (ended_by parts.old.state.trace.fault outcome) }
-    ensures family { parts.new.state.family ≡ parts.old.state.family }
+    ensures links { parts.new.state.links ≡ parts.old.state.links }
     ensures prefix { parts.new.state.trace.prefix ≡ parts.old.state.trace.prefix }
     ensures holds { HoldsOfTask parts.new.state parts.new.remaining }
 {
@@ -34,7 +34,7 @@ fn keep_end<K: Keep>(parts: &mut Parts<K>, outcome: Outcome)
     set_remaining(&mut parts.remaining, Remaining::Ends(ended));
 }
 
-/// The task that came to a stop.
+// A task at the stop that it came to.
 #[inline(always)]
 fn paused<K: Keep>(mut parts: Box<Parts<K>>, passed: Passed<K>) -> Paused<K>
     requires sound { IsSoundMade parts.value passed }
@@ -61,17 +61,17 @@ fn paused<K: Keep>(mut parts: Box<Parts<K>>, passed: Passed<K>) -> Paused<K>
 }
 
 impl<K: Keep> Task<K> {
-    /// Whether it has ended, or took an answer that is a cut, so that it ends by its next advance.
-    pub fn is_cut_short(&self) -> bool
-        ensures { result ≡ is_cut_short self.now.cut }
+    /// Whether its outcome is known: it has ended, or it took an answer that is a cut and ends by its next advance.
+    pub fn has_outcome(&self) -> bool
+        ensures { result ≡ has_outcome self.now.cut }
     {
         matches!(self.parts.remaining, Remaining::Ends(_))
     }
 
-    /// What it answers, of a task that has ended or took an answer that is a cut, and the give for it.
+    /// The answer of a task that has an outcome, and the give for it.
     #[inline(always)]
     pub fn into_answer(self) -> (Answer<K>, Give<Answer<K>>)
-        requires { is_cut_short self.cut ≡ true }
+        requires { has_outcome self.cut ≡ true }
         ensures { Advances {K = K} self (stop.Done result.0 result.1) }
     {
         let Task { parts } = self;
@@ -79,12 +79,12 @@ impl<K: Keep> Task<K> {
         let Remaining::Ends(ended) = remaining else {
             unreachable!()
         };
-        let TaskState { family, trace, .. } = state;
+        let TaskState { links, trace, .. } = state;
         let (prefix, _) = trace.prefix();
-        family.answer(prefix, ended)
+        links.answer(prefix, ended)
     }
 
-    /// Runs to the next stop: a child that is handed out, a wait, or the end. A task that waits stops at its wait again. On `Memory` it is
+    /// Runs to the next stop: a child that is begun, a wait, or the end. A task that waits stops at its wait again. On `Memory` it is
     /// dropped.
     #[inline(always)]
     pub fn run(self, alloc: Global) -> Result<Paused<K>, Memory>
@@ -92,16 +92,16 @@ impl<K: Keep> Task<K> {
         ensures { IfOk result (Pauses self) }
     {
         let Task { mut parts } = self;
-        let passed = run_on(&mut parts, alloc)?;
+        let passed = run_in_place(&mut parts, alloc)?;
         Ok(paused(parts, passed))
     }
 
-    /// The same, by which a task that has ended is left. One that took an answer that is a cut ends by the first fault or cut in the order of
-    /// its trace.
+    /// The same, with the answer of a task that has ended. One that took a cut ends by the first fault or cut in the
+    /// order of its trace.
     pub fn advance(self, alloc: Global) -> Result<Stop<K>, Memory>
         ensures { IfOk result (Advances self) }
     {
-        if self.is_cut_short() {
+        if self.has_outcome() {
             return Ok(stop_done(self));
         }
         let paused = self.run(alloc)?;
@@ -113,9 +113,9 @@ impl<K: Keep> Task<K> {
     }
 }
 
-/// The end of a task that has ended or took an answer that is a cut.
+// The end of a task that has an outcome.
 fn stop_done<K: Keep>(task: Task<K>) -> Stop<K>
-    requires { is_cut_short task.cut ≡ true }
+    requires { has_outcome task.cut ≡ true }
     ensures { Advances task result }
 {
     let (answer, give) = task.into_answer();

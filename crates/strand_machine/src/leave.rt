@@ -1,9 +1,9 @@
-// What a move leaves of a task in its parts.
+// What a move leaves in a task's parts.
 ghost use Rattle.std.specs.Prelude.{◌≡◌, IfOk, OnOk};
 ghost use Rattle.serial_meaning.specs.Laws.{IsOriginOf};
 ghost use Rattle.strand_moves.specs.Moves.{IsTrailOf};
-ghost use Rattle.strand_machine.specs.Family.{family_with_child};
-ghost use Rattle.strand_machine.specs.Made.{IsSoundMade, made};
+ghost use Rattle.strand_machine.specs.Links.{AreJoinNames, links_with_child};
+ghost use Rattle.strand_machine.specs.Made.{IsSoundMade, IsSpawn, made};
 ghost use Rattle.strand_machine.specs.Stops.{IsStep};
 ghost use Rattle.strand_machine.specs.Tasks.{IsSound, view_of, fresh, gone, waiting, with_child};
 ghost use Rattle.strand_machine.specs.declared.stop.MoveOrStop.TheVariants as step;
@@ -21,11 +21,11 @@ use crate::task::Task;
 use crate::task_state::TaskState;
 use serial_meaning::{AnswerKey, Fault, Keep, Origin, Outcome, Value};
 use std::alloc::Global;
-use strand_family::Family;
+use strand_family::Links;
 use strand_meaning::laws;
 use strand_moves::Child;
 
-/// The task goes on with this.
+// The task continues with this.
 pub(crate) fn pass<K: Keep>(parts: &mut Parts<K>, remaining: Remaining) -> Passed<K>
     requires { IsSound (gone parts.old.state) remaining }
     ensures made { made parts.new result ≡ step.Passes (view_of (gone parts.old.state) remaining) }
@@ -36,7 +36,8 @@ pub(crate) fn pass<K: Keep>(parts: &mut Parts<K>, remaining: Remaining) -> Passe
     Passed::Continues
 }
 
-/// The task waits, and this remains.
+// The task waits, with this left to do.
+#[inline(always)]
 pub(crate) fn wait<K: Keep>(parts: &mut Parts<K>, remaining: Remaining) -> Passed<K>
     requires { IsSound (waiting parts.old.state) remaining }
     ensures made { made parts.new result ≡ step.Stops (stop.Wait (view_of (waiting parts.old.state) remaining)) }
@@ -48,19 +49,22 @@ pub(crate) fn wait<K: Keep>(parts: &mut Parts<K>, remaining: Remaining) -> Passe
     Passed::Waits
 }
 
-/// Begins a child, and counts it among the family's. The key by which it is handed out is made of its own plan and origin.
+// Begins a child, and counts it among the task's. Its give is of the task's join. The key of its give is made of its own
+// plan and origin.
+#[tactic(auto, using(crate::proofs::Moves::Starting::begun_under, crate::proofs::Moves::Starting::tag_given))]
 fn begin_child<K: Keep>(
-    family: &mut Family<K>,
+    links: &mut Links<K>,
     alloc: Global,
     child: Child,
 ) -> Result<Task<K>, Memory>
-    requires known { IsOriginOf family.old.plan child.origin }
-    requires trail { IsTrailOf family.old.plan child.origin child.trail }
-    ensures child { IfOk result (λ task. task ≡ fresh family.old.plan child.origin) }
-    ensures family { OnOk result (family.new ≡ family_with_child family.old child.origin) }
+    requires known { IsOriginOf links.old.plan child.origin }
+    requires trail { IsTrailOf links.old.plan child.origin child.trail }
+    ensures child { IfOk result (λ task. task ≡ fresh links.old.plan child.origin task.joins) }
+    ensures joins { IfOk result (λ task. AreJoinNames links.old.joins.own task.joins) }
+    ensures links { OnOk result (links.new ≡ links_with_child links.old child.origin) }
 {
     let Child { origin, trail } = child;
-    let plan = match family.share_plan() {
+    let plan = match links.share_plan() {
         Ok(plan) => plan,
         Err(memory) => {
             drop((origin, trail));
@@ -68,7 +72,7 @@ fn begin_child<K: Keep>(
         }
     };
     let key = AnswerKey { plan, origin };
-    let give = match family.hand(alloc, &key) {
+    let give = match links.give_for_child(alloc, &key) {
         Ok(give) => give,
         Err(memory) => {
             drop((key, trail));
@@ -79,22 +83,23 @@ fn begin_child<K: Keep>(
     Task::begin(alloc, plan, Child { origin, trail }, give)
 }
 
-/// Begins a child whose value goes to this destination.
-fn hand_out<K: Keep>(
+// Begins a child whose value goes to this destination.
+fn add_child_task<K: Keep>(
     state: &mut TaskState<K>,
     alloc: Global,
     child: Child,
     destination: Destination,
 ) -> Result<Task<K>, Memory>
-    requires known { IsOriginOf state.old.family.plan child.origin }
-    requires trail { IsTrailOf state.old.family.plan child.origin child.trail }
-    ensures child { IfOk result (λ task. task ≡ fresh state.old.family.plan child.origin) }
+    requires known { IsOriginOf state.old.links.plan child.origin }
+    requires trail { IsTrailOf state.old.links.plan child.origin child.trail }
+    ensures child { IfOk result (λ task. task ≡ fresh state.old.links.plan child.origin task.joins) }
+    ensures joins { IfOk result (λ task. AreJoinNames state.old.links.joins.own task.joins) }
     ensures state { OnOk result (state.new ≡ with_child state.old child.origin destination) }
 {
     match state.trace.add_child(&child.origin, destination) {
         Ok(()) => {
             state.advanced = true;
-            begin_child(&mut state.family, alloc, child)
+            begin_child(&mut state.links, alloc, child)
         }
         Err(memory) => {
             drop(child);
@@ -103,7 +108,7 @@ fn hand_out<K: Keep>(
     }
 }
 
-/// The task hands out a child, and this remains.
+// The task begins a child, with this left to do.
 #[inline(always)]
 pub(crate) fn spawn<K: Keep>(
     parts: &mut Parts<K>,
@@ -112,14 +117,13 @@ pub(crate) fn spawn<K: Keep>(
     destination: Destination,
     remaining: Remaining,
 ) -> Result<Passed<K>, Memory>
-    requires known { IsOriginOf parts.old.state.family.plan child.origin }
-    requires trail { IsTrailOf parts.old.state.family.plan child.origin child.trail }
+    requires known { IsOriginOf parts.old.state.links.plan child.origin }
+    requires trail { IsTrailOf parts.old.state.links.plan child.origin child.trail }
     requires sound { IsSound (with_child parts.old.state child.origin destination) remaining }
-    ensures made { let b = parts.old.state in IfOk result (λ passed. made parts.new passed
-        ≡ step.Stops (stop.Spawn (fresh b.family.plan child.origin) (view_of (with_child b child.origin destination) remaining))) }
+    ensures made { IfOk result (λ passed. IsSpawn parts.old.state child.origin destination remaining (made parts.new passed)) }
     ensures sound { IfOk result (IsSoundMade parts.new) }
 {
-    match hand_out(&mut parts.state, alloc, child, destination) {
+    match add_child_task(&mut parts.state, alloc, child, destination) {
         Ok(child) => {
             set_remaining(&mut parts.remaining, remaining);
             Ok(Passed::Spawned(child))
@@ -131,20 +135,21 @@ pub(crate) fn spawn<K: Keep>(
     }
 }
 
-/// An instance that ended by a value: the task ends too, or else it was the last iteration of a loop.
+// An instance ended by a value: the task ends too, unless it was the last iteration of a loop.
+#[inline(always)]
 pub(crate) fn returned<K: Keep>(parts: &mut Parts<K>, value: Value) -> Passed<K>
     requires { IsSound parts.old.state (remaining.Runs (stage.Returned value)) }
     ensures step { IsStep (view_of parts.old.state (remaining.Runs (stage.Returned value))) (made parts.new result) }
     ensures sound { IsSoundMade parts.new result }
 {
     laws::steps_are_sound();
-    match parts.state.family.origin() {
+    match parts.state.links.origin() {
         Origin::Instance { .. } => Passed::Ends(Outcome::Value(value)),
         Origin::Loop { .. } => pass(parts, Remaining::Finished(value, false)),
     }
 }
 
-/// An instance that ended by a fault of its own. The task waits for the children that it handed out, and then ends by it.
+// An instance ended by a fault of its own. The task waits for the children that it began, and then ends by the fault.
 pub(crate) fn faulted<K: Keep>(parts: &mut Parts<K>, fault: Fault) -> Passed<K>
     requires { IsSound parts.old.state (remaining.Runs (stage.Faulted fault)) }
     ensures step { IsStep (view_of parts.old.state (remaining.Runs (stage.Faulted fault))) (made parts.new result) }

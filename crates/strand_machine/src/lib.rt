@@ -1,11 +1,10 @@
-//! Resumable tasks: an instance or a loop that can stop, hand out children and go on.
+//! Resumable tasks: an instance or a loop that can stop, begin children and continue.
 //!
-//! What a task is, is defined in `strand_meaning`; the contracts here are its words.
+//! `strand_meaning` defines what a task is; the contracts here use its words.
 #![tactic(auto)]
 
 mod advance;
 mod destination;
-mod eye;
 mod fault;
 mod leave;
 mod memory;
@@ -14,6 +13,7 @@ mod observe;
 mod origin;
 mod parts;
 mod placed;
+mod probe;
 mod remaining;
 mod replace;
 mod resume;
@@ -24,19 +24,19 @@ mod task;
 mod task_state;
 mod trace;
 
-pub use eye::Eye;
 pub use fault::is_fault;
 pub use memory::Memory;
 pub use observe::ObservedStop;
 pub use origin::share_origin;
 pub use placed::{PlacedFault, PlacedStop};
+pub use probe::StrandProbe;
 pub use stop::{Paused, Resumed, Stop};
 pub use task::Task;
 
 fn is_sent<T: Send>() {}
 
-/// A task may go on in any thread, and so may what it stops or resumes with. The body asks for it, so that a field which forbids it
-/// fails the build.
+// A task may continue in any thread, and so may what it stops or resumes with. A field that forbids it makes this fail
+// to compile.
 fn all_are_sent() {
     is_sent::<Task>();
     is_sent::<Stop>();

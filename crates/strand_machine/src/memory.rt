@@ -10,7 +10,7 @@ impl From<AllocError> for Memory {
     }
 }
 
-/// The value that found no room is dropped.
+/// The value for which there was no memory is dropped.
 impl<T: Drop> From<AllocFailed<T>> for Memory {
     fn from(_: AllocFailed<T>) -> Self {
         Memory

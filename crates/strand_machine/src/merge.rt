@@ -1,4 +1,4 @@
-// What the answers of children change.
+// How children's answers are merged into a task.
 ghost use Rattle.std.specs.Prelude.{◌≡◌, ◌∷◌, ◌++◌, ◌||◌, [], Ok, IfOk, OnOk};
 ghost use Rattle.serial_meaning.specs.Eval.{first_value};
 ghost use Rattle.serial_meaning.specs.Plan.{PlanView};
@@ -19,18 +19,18 @@ use crate::parts::Parts;
 use crate::remaining::{Remaining, Stage};
 use crate::replace::set;
 use crate::trace::{AfterChild, Trace};
-use script_grammar::Items;
+use contract_views::Items;
 use serial_meaning::{Answer, Fault, Keep, Out, Outcome, Plan, Value};
 use std::alloc::Global;
 use strand_moves::Instance;
 use strand_values::Target;
 
-/// What is known of the answers that were merged into a task so far.
+// What the answers merged into a task so far say.
 #[derive(Drop)]
 pub(crate) struct Merging {
-    /// Whether one of them is a cut.
+    // Whether one of them is a cut.
     pub cut: bool,
-    /// Whether the fault in the trace is one by which a child was cut.
+    // Whether the fault in the trace is one by which a child was cut.
     pub by_cut: bool,
 }
 
@@ -40,7 +40,7 @@ fn is_cut(outcome: &Outcome) -> bool
     matches!(outcome, Outcome::Cut { .. })
 }
 
-/// The values of a loop's answer, or its fault.
+// The values of a loop's answer, or its fault.
 fn result_of_outcome(alloc: Global, outcome: Outcome) -> Result<Result<Items<Value>, Fault>, Memory>
     ensures { IfOk result (λ ending. ending ≡ result_of_outcome outcome) }
 {
@@ -52,7 +52,7 @@ fn result_of_outcome(alloc: Global, outcome: Outcome) -> Result<Result<Items<Val
     })
 }
 
-/// The first of an answer's values.
+// The first value of an answer.
 fn first_value(values: Items<Value>) -> Value
     ensures { result ≡ first_value values }
 {
@@ -62,7 +62,7 @@ fn first_value(values: Items<Value>) -> Value
     }
 }
 
-/// An instance that takes the answer of a child that it spawned.
+// An instance that takes the answer of a child that it spawned.
 #[inline(always)]
 fn merge_spawned(
     instance: &mut Instance,
@@ -91,7 +91,7 @@ fn merge_spawned(
     }
 }
 
-/// The stage after the answer of a child that an instance spawned.
+// The stage after the answer of a child that an instance spawned.
 fn spawned_stage(
     stage: &mut Stage,
     plan: &Plan,
@@ -113,7 +113,7 @@ fn spawned_stage(
     }
 }
 
-/// The stage after the values of a loop of an instance.
+// The stage after the values of a loop of an instance.
 fn fill_stage(
     stage: &mut Stage,
     alloc: Global,
@@ -137,7 +137,7 @@ fn fill_stage(
     }
 }
 
-/// The stage after the answer of a loop of an instance.
+// The stage after the answer of a loop of an instance.
 fn looped_stage(
     stage: &mut Stage,
     alloc: Global,
@@ -156,7 +156,7 @@ fn looped_stage(
     Ok(())
 }
 
-/// The stage after the answer of a child.
+// The stage after the answer of a child.
 fn merge_stage(
     stage: &mut Stage,
     alloc: Global,
@@ -181,7 +181,7 @@ fn merge_stage(
     }
 }
 
-/// What remains after the answer of a child.
+// What remains after the answer of a child.
 fn merge_remaining(
     remaining: &mut Remaining,
     alloc: Global,
@@ -214,7 +214,8 @@ fn merge_remaining(
 }
 
 impl Merging {
-    /// The events of an answer join the trace, and where it is neither a fault nor a cut then those after the child.
+    // Appends an answer's events to the trace and, where it is neither a fault nor a cut, the task's own events after
+    // that child.
     fn merge_events<K: Keep>(
         &mut self,
         trace: &mut Trace<K>,
@@ -222,7 +223,7 @@ impl Merging {
         after: Out<K>,
         outcome: &Outcome,
     ) -> Result<(), Memory>
-        requires { trace.old.handed ≡ [] }
+        requires { trace.old.unmerged ≡ [] }
         ensures trace { OnOk result ((p : AwaitedChild) → p.after ≡ after
             → trace.new ≡ merged_answer p (record { items = events; ending = result_of_outcome outcome.now }) trace.old) }
         ensures ended { OnOk result (end_of trace.new.fault self.new.by_cut ≡ or_ends (end_of trace.old.fault self.old.by_cut) outcome.now) }
@@ -257,7 +258,7 @@ impl Merging {
     }
 }
 
-/// More values of a loop.
+// More values of a loop.
 fn add_values(values: &mut Items<Value>, more: Items<Value>) -> Result<(), Memory>
     ensures { OnOk result (values.new ≡ values.old ++ more) }
 {
@@ -266,7 +267,7 @@ fn add_values(values: &mut Items<Value>, more: Items<Value>) -> Result<(), Memor
     Ok(())
 }
 
-/// The values of a half of a loop.
+// The values of a half of a loop.
 fn add_half(values: &mut Items<Value>, outcome: Outcome) -> Result<(), Memory>
     ensures { OnOk result (values.new ≡ more_values Half (result_of_outcome outcome) values.old) }
 {
@@ -284,7 +285,7 @@ fn add_half(values: &mut Items<Value>, outcome: Outcome) -> Result<(), Memory>
     }
 }
 
-/// What an answer that is merged changes of the values, or of what remains.
+// What a merged answer changes in the values, or in what remains.
 fn merge_value(
     values: &mut Items<Value>,
     remaining: &mut Remaining,
@@ -304,7 +305,7 @@ fn merge_value(
     merge_remaining(remaining, alloc, plan, destination, outcome)
 }
 
-/// A task that awaits no child any more takes a child's answer.
+// Merges one child's answer into a task whose list of children was taken out.
 pub(crate) fn merge_answer<K: Keep>(
     parts: &mut Parts<K>,
     merging: &mut Merging,
@@ -312,9 +313,9 @@ pub(crate) fn merge_answer<K: Keep>(
     after: AfterChild<K>,
     answer: Answer<K>,
 ) -> Result<(), Memory>
-    requires handed { parts.old.state.trace.handed ≡ [] }
-    requires of_plan { IsRemainingOfPlan parts.old.state.family.plan parts.old.remaining }
-    requires found { RemainingFinds parts.old.state.family.plan (destination_of after.destination) (remaining_of parts.old.state.family.plan parts.old.remaining) }
+    requires unmerged { parts.old.state.trace.unmerged ≡ [] }
+    requires of_plan { IsRemainingOfPlan parts.old.state.links.plan parts.old.remaining }
+    requires found { RemainingFinds parts.old.state.links.plan (destination_of after.destination) (remaining_of parts.old.state.links.plan parts.old.remaining) }
     ensures takes { OnOk result (TakesAnswers (awaited_child answer.origin after ∷ []) (answer ∷ []) (merge_of parts.old merging.old) (merge_of parts.new merging.new)) }
     ensures rest { OnOk result (KeepsRest parts.old parts.new) }
 {
@@ -335,7 +336,7 @@ pub(crate) fn merge_answer<K: Keep>(
             &mut state.values,
             remaining,
             alloc,
-            state.family.plan(),
+            state.links.plan(),
             destination,
             outcome,
         ),

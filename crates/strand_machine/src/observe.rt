@@ -1,9 +1,9 @@
-// What a task shows on its way to its next stop, observed for one pedigree.
+// What a task shows on its way to its next stop, as far as one pedigree goes.
 ghost use Rattle.std.specs.Prelude.{◌≡◌, ◌++◌, ◌∷◌, [], None, IfOk, OnOk};
 ghost use Rattle.serial_meaning.specs.Open.{Happened};
 ghost use Rattle.strand_meaning.specs.Observation.{step_observation};
 ghost use Rattle.strand_meaning.specs.Strands.{events_at};
-ghost use Rattle.strand_machine.specs.Eyes.{eye_after};
+ghost use Rattle.strand_machine.specs.Probes.{probe_after};
 ghost use Rattle.strand_machine.specs.Made.{IsSoundMade, made};
 ghost use Rattle.strand_machine.specs.Observed.{result_observation, with_step};
 ghost use Rattle.strand_machine.specs.Stops.{IsStep};
@@ -11,10 +11,10 @@ ghost use Rattle.strand_machine.specs.Tasks.{IsSound, view_of, task_of};
 ghost use Rattle.strand_machine.specs.declared.remaining.Stage.TheVariants as stage;
 ghost use Rattle.strand_machine.specs.declared.remaining.Remaining.TheVariants as remaining;
 
-use crate::eye::{Eye, pedigree};
 use crate::leave::pass;
 use crate::memory::Memory;
 use crate::parts::Parts;
+use crate::probe::{StrandProbe, pedigree};
 use crate::remaining::{Remaining, Stage};
 use crate::replace::set;
 use crate::run::apply_effects;
@@ -33,8 +33,8 @@ use strand_moves::{Effects, Instance, MoveResult};
 pub struct ObservedStop {
     /// Where the task stopped.
     pub stop: Stop<All>,
-    /// What was seen of the pedigree up to there.
-    pub eye: Eye,
+    /// What was seen of the pedigree so far.
+    pub probe: StrandProbe,
     /// The task's own events with the pedigree that came in this call, in order.
     pub events: Out<All>,
     /// The task's own fault, if it came in this call.
@@ -43,16 +43,16 @@ pub struct ObservedStop {
     pub child_fault: Option<Fault>,
 }
 
-/// What is observed on the way.
+// What is observed on the way.
 #[derive(Drop)]
 pub(crate) struct Observed {
-    pub eye: Eye,
+    pub probe: StrandProbe,
     pub events: Out<All>,
     pub fault: Option<Fault>,
     pub child_fault: Option<Fault>,
 }
 
-/// The same event. Its pedigree shares its memory.
+// The same event. Its pedigree shares its memory.
 fn share_event(event: &Event) -> Result<Event, Memory>
     ensures { IfOk result (λ shared. shared ≡ event.now) }
 {
@@ -67,30 +67,30 @@ fn share_event(event: &Event) -> Result<Event, Memory>
 }
 
 impl Observed {
-    /// Nothing yet.
-    fn new(eye: Eye) -> Observed
-        ensures { result ≡ record { eye = eye; events = []; fault = None; child_fault = None } }
+    // Nothing yet.
+    fn new(probe: StrandProbe) -> Observed
+        ensures { result ≡ record { probe = probe; events = []; fault = None; child_fault = None } }
     {
         Observed {
-            eye,
+            probe,
             events: Out::new(),
             fault: None,
             child_fault: None,
         }
     }
 
-    /// One more event of the task's own, which is kept where it is of this pedigree.
+    // One more event of the task's own. It is kept where it has this pedigree.
     fn emit(&mut self, alloc: Global, at: &Pedigree, event: &Event) -> Result<(), Memory>
-        ensures { OnOk result (self.new ≡ record self.old { eye = eye_after at.now self.old.eye (Happened event.now ∷ []); events = self.old.events ++ events_at at.now (event.now ∷ []) }) }
+        ensures { OnOk result (self.new ≡ record self.old { probe = probe_after at.now self.old.probe (Happened event.now ∷ []); events = self.old.events ++ events_at at.now (event.now ∷ []) }) }
     {
-        self.eye.emit(at, event);
+        self.probe.emit(at, event);
         if pedigree(event).same(at) {
             self.events.push(alloc, share_event(event)?)?;
         }
         Ok(())
     }
 
-    /// One more move of the task's instance.
+    // One more move of the task's instance.
     fn observe(
         &mut self,
         alloc: Global,
@@ -101,8 +101,8 @@ impl Observed {
     {
         match move_result {
             MoveResult::Went(Effects::Nothing) => {}
-            MoveResult::Went(Effects::Opened(path)) => self.eye.enter_scope(at, path),
-            MoveResult::Went(Effects::Closed(scope)) => self.eye.leave_scope(at, scope),
+            MoveResult::Went(Effects::Opened(path)) => self.probe.enter_scope(at, path),
+            MoveResult::Went(Effects::Closed(scope)) => self.probe.leave_scope(at, scope),
             MoveResult::Went(Effects::Emitted(event)) => self.emit(alloc, at, event)?,
             MoveResult::Went(Effects::Synced(event)) => self.emit(alloc, at, event)?,
             MoveResult::Went(Effects::Spawned { event, .. }) => self.emit(alloc, at, event)?,
@@ -114,7 +114,7 @@ impl Observed {
     }
 }
 
-/// One move of the instance, which is observed.
+// One move of the instance, which is observed.
 fn go_observed(
     parts: &mut Parts<All>,
     alloc: Global,
@@ -128,7 +128,7 @@ fn go_observed(
     ensures observation { OnOk result (observation.new ≡ with_step at.now (step_observation (task_of parts.old.state (remaining.Runs (stage.Running instance)))) observation.old) }
 {
     laws::steps_are_sound();
-    let move_result = match instance.make_move(alloc, parts.state.family.plan()) {
+    let move_result = match instance.make_move(alloc, parts.state.links.plan()) {
         Ok(move_result) => move_result,
         Err(memory) => {
             drop(instance);
@@ -155,7 +155,7 @@ fn go_observed(
     }
 }
 
-/// A move of the task's instance, or its stop, by where the instance stands, which is observed.
+// A move of the task's instance, or its stop, by where the instance stands, which is observed.
 fn run_observed(
     parts: &mut Parts<All>,
     alloc: Global,
@@ -178,7 +178,7 @@ fn run_observed(
     }
 }
 
-/// A move of the task in place, or its stop, by what remains, which is observed.
+// A move of the task in place, or its stop, by what remains, which is observed.
 fn remaining_observed(
     parts: &mut Parts<All>,
     alloc: Global,
@@ -197,7 +197,7 @@ fn remaining_observed(
     }
 }
 
-/// A move of the task in place, or its stop, which is observed.
+// A move of the task in place, or its stop, which is observed.
 fn pass_observed(
     parts: &mut Parts<All>,
     alloc: Global,
@@ -213,7 +213,7 @@ fn pass_observed(
     remaining_observed(parts, alloc, at, remaining, observation)
 }
 
-/// A move of the task, or its stop, which is observed.
+// A move of the task, or its stop, which is observed.
 fn step_observed(
     task: Task<All>,
     alloc: Global,
@@ -233,37 +233,37 @@ impl Task<All> {
     ghost use Rattle.strand_meaning.specs.Observation.{IsInstanceOrigin};
     ghost use Rattle.strand_machine.specs.Observed.{IsObserved};
 
-    /// Runs to the next stop as `advance` does, and observes what the task itself does on its way in the strand of this pedigree. The eye
+    /// Runs to the next stop as `advance` does, and observes what the task itself does on its way in the strand of this pedigree. The probe
     /// has what was seen of it before. On `Memory` the task is dropped.
     pub fn advance_observed(
         self,
         alloc: Global,
         at: &Pedigree,
-        eye: Eye,
+        probe: StrandProbe,
     ) -> Result<ObservedStop, Memory>
         requires instance { IsInstanceOrigin self.task.origin }
         requires goes_on { self.cut ≡ None }
-        ensures { IfOk result (IsObserved self at.now eye) }
+        ensures { IfOk result (IsObserved self at.now probe) }
     {
         laws::moves_fall();
         laws::stops_are_sound();
         // Read for the proof: a task keeps by its type that finishing it gives the evaluation of its origin.
         let _remaining = &self.parts.remaining;
-        let mut observation = Observed::new(eye);
+        let mut observation = Observed::new(probe);
         let mut task = self;
         loop {
             match step_observed(task, alloc, at, &mut observation)? {
                 MoveOrStop::Passes(next) => task = next,
                 MoveOrStop::Stops(stop) => {
                     let Observed {
-                        eye,
+                        probe,
                         events,
                         fault,
                         child_fault,
                     } = observation;
                     return Ok(ObservedStop {
                         stop,
-                        eye,
+                        probe,
                         events,
                         fault,
                         child_fault,

@@ -18,7 +18,7 @@ pub fn share_origin(alloc: Global, origin: &Origin) -> Result<Origin, Memory>
     Ok(strand_family::share_origin(alloc, origin)?)
 }
 
-/// The trail of an origin's path. It adds up the path's terms.
+// The trail of an origin's path. It adds up the path's terms.
 pub(crate) fn trail_of(plan: &Plan, origin: &Origin) -> Result<Trail, Memory>
     requires { IsOriginOf plan.now origin.now }
     ensures { IfOk result (IsTrailOf plan.now origin.now) }

@@ -7,9 +7,9 @@ use crate::task::Task;
 use crate::task_state::TaskState;
 use serial_meaning::{Fault, Keep, Out};
 use std::alloc::Global;
-use strand_family::Family;
+use strand_family::Links;
 
-/// What stands in a task's box, where its moves change it in place.
+// The content of a task's box, which its moves change in place.
 #[derive(Drop)]
 pub(crate) struct Parts<K: Keep> {
     pub state: TaskState<K>,
@@ -17,7 +17,7 @@ pub(crate) struct Parts<K: Keep> {
 }
 
 impl<K: Keep> Parts<K> {
-    /// The task of these.
+    /// The task with these parts.
     #[inline(always)]
     pub fn boxed(alloc: Global, parts: Parts<K>) -> Result<Task<K>, Memory>
         requires { HoldsOfTask parts.state parts.remaining }
@@ -32,23 +32,23 @@ impl<K: Keep> Parts<K> {
         }
     }
 
-    /// What is left of a task that ends: its family, its events before the first child, and the fault in its trace, if there is one. Its
-    /// box is given back.
+    /// What is left of a task that ends: its links, its events before the first child, and the fault in its trace, if
+    /// there is one. Its box is freed.
     #[inline(always)]
-    pub fn end(parts: Box<Parts<K>>) -> (Family<K>, Out<K>, Option<Fault>)
-        ensures family { result.0 ≡ parts.value.state.family }
+    pub fn end(parts: Box<Parts<K>>) -> (Links<K>, Out<K>, Option<Fault>)
+        ensures links { result.0 ≡ parts.value.state.links }
         ensures prefix { result.1 ≡ parts.value.state.trace.prefix }
         ensures fault { result.2 ≡ parts.value.state.trace.fault }
     {
         let Parts { state, remaining } = Box::into_inner(parts);
         let TaskState {
-            family,
+            links,
             trace,
             values,
             ..
         } = state;
         drop((remaining, values));
         let (prefix, fault) = trace.prefix();
-        (family, prefix, fault)
+        (links, prefix, fault)
     }
 }

@@ -1,4 +1,4 @@
-// The fault of its own that a task's instance meets on the way to its next stop, with the place where it stood.
+// The fault of its own that a task's instance meets on the way to its next stop, and where it stood then.
 ghost use Rattle.std.specs.Prelude.{◌≡◌, None, IfOk, OnOk};
 ghost use Rattle.strand_machine.specs.Made.{IsSoundMade, made};
 ghost use Rattle.strand_machine.specs.Placed.{latest, result_meets, step_meets};
@@ -38,7 +38,7 @@ pub struct PlacedStop {
     pub met: Option<PlacedFault>,
 }
 
-/// Notes the fault that a move met of an instance that stood there, if it met one.
+// Notes the fault that a move met, if it did, with where the instance stood.
 fn note(met: &mut Option<PlacedFault>, place: Place, move_result: &MoveResult) -> Result<(), Memory>
     ensures { OnOk result (met.new ≡ latest met.old (result_meets place move_result.now)) }
 {
@@ -53,7 +53,7 @@ fn note(met: &mut Option<PlacedFault>, place: Place, move_result: &MoveResult) -
     Ok(())
 }
 
-/// One move of the instance, whose fault is noted.
+// One move of the instance, whose fault is noted.
 fn go_placed(
     parts: &mut Parts<All>,
     alloc: Global,
@@ -66,7 +66,7 @@ fn go_placed(
     ensures met { OnOk result (met.new ≡ latest met.old (step_meets (task_of parts.old.state (remaining.Runs (stage.Running instance))))) }
 {
     laws::steps_are_sound();
-    let (place, move_result) = match instance.make_placed_move(alloc, parts.state.family.plan()) {
+    let (place, move_result) = match instance.make_placed_move(alloc, parts.state.links.plan()) {
         Ok(placed) => placed,
         Err(memory) => {
             drop(instance);
@@ -93,7 +93,7 @@ fn go_placed(
     }
 }
 
-/// A move of the task's instance, or its stop, by where the instance stands.
+// A move of the task's instance, or its stop, by where the instance stands.
 fn run_placed(
     parts: &mut Parts<All>,
     alloc: Global,
@@ -111,7 +111,7 @@ fn run_placed(
     }
 }
 
-/// A move of the task in place, or its stop, by what remains.
+// A move of the task in place, or its stop, by what remains.
 fn remaining_placed(
     parts: &mut Parts<All>,
     alloc: Global,
@@ -129,7 +129,7 @@ fn remaining_placed(
     }
 }
 
-/// A move of the task in place, or its stop.
+// A move of the task in place, or its stop.
 fn pass_placed(
     parts: &mut Parts<All>,
     alloc: Global,
@@ -144,7 +144,7 @@ fn pass_placed(
     remaining_placed(parts, alloc, remaining, met)
 }
 
-/// A move of the task, or its stop.
+// A move of the task, or its stop.
 fn step_placed(
     task: Task<All>,
     alloc: Global,

@@ -22,50 +22,50 @@ use strand_family::iteration_args;
 use strand_meaning::laws;
 use strand_moves::Instance;
 
-/// Where an instance stands.
+// The state of an instance.
 #[derive(Drop)]
 pub(crate) enum Stage {
-    /// It goes on.
+    // It can continue.
     Running(Instance),
-    /// It waits after a sync.
+    // It waits after a sync.
     AtSync(Instance),
-    /// It waits after a loop.
+    // It waits after a loop.
     AtLoop(Instance),
-    /// It has ended by a value.
+    // It has ended by a value.
     Returned(Value),
-    /// It has ended by a fault of its own.
+    // It has ended by a fault of its own.
     Faulted(Fault),
-    /// It has ended by the fault of a child for which it waited.
+    // It has ended by the fault of a child for which it waited.
     ChildFaulted(Fault),
 }
 
-/// The iterations of a loop that nobody has begun, and the trail of the loop's strand.
+// The iterations of a loop that haven't begun, and the trail of the loop's strand.
 #[derive(Drop)]
 pub(crate) struct Left {
     pub range: IterRange,
     pub trail: Trail,
 }
 
-/// What remains of a task.
+// What remains of a task.
 #[derive(Drop)]
 pub(crate) enum Remaining {
-    /// Iterations of a loop that nobody has begun.
+    // Iterations of a loop that haven't begun.
     Splits(Left),
-    /// An instance: the task's own, or the loop's last iteration.
+    // An instance: the task's own, or the loop's last iteration.
     Runs(Stage),
-    /// Nothing of a loop whose last iteration gave this value. It is known whether the task has gone on from the wait at its end.
+    // Nothing of a loop whose last iteration gave this value. The flag says whether the wait at its end is over.
     Finished(Value, bool),
-    /// Nothing of a task that has ended, or that took a cut for an answer. It ends so.
+    // Nothing of a task that has ended or took a cut. This is its outcome.
     Ends(Outcome),
 }
 
 impl Remaining {
-    /// What stands in a task's parts while what remains is taken out of them.
+    /// A stand-in while what remains is taken out of a task's parts.
     pub fn nothing() -> Remaining {
         Remaining::Finished(Value::Int(0), true)
     }
 
-    /// Takes out an instance that goes on, where one remains.
+    /// Takes out an instance that can continue, where one remains.
     #[inline(always)]
     pub fn take_running(&mut self) -> Option<Instance>
         ensures some { IfSome result (λ i. self.old ≡ remaining.Runs (stage.Running i)) }
@@ -81,7 +81,7 @@ impl Remaining {
     }
 }
 
-/// What remains of an origin of which nothing is done.
+// What remains of an origin that hasn't begun.
 #[inline(always)]
 pub(crate) fn begun_remaining(
     alloc: Global,
@@ -108,7 +108,7 @@ pub(crate) fn begun_remaining(
     })
 }
 
-/// What remains of a loop of which the last iteration alone is left.
+// What remains of a loop whose last iteration alone is left.
 pub(crate) fn begun_last(
     alloc: Global,
     plan: &Plan,
@@ -140,7 +140,7 @@ pub(crate) fn begun_last(
     }
 }
 
-/// An instance before its first move. One of no function has the value 0.
+// An instance before its first move. Where there is no such function its value is 0.
 #[inline(always)]
 fn begun_instance(
     alloc: Global,

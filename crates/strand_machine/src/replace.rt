@@ -1,10 +1,10 @@
-// What is dropped by one call, whatever it is.
+// Replacing a value, with the old one dropped by one call.
 ghost use Rattle.std.specs.Prelude.{◌≡◌};
 
 use crate::remaining::Remaining;
 use std::mem;
 
-/// Puts a value in place of another, which is dropped.
+// Puts a value in place of another, which is dropped.
 #[inline(always)]
 pub(crate) fn set<T: Drop>(place: &mut T, value: T)
     ensures { place.new ≡ value }
@@ -12,8 +12,8 @@ pub(crate) fn set<T: Drop>(place: &mut T, value: T)
     *place = value;
 }
 
-/// Puts what remains of a task in place of what stood there. Mostly that was the value that a move leaves there, of which the drop takes no
-/// call.
+// Replaces what remains of a task. Mostly the old value is the stand-in that a move leaves there, whose drop takes no
+// call.
 #[inline(always)]
 pub(crate) fn set_remaining(place: &mut Remaining, remaining: Remaining)
     ensures { place.new ≡ remaining }

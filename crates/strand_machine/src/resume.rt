@@ -1,7 +1,7 @@
-// How a task goes on from a wait.
+// How a task continues after a wait.
 ghost use Rattle.std.specs.Prelude.{◌≡◌, ◌-◌, [], true, false, length, drop, IfOk, OnOk};
 ghost use Rattle.strand_meaning.specs.Task.{resumed, resumed_remaining};
-ghost use Rattle.strand_machine.specs.Family.{tags, origins, AwaitsCount};
+ghost use Rattle.strand_machine.specs.Links.{tags, origins, AwaitsCount};
 ghost use Rattle.strand_machine.specs.Merge.{BecomesStage, BecomesRemaining, EndsShort, HasTakenAnswers, IsShort, KeepsRest, TakesAnswers, RemainingFindsAll, IsRemainingOfPlan, end_of, merge_of};
 ghost use Rattle.strand_machine.specs.AwaitedChildren.{awaited, awaited_children};
 ghost use Rattle.strand_meaning.specs.Cuts.{AreAnswersOf};
@@ -18,37 +18,37 @@ use crate::replace::{set, set_remaining};
 use crate::stop::Resumed;
 use crate::task::Task;
 use crate::trace::AfterChild;
+use contract_views::Items;
 use meet_block::Look;
-use script_grammar::Items;
 use serial_meaning::{Answer, Fault, Keep, Outcome, Value};
 use std::alloc::Global;
 use std::mem;
-use strand_family::Family;
+use strand_family::Links;
 use strand_meaning::laws;
 use strand_moves::Instance;
 
-/// The answers of the last children, of whom so many are awaited, in this list.
+// Takes the answers of the last `awaited` children into this list.
 fn take_answers<K: Keep>(
-    family: &mut Family<K>,
+    links: &mut Links<K>,
     awaited: u64,
     room: Items<Answer<K>>,
 ) -> Result<Items<Answer<K>>, Memory>
-    requires ready { family.old.ready ≡ true }
-    requires last { AwaitsCount family.old awaited }
+    requires ready { links.old.ready ≡ true }
+    requires last { AwaitsCount links.old awaited }
     requires room { room ≡ [] }
-    ensures tags { IfOk result (λ answers. answer_tags answers ≡ tags family.old.plan (drop (length family.old.children - awaited) family.old.children)) }
-    ensures family { family.new ≡ record family.old { taken = family.new.taken } }
-    ensures length { length family.new.taken ≡ length family.old.taken }
+    ensures tags { IfOk result (λ answers. answer_tags answers ≡ tags links.old.plan (drop (length links.old.children - awaited) links.old.children)) }
+    ensures links { links.new ≡ record links.old { taken = links.new.taken } }
+    ensures length { length links.new.taken ≡ length links.old.taken }
 {
-    let first = family.count() - awaited;
+    let first = links.count() - awaited;
     let mut answers = room.0;
     for i in 0..awaited {
-        answers.push(family.take(first + i))?;
+        answers.push(links.take(first + i))?;
     }
     Ok(Items(answers))
 }
 
-/// An instance at a sync goes on, or ends by the least fault of the children for which it waited.
+// An instance at a sync continues, or ends by the least fault of the children for which it waited.
 fn pass_sync(instance: Instance) -> Result<Stage, Memory>
     ensures { IfOk result (BecomesStage resumed (stage.AtSync instance)) }
 {
@@ -59,8 +59,8 @@ fn pass_sync(instance: Instance) -> Result<Stage, Memory>
     Ok(Stage::ChildFaulted(fault))
 }
 
-/// A stage once a wait is over.
-fn go_on_stage(stage: Stage) -> Result<Stage, Memory>
+// A stage after its wait.
+fn resume_stage(stage: Stage) -> Result<Stage, Memory>
     ensures { IfOk result (BecomesStage resumed stage) }
 {
     match stage {
@@ -70,15 +70,15 @@ fn go_on_stage(stage: Stage) -> Result<Stage, Memory>
     }
 }
 
-/// What remains once a wait is over.
-fn go_on_remaining(remaining: &mut Remaining) -> Result<(), Memory>
+// What remains after a wait.
+fn resume_remaining(remaining: &mut Remaining) -> Result<(), Memory>
     ensures { OnOk result (BecomesRemaining (resumed_remaining [] []) remaining.old remaining.new) }
 {
     match remaining {
         Remaining::Splits(_) | Remaining::Ends(_) => Ok(()),
         Remaining::Runs(stage) => {
             let was = mem::replace(stage, Stage::Returned(Value::Int(0)));
-            set(stage, go_on_stage(was)?);
+            set(stage, resume_stage(was)?);
             Ok(())
         }
         Remaining::Finished(_, gone_on) => {
@@ -88,7 +88,7 @@ fn go_on_remaining(remaining: &mut Remaining) -> Result<(), Memory>
     }
 }
 
-/// Takes the answers of all awaited children, in order. Their list comes back, and keeps its room.
+// Merges the answers of all awaited children, in order. Their list comes back empty, with its capacity.
 fn merge_all<K: Keep>(
     parts: &mut Parts<K>,
     merging: &mut Merging,
@@ -97,9 +97,9 @@ fn merge_all<K: Keep>(
     answers: Items<Answer<K>>,
 ) -> Result<Items<Answer<K>>, Memory>
     requires many { length answers ≡ length after.items }
-    requires handed { parts.old.state.trace.handed ≡ [] }
-    requires of_plan { IsRemainingOfPlan parts.old.state.family.plan parts.old.remaining }
-    requires found { RemainingFindsAll parts.old.state.family.plan after.items (remaining_of parts.old.state.family.plan parts.old.remaining) }
+    requires unmerged { parts.old.state.trace.unmerged ≡ [] }
+    requires of_plan { IsRemainingOfPlan parts.old.state.links.plan parts.old.remaining }
+    requires found { RemainingFindsAll parts.old.state.links.plan after.items (remaining_of parts.old.state.links.plan parts.old.remaining) }
     ensures takes { OnOk result (TakesAnswers (awaited_children (origins (answer_tags answers)) after.items) answers (merge_of parts.old merging.old) (merge_of parts.new merging.new)) }
     ensures rest { OnOk result (KeepsRest parts.old parts.new) }
     ensures none { IfOk result (λ left. left ≡ []) }
@@ -115,7 +115,7 @@ fn merge_all<K: Keep>(
     Ok(Items(left))
 }
 
-/// What a task ends by that took a cut.
+// The outcome of a task that took a cut.
 fn end_of(fault: Option<Fault>, by_cut: bool) -> Option<Outcome>
     ensures { result ≡ end_of fault by_cut }
 {
@@ -126,11 +126,11 @@ fn end_of(fault: Option<Fault>, by_cut: bool) -> Option<Outcome>
     }
 }
 
-/// What is left of a task that took a cut: it ends by the first fault or cut.
+// A task that took a cut ends by the first fault or cut.
 fn cut_short<K: Keep>(parts: &mut Parts<K>, merging: &Merging)
-    requires ends { EndsShort parts.old.state.family (merge_of parts.old merging.now) }
-    requires handed { parts.old.state.trace.handed ≡ [] }
-    ensures short { IsShort parts.old.state.family (merge_of parts.old merging.now) parts.old.state.advanced (view_of parts.new.state parts.new.remaining) }
+    requires ends { EndsShort parts.old.state.links (merge_of parts.old merging.now) }
+    requires unmerged { parts.old.state.trace.unmerged ≡ [] }
+    ensures short { IsShort parts.old.state.links (merge_of parts.old merging.now) parts.old.state.advanced (view_of parts.new.state parts.new.remaining) }
     ensures holds { HoldsOfTask parts.new.state parts.new.remaining }
 {
     let Some(outcome) = end_of(parts.state.trace.take_fault(), merging.by_cut) else {
@@ -140,33 +140,33 @@ fn cut_short<K: Keep>(parts: &mut Parts<K>, merging: &Merging)
     set_remaining(&mut parts.remaining, Remaining::Ends(outcome));
 }
 
-/// What is left of a task that took answers, none of them a cut: it goes on.
+// A task that took answers, none of them a cut, continues.
 fn end_wait<K: Keep>(parts: &mut Parts<K>) -> Result<(), Memory>
     ensures state { OnOk result (parts.new.state ≡ record parts.old.state { waiting = false }) }
     ensures remaining { OnOk result (BecomesRemaining (resumed_remaining [] []) parts.old.remaining parts.new.remaining) }
 {
     parts.state.waiting = false;
-    go_on_remaining(&mut parts.remaining)
+    resume_remaining(&mut parts.remaining)
 }
 
-/// The task with its children's answers, whose list comes back.
-pub(crate) fn go_on<K: Keep>(
+// Merges the children's answers into the task and ends its wait. Their list comes back empty.
+pub(crate) fn resume_parts<K: Keep>(
     parts: &mut Parts<K>,
     alloc: Global,
     answers: Items<Answer<K>>,
 ) -> Result<Items<Answer<K>>, Memory>
     requires sound { HasTakenAnswers parts.old.state parts.old.remaining }
-    requires tags { answer_tags answers ≡ tags parts.old.state.family.plan (awaited parts.old.state.trace.handed) }
+    requires tags { answer_tags answers ≡ tags parts.old.state.links.plan (awaited parts.old.state.trace.unmerged) }
     ensures went { OnOk result (WentOn answers (view_of parts.old.state parts.old.remaining) (view_of parts.new.state parts.new.remaining)) }
-    ensures answers { OnOk result (AreAnswersOf parts.old.state.family.plan parts.old.state.trace.handed answers) }
+    ensures answers { OnOk result (AreAnswersOf parts.old.state.links.plan parts.old.state.trace.unmerged answers) }
     ensures none { IfOk result (λ left. left ≡ []) }
     ensures holds { OnOk result (HoldsOfTask parts.new.state parts.new.remaining) }
 {
     laws::answers_keep_tasks();
     laws::answers_are_evaluations();
     laws::answers_end();
-    // Read for the proof: the plan's table has the place of each variable that its functions name.
-    let _places = parts.state.family.plan().places();
+    // Read for the proof: the plan's table has the slot of each variable that its functions name.
+    let _slots = parts.state.links.plan().slots();
     let after = parts.state.trace.take_children(alloc);
     let mut merging = Merging {
         cut: false,
@@ -181,9 +181,9 @@ pub(crate) fn go_on<K: Keep>(
     Ok(left)
 }
 
-/// Looks once. Where all children have answered, the task goes on with their answers, and it is said so. They are taken in this list, which
-/// comes back empty.
-fn look_on<K: Keep>(
+// Looks once at the join. Returns whether all children have answered and the task took their answers, by way of this
+// list, which comes back empty.
+fn poll<K: Keep>(
     parts: &mut Parts<K>,
     alloc: Global,
     room: Items<Answer<K>>,
@@ -194,23 +194,23 @@ fn look_on<K: Keep>(
     ensures none { IfOk result (λ looked. looked.1 ≡ []) }
     ensures holds { OnOk result (HoldsOfTask parts.new.state parts.new.remaining) }
 {
-    match parts.state.family.look() {
+    match parts.state.links.look() {
         Look::NotYet(_) => Ok((false, room)),
         Look::Ready => {
             let awaited = parts.state.trace.awaited_count();
-            let answers = take_answers(&mut parts.state.family, awaited, room)?;
-            let left = go_on(parts, alloc, answers)?;
+            let answers = take_answers(&mut parts.state.links, awaited, room)?;
+            let left = resume_parts(parts, alloc, answers)?;
             Ok((true, left))
         }
     }
 }
 
 impl<K: Keep> Task<K> {
-    /// Goes on from a wait, where a look finds that all children have answered. Where one of the answers is a cut, the task ends by its next
-    /// advance. On `Memory` the task is dropped.
+    /// Continues after a wait, where a look finds that all children have answered. Where one of the answers is a cut,
+    /// the task ends by its next advance. On `Memory` the task is dropped.
     ///
-    /// It is for who resumes one task: `Resumed::NotYet(task)` gives it back as it was, to be asked again once a child has answered, and
-    /// `Resumed::On(task)` is to be advanced. A hand resumes many, and goes by `resume_in`.
+    /// For resuming one task: `Resumed::NotYet(task)` is the task as it was, to be resumed again once a child has
+    /// answered, and `Resumed::On(task)` is to be advanced. A hand, which resumes many, calls `resume_in`.
     pub fn resume(self, alloc: Global) -> Result<Resumed<K>, Memory>
         requires { self.task.waiting ≡ true }
         ensures { IfOk result (IsResumed self) }
@@ -220,7 +220,7 @@ impl<K: Keep> Task<K> {
         Ok(resumed)
     }
 
-    /// The same, by which the answers are taken in this list. It comes back empty, and keeps its room.
+    /// The same, with a list for the answers that is used again: it comes back empty, with its capacity.
     pub fn resume_in(
         self,
         alloc: Global,
@@ -232,18 +232,18 @@ impl<K: Keep> Task<K> {
         ensures none { IfOk result (λ resumed. resumed.1 ≡ []) }
     {
         let Task { mut parts } = self;
-        let (ready, left) = look_on(&mut parts, alloc, room)?;
+        let (ready, left) = poll(&mut parts, alloc, room)?;
         if ready {
             return Ok((Resumed::On(Task { parts }), left));
         }
         Ok((Resumed::NotYet(Task { parts }), left))
     }
 
-    /// Goes on from a wait with these answers, those of the children that it awaits, in order. Where one of them is a cut, the task ends by
-    /// its next advance. On `Memory` the task and the answers are dropped.
+    /// Continues after a wait with these answers, those of the awaited children in order. Where one of them is a cut,
+    /// the task ends by its next advance. On `Memory` the task and the answers are dropped.
     pub fn resume_with(self, alloc: Global, answers: Items<Answer<K>>) -> Result<Task<K>, Memory>
         requires waits { self.task.waiting ≡ true }
-        requires tags { answer_tags answers ≡ tags self.task.plan (awaited self.task.trace.handed) }
+        requires tags { answer_tags answers ≡ tags self.task.plan (awaited self.task.trace.unmerged) }
         ensures { IfOk result (WentOn answers self) }
     {
         let (task, left) = self.resume_by(alloc, answers)?;
@@ -251,19 +251,19 @@ impl<K: Keep> Task<K> {
         Ok(task)
     }
 
-    /// The same, by which the answers' list comes back empty, and keeps its room.
+    /// The same, where the answers' list comes back empty, with its capacity.
     pub fn resume_by(
         self,
         alloc: Global,
         answers: Items<Answer<K>>,
     ) -> Result<(Task<K>, Items<Answer<K>>), Memory>
         requires waits { self.task.waiting ≡ true }
-        requires tags { answer_tags answers ≡ tags self.task.plan (awaited self.task.trace.handed) }
+        requires tags { answer_tags answers ≡ tags self.task.plan (awaited self.task.trace.unmerged) }
         ensures went { IfOk result (λ resumed. WentOn answers self resumed.0) }
         ensures none { IfOk result (λ resumed. resumed.1 ≡ []) }
     {
         let Task { mut parts } = self;
-        let left = go_on(&mut parts, alloc, answers)?;
+        let left = resume_parts(&mut parts, alloc, answers)?;
         Ok((Task { parts }, left))
     }
 }

@@ -1,12 +1,17 @@
 // The moves of a task's instance.
 ghost use Rattle.std.specs.Prelude.{◌≡◌, IfOk, OnOk};
+ghost use Rattle.std.specs.Option.{option_copied};
 ghost use Rattle.strand_meaning.specs.Task.{stops_at, child_in};
-ghost use Rattle.strand_moves.specs.Moves.{effects_of};
-ghost use Rattle.strand_moves.specs.declared.effects.Effects.TheVariants as effect;
-ghost use Rattle.strand_machine.specs.Made.{IsSoundMade, made, IsRun};
+ghost use Rattle.strand_meaning.specs.Trace.{emit};
+ghost use Rattle.serial_meaning.specs.Laws.{IsOriginOf};
+ghost use Rattle.strand_moves.specs.Machines.{HasPassedStatement, HasSpawned, IsInstance, path_of};
+ghost use Rattle.strand_moves.specs.Moves.{IsTrailOf, effects_of};
+ghost use Rattle.strand_moves.specs.Spawns.{SpawnsTrail};
+ghost use Rattle.strand_machine.specs.Made.{IsSoundMade, IsSpawn, made, IsRun};
 ghost use Rattle.strand_machine.specs.Effects.{task_after_effects, HasSoundEffects};
-ghost use Rattle.strand_machine.specs.Stops.{KeepsFamilyInStep, step_of};
-ghost use Rattle.strand_machine.specs.Tasks.{IsSound, view_of};
+ghost use Rattle.strand_machine.specs.Stops.{KeepsLinksInStep, step_of};
+ghost use Rattle.strand_machine.specs.Tasks.{IsSound, view_of, with_child};
+ghost use Rattle.strand_machine.specs.declared.destination.Destination.TheVariants as destination;
 ghost use Rattle.strand_machine.specs.declared.remaining.Stage.TheVariants as stage;
 ghost use Rattle.strand_machine.specs.declared.remaining.Remaining.TheVariants as remaining;
 
@@ -16,35 +21,58 @@ use crate::memory::Memory;
 use crate::parts::Parts;
 use crate::remaining::{Remaining, Stage};
 use crate::stop::Passed;
-use script_grammar::Boxed;
-use serial_meaning::Keep;
+use crate::trace::Trace;
+use contract_views::Boxed;
+use script_grammar::Stmt;
+use serial_meaning::{Keep, Plan};
 use std::alloc::Global;
 use strand_meaning::laws;
-use strand_moves::{Effects, Instance, LoopedChild, MoveResult, SpawnedChild, Spawning};
+use strand_moves::{Effects, Instance, LoopedChild, MoveResult, SpawnedChild};
 
-/// What stands in a box.
+// The content of a box.
 fn unboxed<T>(boxed: Boxed<T>) -> T
     ensures { result ≡ boxed }
 {
     Box::into_inner(boxed.0)
 }
 
-/// The spawn of a child joins the trace, and the child is handed out.
+// The move that is next, where it is the spawn of a child, whose event joins the trace. Otherwise nothing changes.
 #[inline(always)]
-fn show_spawn<K: Keep>(
+fn spawn_next<K: Keep>(
+    instance: &mut Instance,
+    alloc: Global,
+    plan: &Plan,
+    next: Option<&Stmt>,
+    trace: &mut Trace<K>,
+) -> Result<Option<SpawnedChild>, strand_moves::Memory>
+    requires sound { IsInstance plan.now instance.old }
+    requires passed { HasPassedStatement plan.now instance.old (option_copied next) }
+    ensures did { IfOk result (HasSpawned emit plan.now instance.old trace.old (option_copied next.entry) instance.new trace.new) }
+    ensures child { IfOk result (SpawnsTrail plan.now) }
+    ensures path { IfOk result (λ _. path_of instance.new ≡ path_of instance.old) }
+    ensures sound { IfOk result (λ _. IsInstance plan.now instance.new) }
+{
+    match next {
+        Some(statement) => instance.spawn(alloc, plan, statement, trace),
+        None => Ok(None),
+    }
+}
+
+// Begins the child that was spawned, whose event the trace has.
+#[inline(always)]
+fn begin_spawned<K: Keep>(
     parts: &mut Parts<K>,
     alloc: Global,
     instance: Instance,
-    spawning: Spawning,
+    spawned: SpawnedChild,
 ) -> Result<Passed<K>, Memory>
-    requires { HasSoundEffects parts.old.state instance (effect.Spawned spawning.event spawning.spawned) }
-    ensures step { let s = effect.Spawned spawning.event spawning.spawned in
-        IfOk result (λ passed. step_of (made parts.new passed) ≡ stops_at (child_in (effects_of s)) (task_after_effects parts.old.state instance s)) }
-    ensures keeps { IfOk result (λ passed. KeepsFamilyInStep (view_of parts.old.state (remaining.Runs (stage.Running instance))) (made parts.new passed)) }
+    requires known { IsOriginOf parts.old.state.links.plan spawned.child.origin }
+    requires trail { IsTrailOf parts.old.state.links.plan spawned.child.origin spawned.child.trail }
+    requires sound { IsSound (with_child parts.old.state spawned.child.origin (destination.Spawned spawned.height spawned.target)) (remaining.Runs (stage.Running instance)) }
+    ensures made { IfOk result (λ passed. IsSpawn parts.old.state spawned.child.origin (destination.Spawned spawned.height spawned.target)
+        (remaining.Runs (stage.Running instance)) (made parts.new passed)) }
     ensures sound { IfOk result (IsSoundMade parts.new) }
 {
-    let Spawning { event, spawned } = spawning;
-    parts.state.trace.emit(alloc, event)?;
     let SpawnedChild {
         child,
         height,
@@ -55,7 +83,7 @@ fn show_spawn<K: Keep>(
     spawn(parts, alloc, child, destination, next)
 }
 
-/// What a move showed joins the trace; a child is handed out.
+// Adds what a move showed to the trace, and begins its child, if any.
 pub(crate) fn apply_effects<K: Keep>(
     parts: &mut Parts<K>,
     alloc: Global,
@@ -64,7 +92,7 @@ pub(crate) fn apply_effects<K: Keep>(
 ) -> Result<Passed<K>, Memory>
     requires { HasSoundEffects parts.old.state instance effects }
     ensures step { IfOk result (λ passed. step_of (made parts.new passed) ≡ stops_at (child_in (effects_of effects)) (task_after_effects parts.old.state instance effects)) }
-    ensures keeps { IfOk result (λ passed. KeepsFamilyInStep (view_of parts.old.state (remaining.Runs (stage.Running instance))) (made parts.new passed)) }
+    ensures keeps { IfOk result (λ passed. KeepsLinksInStep (view_of parts.old.state (remaining.Runs (stage.Running instance))) (made parts.new passed)) }
     ensures sound { IfOk result (IsSoundMade parts.new) }
 {
     match effects {
@@ -80,8 +108,8 @@ pub(crate) fn apply_effects<K: Keep>(
             Ok(pass(parts, Remaining::Runs(Stage::AtSync(instance))))
         }
         Effects::Spawned { event, spawned } => {
-            let spawned = unboxed(spawned);
-            show_spawn(parts, alloc, instance, Spawning { event, spawned })
+            parts.state.trace.emit(alloc, event)?;
+            begin_spawned(parts, alloc, instance, unboxed(spawned))
         }
         Effects::Looped { event, looped } => {
             parts.state.trace.emit(alloc, event)?;
@@ -93,7 +121,8 @@ pub(crate) fn apply_effects<K: Keep>(
     }
 }
 
-/// Moves of the instance in a row, up to the first that shows more than an event, with the wait or the end that comes of it.
+// A straight run of the instance's moves, up to the first that shows more than an event, and the wait, child or end
+// that it leads to.
 pub(crate) fn go<K: Keep>(
     parts: &mut Parts<K>,
     alloc: Global,
@@ -107,17 +136,15 @@ pub(crate) fn go<K: Keep>(
     laws::moves_fall();
     loop {
         parts.state.advanced = true;
-        let plan = parts.state.family.plan();
-        let next = match instance.row(alloc, plan, &mut parts.state.trace) {
+        let plan = parts.state.links.plan();
+        let next = match instance.straight_run(alloc, plan, &mut parts.state.trace) {
             Ok(next) => next,
             Err(memory) => return Err(memory.into()),
         };
-        if let Some(statement) = next {
-            match instance.spawn(alloc, plan, statement) {
-                Ok(Some(spawning)) => return show_spawn(parts, alloc, instance, spawning),
-                Ok(None) => {}
-                Err(memory) => return Err(memory.into()),
-            }
+        match spawn_next(&mut instance, alloc, plan, next, &mut parts.state.trace) {
+            Ok(Some(spawned)) => return begin_spawned(parts, alloc, instance, spawned),
+            Ok(None) => {}
+            Err(memory) => return Err(memory.into()),
         }
         match instance.make(alloc, plan, next) {
             Ok(MoveResult::Went(Effects::Nothing)) => {}

@@ -22,7 +22,7 @@ use strand_family::part_of;
 use strand_meaning::laws;
 use strand_moves::Child;
 
-/// A loop of which these iterations are left: their lower half is handed out, and the last one is begun.
+// A loop with these iterations left: their lower half goes to a child, and the last one is begun.
 fn split_loop<K: Keep>(parts: &mut Parts<K>, alloc: Global, left: Left) -> Result<Passed<K>, Memory>
     requires { IsSound parts.old.state (remaining.Splits left) }
     ensures step { IfOk result (λ passed. IsStep (view_of parts.old.state (remaining.Splits left)) (made parts.new passed)) }
@@ -31,7 +31,7 @@ fn split_loop<K: Keep>(parts: &mut Parts<K>, alloc: Global, left: Left) -> Resul
     laws::steps_are_sound();
     let Left { range, trail } = left;
     if let Some(halves) = range.split() {
-        let origin = part_of(alloc, parts.state.family.origin(), halves.0)?;
+        let origin = part_of(alloc, parts.state.links.origin(), halves.0)?;
         let shared = trail.share()?;
         let child = Child {
             origin,
@@ -46,11 +46,11 @@ fn split_loop<K: Keep>(parts: &mut Parts<K>, alloc: Global, left: Left) -> Resul
         return Ok(Passed::Ends(Outcome::Values(values)));
     }
     let state = &parts.state;
-    let remaining = begun_last(alloc, state.family.plan(), state.family.origin(), trail)?;
+    let remaining = begun_last(alloc, state.links.plan(), state.links.origin(), trail)?;
     Ok(pass(parts, remaining))
 }
 
-/// A loop that ends with this value after those that were taken.
+// A loop ends, with this value after those that were taken.
 fn end_loop_with<K: Keep>(
     state: &mut TaskState<K>,
     alloc: Global,
@@ -64,7 +64,7 @@ fn end_loop_with<K: Keep>(
     Ok(Passed::Ends(Outcome::Values(values)))
 }
 
-/// A loop whose last iteration gave this value. Where it handed out a part it waits for it first.
+// A loop's last iteration gave this value. Where the loop began a part, it waits for that first.
 fn end_loop<K: Keep>(
     parts: &mut Parts<K>,
     alloc: Global,
@@ -85,7 +85,7 @@ fn end_loop<K: Keep>(
     end_loop_with(&mut parts.state, alloc, value)
 }
 
-/// An instance, by where it stands.
+// A move of an instance, or a stop, by its state.
 pub(crate) fn run<K: Keep>(
     parts: &mut Parts<K>,
     alloc: Global,
@@ -106,7 +106,7 @@ pub(crate) fn run<K: Keep>(
     }
 }
 
-/// A move of the task in place, or its stop, by what remains.
+// A move of the task in place, or its stop, by what remains.
 pub(crate) fn pass_with<K: Keep>(
     parts: &mut Parts<K>,
     alloc: Global,
@@ -124,8 +124,20 @@ pub(crate) fn pass_with<K: Keep>(
     }
 }
 
-/// A move of the task in place, or its stop.
-fn pass_on<K: Keep>(parts: &mut Parts<K>, alloc: Global) -> Result<Passed<K>, Memory>
+// The same, by what the parts say is left. It stands apart, since the room for what it makes would else be cleared before each move.
+#[inline(never)]
+fn move_other<K: Keep>(parts: &mut Parts<K>, alloc: Global) -> Result<Passed<K>, Memory>
+    requires { IsSound parts.old.state parts.old.remaining }
+    ensures step { IfOk result (λ passed. StepsOn (view_of parts.old.state parts.old.remaining) (made parts.new passed)) }
+    ensures sound { IfOk result (IsSoundMade parts.new) }
+{
+    let remaining = mem::replace(&mut parts.remaining, Remaining::nothing());
+    pass_with(parts, alloc, remaining)
+}
+
+// A move of the task in place, or its stop.
+#[inline(always)]
+fn move_once<K: Keep>(parts: &mut Parts<K>, alloc: Global) -> Result<Passed<K>, Memory>
     requires { IsSound parts.old.state parts.old.remaining }
     ensures step { IfOk result (λ passed. StepsOn (view_of parts.old.state parts.old.remaining) (made parts.new passed)) }
     ensures sound { IfOk result (IsSoundMade parts.new) }
@@ -134,16 +146,15 @@ fn pass_on<K: Keep>(parts: &mut Parts<K>, alloc: Global) -> Result<Passed<K>, Me
     if let Some(instance) = parts.remaining.take_running() {
         return go(parts, alloc, instance);
     }
-    let remaining = mem::replace(&mut parts.remaining, Remaining::nothing());
-    pass_with(parts, alloc, remaining)
+    move_other(parts, alloc)
 }
 
-/// The end of a task: by the fault in its trace, or else so. Its box is given back.
+// The end of a task: by the fault in its trace, or else by this outcome. Its box is freed.
 fn end<K: Keep>(parts: Box<Parts<K>>, outcome: Outcome) -> Stop<K>
     requires { CanEnd parts.value.state outcome }
     ensures { MoveOrStop.Stops result ≡ ended_move parts.value.state outcome }
 {
-    let (family, prefix, fault) = Parts::end(parts);
+    let (links, prefix, fault) = Parts::end(parts);
     let outcome = match fault {
         Some(fault) => {
             drop(outcome);
@@ -151,11 +162,11 @@ fn end<K: Keep>(parts: Box<Parts<K>>, outcome: Outcome) -> Stop<K>
         }
         None => outcome,
     };
-    let (answer, give) = family.answer(prefix, outcome);
+    let (answer, give) = links.answer(prefix, outcome);
     Stop::Done { answer, give }
 }
 
-/// The task with what it passed to.
+// The task after a move in place, or at its stop.
 pub(crate) fn stepped<K: Keep>(parts: Box<Parts<K>>, passed: Passed<K>) -> MoveOrStop<K>
     requires { IsSoundMade parts.value passed }
     ensures { result ≡ made parts.value passed }
@@ -166,9 +177,12 @@ pub(crate) fn stepped<K: Keep>(parts: Box<Parts<K>>, passed: Passed<K>) -> MoveO
     }
 }
 
-/// Moves of the task in place, up to its next stop.
+// Moves of the task in place, up to its next stop.
 #[inline(always)]
-pub(crate) fn run_on<K: Keep>(parts: &mut Parts<K>, alloc: Global) -> Result<Passed<K>, Memory>
+pub(crate) fn run_in_place<K: Keep>(
+    parts: &mut Parts<K>,
+    alloc: Global,
+) -> Result<Passed<K>, Memory>
     requires { IsSound parts.old.state parts.old.remaining }
     ensures stopped { IfOk result IsStopped }
     ensures stop { IfOk result (λ passed. StopsSo (view_of parts.old.state parts.old.remaining) (made parts.new passed)) }
@@ -177,14 +191,14 @@ pub(crate) fn run_on<K: Keep>(parts: &mut Parts<K>, alloc: Global) -> Result<Pas
     laws::moves_fall();
     laws::stops_are_sound();
     loop {
-        match pass_on(parts, alloc)? {
+        match move_once(parts, alloc)? {
             Passed::Continues => {}
             passed => return Ok(passed),
         }
     }
 }
 
-/// The stop of a task that came to one.
+// The stop that a task came to.
 #[inline(always)]
 pub(crate) fn to_stop<K: Keep>(parts: Box<Parts<K>>, passed: Passed<K>) -> Stop<K>
     requires sound { IsSoundMade parts.value passed }

@@ -2,7 +2,7 @@ ghost use Rattle.std.specs.Prelude.{◌≡◌, ◌<◌, IfOk, not};
 ghost use Rattle.std.specs.Arc.{arc_value};
 ghost use Rattle.serial_meaning.specs.Laws.{IsOriginOf};
 ghost use Rattle.strand_moves.specs.Moves.{IsTrailOf};
-ghost use Rattle.strand_machine.specs.Family.{tag};
+ghost use Rattle.strand_machine.specs.Links.{AreJoinNames, detached, task_give, tag};
 ghost use Rattle.strand_machine.specs.AwaitedChildren.{awaited};
 
 use crate::memory::Memory;
@@ -15,12 +15,12 @@ use serial_meaning::{All, Answer, AnswerKey, Fault, Keep, Origin, Out, Outcome, 
 use std::alloc::Global;
 use std::marker::Model;
 use std::sync::Arc;
-use strand_family::Family;
+use strand_family::Links;
 use strand_meaning::laws;
 use strand_moves::Child;
 
-/// An instance or a loop that can stop, hand out children and go on. Contracts see it by its meaning (docs/LANGUAGE.md, "Tasks"):
-/// to finish it gives the serial meaning of its origin, whoever runs its children.
+/// An instance or a loop that can stop, begin children and continue. Contracts see its meaning (docs/LANGUAGE.md,
+/// "Tasks"): finishing it gives the serial meaning of its origin, whoever runs its children.
 #[derive(Drop)]
 pub struct Task<K: Keep = All> {
     pub(crate) parts: Box<Parts<K>>,
@@ -47,36 +47,42 @@ impl<K: Keep> Task<K> {
     ghost use Rattle.serial_meaning.specs.Answer.{IsCut, start_of};
     ghost use Rattle.strand_machine.specs.Tasks.{fresh};
 
-    /// A task of an origin of which nothing is done yet.
+    /// A task of an origin that hasn't begun.
     pub fn start(
         alloc: Global,
         plan: Arc<Plan>,
         origin: Origin,
         give: Give<Answer<K>>,
     ) -> Result<Task<K>, Memory>
-        requires give { give ≡ tag (arc_value plan) origin }
+        requires give { give.tag ≡ tag (arc_value plan) origin }
         requires known { IsOriginOf (arc_value plan) origin }
-        ensures { IfOk result (λ task. task ≡ fresh (arc_value plan) origin) }
+        ensures fresh { IfOk result (λ task. task ≡ fresh (arc_value plan) origin task.joins) }
+        ensures joins { IfOk result (λ task. AreJoinNames give.join task.joins) }
     {
         let trail = trail_of(&plan, &origin)?;
         Task::begin(alloc, plan, Child { origin, trail }, give)
     }
 
-    /// The same for a task for whose answer nobody looks, nor for those of the tasks below it: they are taken as they come.
-    pub fn alone_keeping(alloc: Global, plan: &Arc<Plan>, origin: Origin) -> Result<Task<K>, Memory>
+    /// The same for a detached task: nobody looks for its answer, nor for those of the tasks below it, which are taken as they come.
+    #[tactic(auto, using(crate::proofs::Moves::Starting::detached_fresh, crate::proofs::Moves::Starting::tag_given))]
+    pub fn detached_keeping(
+        alloc: Global,
+        plan: &Arc<Plan>,
+        origin: Origin,
+    ) -> Result<Task<K>, Memory>
         requires { IsOriginOf (arc_value plan.now) origin }
-        ensures { IfOk result (λ task. task ≡ fresh (arc_value plan.now) origin) }
+        ensures { IfOk result (λ task. task ≡ fresh (arc_value plan.now) origin detached) }
     {
         let key = AnswerKey {
             plan: Arc::try_clone(plan)?,
             origin,
         };
-        let give = Give::alone(&key);
+        let give = Give::detached(&key);
         let AnswerKey { plan, origin } = key;
         Task::start(alloc, plan, origin, give)
     }
 
-    /// The same as `start`, where the trail of the origin's path is at hand.
+    // The same as `start`, where the caller has the trail of the origin's path.
     #[inline(always)]
     pub(crate) fn begin(
         alloc: Global,
@@ -84,10 +90,11 @@ impl<K: Keep> Task<K> {
         child: Child,
         give: Give<Answer<K>>,
     ) -> Result<Task<K>, Memory>
-        requires give { give ≡ tag (arc_value plan) child.origin }
+        requires give { give.tag ≡ tag (arc_value plan) child.origin }
         requires known { IsOriginOf (arc_value plan) child.origin }
         requires trail { IsTrailOf (arc_value plan) child.origin child.trail }
-        ensures { IfOk result (λ task. task ≡ fresh (arc_value plan) child.origin) }
+        ensures fresh { IfOk result (λ task. task ≡ fresh (arc_value plan) child.origin task.joins) }
+        ensures joins { IfOk result (λ task. AreJoinNames give.join task.joins) }
     {
         laws::valid_plans_are_clear();
         laws::tasks_begin();
@@ -101,82 +108,83 @@ impl<K: Keep> Task<K> {
                 return Err(memory);
             }
         };
-        let family = match Family::new(alloc, plan, origin, give) {
-            Ok(family) => family,
+        let links = match Links::new(alloc, plan, origin, give) {
+            Ok(links) => links,
             Err(memory) => {
                 drop(remaining);
                 return Err(memory.into());
             }
         };
-        let state = TaskState::new(alloc, family);
+        let state = TaskState::new(alloc, links);
         Parts::boxed(alloc, Parts { state, remaining })
     }
 
-    /// What the task was begun as.
+    /// The origin that the task answers.
     pub fn origin(&self) -> &Origin
         ensures { result.now ≡ self.now.task.origin }
     {
-        self.parts.state.family.origin()
+        self.parts.state.links.origin()
     }
 
     /// The task's plan.
     pub fn plan(&self) -> &Arc<Plan>
         ensures { arc_value result.now ≡ self.now.task.plan }
     {
-        self.parts.state.family.shared_plan()
+        self.parts.state.links.shared_plan()
     }
 
-    /// The task reaches its plan by this handle from now on, and so do the children that it hands out.
+    /// Replaces the handle of the task's plan. The children that it begins from now on share the new one.
     pub fn set_plan(&mut self, plan: Arc<Plan>)
         requires { arc_value plan ≡ self.old.task.plan }
         ensures { self.new ≡ self.old }
     {
-        self.parts.state.family.set_plan(plan);
+        self.parts.state.links.set_plan(plan);
     }
 
-    /// A copy of what the task was begun as. Its path shares its memory.
+    /// A copy of the task's origin. Its path shares its memory.
     pub fn share_origin(&self, alloc: Global) -> Result<Origin, Memory>
         ensures { IfOk result (λ origin. origin ≡ self.now.task.origin) }
     {
         share_origin(alloc, self.origin())
     }
 
-    /// Whether it wasn't advanced yet.
+    /// Whether it hasn't been advanced yet.
     pub fn is_fresh(&self) -> bool
         ensures { result ≡ not self.now.task.advanced }
     {
         !self.parts.state.advanced
     }
 
-    /// Whether the fault stands before all that the task could do: before an instance's path, or before the path of a loop's first iteration.
+    /// Whether the fault precedes all that the task could do: an instance's path, or the path of a loop's first
+    /// iteration.
     pub fn may_cut(&self, by: &Fault) -> bool
         ensures { IsTrue result ↔ IsBefore by.now.at (start_of self.now.task.origin) }
     {
-        self.parts.state.family.stands_after(by)
+        self.parts.state.links.stands_after(by)
     }
 
-    /// Answers without having run: a fault of the plan stands before all that the task could do.
+    /// Answers without running: a fault of the plan precedes all that the task could do.
     pub fn cut(self, by: Fault) -> (Answer<K>, Give<Answer<K>>)
         requires fresh { self.task.advanced ≡ false }
         requires stands { IsCut self.task.plan self.task.origin by }
         ensures answer { result.0 ≡ record { plan = self.task.plan; origin = self.task.origin; out = []; outcome = Outcome.Cut by } }
-        ensures give { result.1 ≡ tag self.task.plan self.task.origin }
+        ensures give { result.1 ≡ task_give self.task.plan self.task.origin self.joins }
     {
         let Task { parts } = self;
-        let (family, prefix, fault) = Parts::end(parts);
+        let (links, prefix, fault) = Parts::end(parts);
         drop((prefix, fault));
-        family.answer(Out::none(), Outcome::Cut { by })
+        links.answer(Out::none(), Outcome::Cut { by })
     }
 }
 
 impl Task<All> {
     ghost use Rattle.strand_machine.specs.Tasks.{fresh};
 
-    /// The same as `alone_keeping`, of a task that keeps all events.
-    pub fn alone(alloc: Global, plan: &Arc<Plan>, origin: Origin) -> Result<Task, Memory>
+    /// The same as `detached_keeping`, of a task that keeps all events.
+    pub fn detached(alloc: Global, plan: &Arc<Plan>, origin: Origin) -> Result<Task, Memory>
         requires { IsOriginOf (arc_value plan.now) origin }
-        ensures { IfOk result (λ task. task ≡ fresh (arc_value plan.now) origin) }
+        ensures { IfOk result (λ task. task ≡ fresh (arc_value plan.now) origin detached) }
     {
-        Task::alone_keeping(alloc, plan, origin)
+        Task::detached_keeping(alloc, plan, origin)
     }
 }

@@ -1,18 +1,18 @@
 ghost use Rattle.std.specs.Prelude.{◌≡◌, [], false};
 
 use crate::trace::Trace;
-use script_grammar::Items;
+use contract_views::Items;
 use serial_meaning::{Keep, Origin, Value};
 use std::alloc::Global;
 use std::mem;
-use strand_family::Family;
+use strand_family::Links;
 
-/// A task without what remains of it.
+// A task's state, without what remains to run.
 #[derive(Drop)]
 pub(crate) struct TaskState<K: Keep> {
-    pub family: Family<K>,
+    pub links: Links<K>,
     pub trace: Trace<K>,
-    /// The values of a loop's iterations whose answers were taken, in order.
+    // The values of a loop's iterations whose answers were taken, in order.
     pub values: Items<Value>,
     pub waiting: bool,
     pub advanced: bool,
@@ -22,13 +22,13 @@ impl<K: Keep> TaskState<K> {
     ghost use Rattle.strand_meaning.specs.Trace.{no_trace};
     ghost use Rattle.strand_machine.specs.TaskStates.{is_long};
 
-    /// That of a task of which nothing is done.
+    /// The state of a task that hasn't begun.
     #[inline(always)]
-    pub fn new(alloc: Global, family: Family<K>) -> TaskState<K>
-        ensures { result ≡ record { family = family; trace = no_trace; values = []; waiting = false; advanced = false } }
+    pub fn new(alloc: Global, links: Links<K>) -> TaskState<K>
+        ensures { result ≡ record { links = links; trace = no_trace; values = []; waiting = false; advanced = false } }
     {
         TaskState {
-            family,
+            links,
             trace: Trace::new(alloc),
             values: Items(Vec::new(alloc)),
             waiting: false,
@@ -44,11 +44,11 @@ impl<K: Keep> TaskState<K> {
         mem::replace(&mut self.values, Items(Vec::new(alloc)))
     }
 
-    /// Whether it is of a loop that has two iterations or more.
+    /// Whether its origin is a loop of two iterations or more.
     pub fn is_long(&self) -> bool
-        ensures { result ≡ is_long self.now.family.origin }
+        ensures { result ≡ is_long self.now.links.origin }
     {
-        match self.family.origin() {
+        match self.links.origin() {
             Origin::Instance { .. } => false,
             Origin::Loop { range, .. } => range.len() > 1,
         }

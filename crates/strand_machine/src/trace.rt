@@ -4,7 +4,7 @@ ghost use Rattle.strand_meaning.specs.Trace.{emit, add_child, no_trace};
 
 use crate::destination::Destination;
 use crate::memory::Memory;
-use meet_block::KnownList;
+use contract_views::KnownList;
 use ped_path::Ped;
 use serial_meaning::{Event, EventKind, Fault, Keep, Origin, Out, Outcome};
 use std::alloc::Global;
@@ -12,15 +12,15 @@ use std::marker::Model;
 use std::mem;
 use strand_moves::EventSink;
 
-/// Where a child's value goes, and the task's own events after it, up to the next child.
+// Where a child's value goes, and the task's own events after it, up to the next child.
 #[derive(Drop)]
 pub(crate) struct AfterChild<K: Keep> {
     pub destination: Destination,
     pub events: Out<K>,
 }
 
-/// What a task gave so far, in the order of the serial elision: the events before the first child whose answer isn't taken, the
-/// fault that ends these, if there is one, and then the children with the events after each.
+// What a task gave so far, in the order of the serial elision: the events before the first child whose answer isn't taken, the
+// fault that ends these, if there is one, and then the children with the events after each.
 #[derive(Drop)]
 pub(crate) struct Trace<K: Keep> {
     pub prefix: Out<K>,
@@ -36,7 +36,7 @@ impl<K: Keep> Model for Trace<K> {
 
     ghost Value = { TraceView };
 
-    ghost view = { λ p. record { prefix = p.prefix; fault = p.fault; handed = awaited_children p.awaited.items p.after.items } };
+    ghost view = { λ p. record { prefix = p.prefix; fault = p.fault; unmerged = awaited_children p.awaited.items p.after.items } };
 
     ghost invariant = { λ p. length p.awaited.items ≡ length p.after.items };
 }
@@ -59,7 +59,7 @@ impl<K: Keep> Trace<K> {
 
     /// How many children's answers aren't taken.
     pub fn awaited_count(&self) -> u64
-        ensures { result ≡ length (awaited self.now.handed) }
+        ensures { result ≡ length (awaited self.now.unmerged) }
     {
         self.after.len() as u64
     }
@@ -82,7 +82,8 @@ impl<K: Keep> Trace<K> {
         Ok(())
     }
 
-    /// One more event of the task's own, of this kind, whose pedigree is this rank on this path. It is made only where it is kept.
+    /// One more event of the task's own: of this kind, with this path and rank as its pedigree. It is made only where
+    /// it is kept.
     #[inline(always)]
     pub fn emit_at(
         &mut self,
@@ -106,12 +107,12 @@ impl<K: Keep> Trace<K> {
     }
 
     /// One more child.
-    #[tactic(auto, using(crate::proofs::Moves::Handed::parts_more))]
+    #[tactic(auto, using(crate::proofs::Moves::Starts::parts_more))]
     pub fn add_child(&mut self, child: &Origin, destination: Destination) -> Result<(), Memory>
         ensures { OnOk result (self.new ≡ add_child child.now (destination_of destination) self.old) }
     {
         let room = if self.after.is_empty() {
-            // most tasks hand out one or two children before they wait, and a list would begin with room for four
+            // most tasks begin one or two children before they wait, and a list would begin with room for four
             self.after.try_reserve_exact(2)
         } else {
             self.after.try_reserve(1)
@@ -131,7 +132,7 @@ impl<K: Keep> Trace<K> {
         Ok(())
     }
 
-    /// How a task with this trace ends, which else would end so: by the fault in it, if there is one.
+    /// The outcome of a task with this trace: the fault in it, or else this one.
     pub fn end(&mut self, outcome: Outcome) -> Outcome
         ensures ended { result ≡ ended_by self.old.fault outcome }
         ensures prefix { self.new.prefix ≡ self.old.prefix }
@@ -147,16 +148,16 @@ impl<K: Keep> Trace<K> {
 
     /// Whether no answer is awaited.
     pub fn awaits_none(&self) -> bool
-        ensures { IsTrue result ↔ (self.now.handed ≡ []) }
+        ensures { IsTrue result ↔ (self.now.unmerged ≡ []) }
     {
         self.after.is_empty()
     }
 
-    /// Takes the children out, with what stands after each.
+    /// Takes the children out, with the events after each.
     #[inline(always)]
     pub fn take_children(&mut self, alloc: Global) -> Vec<AfterChild<K>>
         ensures parted { IsParted self.old self.old.prefix self.old.fault result.items }
-        ensures rest { self.new ≡ record self.old { handed = [] } }
+        ensures rest { self.new ≡ record self.old { unmerged = [] } }
     {
         self.awaited = KnownList::none();
         mem::replace(&mut self.after, Vec::new(alloc))

@@ -1,6 +1,6 @@
 pub mod Statements
 pub mod Frames
 pub mod OpenScopes
-pub mod HandedChildren
+pub mod SpawnedChildren
 pub mod Cursors
 pub mod Shares

@@ -8,7 +8,7 @@ use Rattle.std.specs.contracts.option.Option as option
 use Rattle.dotmix.proofs.trail.Trail.TheSendSync as trail_shared
 use Rattle.ped_path.proofs.ped.Ped.TheSendSync as ped_shared
 use Rattle.ped_path.proofs.pedigree.Pedigree.TheSendSync as pedigree_shared
-use Rattle.script_grammar.proofs.boxed.Boxed.TheSendSync as boxed_shared
+use Rattle.contract_views.proofs.boxed.Boxed.TheSendSync as boxed_shared
 use Rattle.serial_meaning.proofs.event.Event.TheSendSync as event_shared
 use Rattle.serial_meaning.proofs.event.Fault.TheSendSync as fault_shared
 use Rattle.serial_meaning.proofs.value.Value.TheSendSync as value_shared

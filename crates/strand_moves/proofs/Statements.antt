@@ -4,7 +4,7 @@ pub mod Equations
 pub mod LoopEquations
 pub mod Naming
 pub mod Paying
-pub mod QuickLemmas
+pub mod FastPathLemmas
 pub mod FoundParts
 pub mod Going
-pub mod Handing
+pub mod BoxedSpawns

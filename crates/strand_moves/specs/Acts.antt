@@ -16,8 +16,8 @@ use Rattle.serial_meaning.specs.declared.event.FaultKind.{FaultKind}
 use Rattle.serial_meaning.specs.declared.event.FaultKind.TheVariants.{Index, Depth, Budget}
 use Rattle.strand_meaning.specs.Machine as meaning
 use Rattle.strand_values.specs.Environments.{EnvironmentView}
-use Rattle.strand_values.specs.declared.halt.Halt as values
-use Rattle.strand_values.specs.declared.halt.Halt.TheVariants as halt
+use Rattle.strand_values.specs.declared.evaluation_error.EvaluationError as values
+use Rattle.strand_values.specs.declared.evaluation_error.EvaluationError.TheVariants as error
 use Rattle.strand_moves.specs.declared.frame.Frame.{Frame}
 use Rattle.strand_moves.specs.declared.instance_parts.InstanceParts.{InstanceParts}
 use Rattle.strand_moves.specs.declared.effects.MoveResult.{MoveResult}
@@ -25,7 +25,7 @@ use Rattle.strand_moves.specs.InstanceParts.{IsInstance, body_of, frame_of, mach
 use Rattle.strand_moves.specs.Moves.{acted, Makes, present_pedigree}
 
 -- the call shows and leaves what this act does, and a fault is one of this strand
-abbrev pub Acts : PlanView → Stmt → Act-F Act Stmt → InstanceParts → InstanceParts → Result MoveResult values.Halt → Type 0
+abbrev pub Acts : PlanView → Stmt → Act-F Act Stmt → InstanceParts → InstanceParts → Result MoveResult values.EvaluationError → Type 0
 Acts plan st a old new result =
     Makes (acted plan (present_of old) (machine_of plan old) st a) (present_pedigree (present_of old) (machine_of plan old)) (machine_of plan new) result
 
@@ -45,10 +45,10 @@ pub record BeginsOne (old new : InstanceParts) : Type 0 where
   pub frames : length new.below.items ≤ length old.below.items + 1
 
 -- Where there was memory for it, they stay.
-abbrev pub StaysUnlessMemory : InstanceParts → InstanceParts → Result MoveResult values.Halt → Type 0
+abbrev pub StaysUnlessMemory : InstanceParts → InstanceParts → Result MoveResult values.EvaluationError → Type 0
 StaysUnlessMemory old new (Ok move_result) = Stays old new
-StaysUnlessMemory old new (Err (halt.Fault kind)) = Stays old new
-StaysUnlessMemory old new (Err halt.Memory) = Unit {0}
+StaysUnlessMemory old new (Err (error.Fault kind)) = Stays old new
+StaysUnlessMemory old new (Err error.Memory) = Unit {0}
 
 -- one scope more is open, in which it goes on
 pub record GoesIn (plan : PlanView) (old new : InstanceParts) : Type 0 where
@@ -66,10 +66,10 @@ pub record IsKept (plan : PlanView) (old new : InstanceParts) : Type 0 where
   pub path : path_of new ≡ path_of old
 
 -- A move keeps an instance and its path, and one that is a fault keeps the present path too. Want of memory keeps nothing.
-abbrev pub KeepsInstance : PlanView → InstanceParts → InstanceParts → Result MoveResult values.Halt → Type 0
+abbrev pub KeepsInstance : PlanView → InstanceParts → InstanceParts → Result MoveResult values.EvaluationError → Type 0
 KeepsInstance plan old new (Ok move_result) = IsKept plan old new
-KeepsInstance plan old new (Err (halt.Fault kind)) = IsKept plan old new × (new.trail ≡ old.trail)
-KeepsInstance plan old new (Err halt.Memory) = Unit {0}
+KeepsInstance plan old new (Err (error.Fault kind)) = IsKept plan old new × (new.trail ≡ old.trail)
+KeepsInstance plan old new (Err error.Memory) = Unit {0}
 
 -- the fault of the first of these conditions that doesn't hold
 abbrev pub first_fault : List (Bool × FaultKind) → Result (Unit {0}) FaultKind

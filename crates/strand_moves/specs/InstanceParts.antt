@@ -4,7 +4,7 @@ use Rattle.dotmix.specs.Trails.{FitsGamma}
 use Rattle.script_grammar.specs.declared.tree.Function.{Function}
 use Rattle.script_grammar.specs.declared.tree.Name.{Name}
 use Rattle.script_grammar.specs.declared.tree.Stmt.{Stmt}
-use Rattle.script_check.specs.Places.{table_of_places, variable_names}
+use Rattle.script_check.specs.Slots.{table_of_slots, variable_names}
 use Rattle.serial_meaning.specs.Functions.{function_at}
 use Rattle.serial_meaning.specs.Plan.{PlanView, functions_of}
 use Rattle.strand_meaning.specs.Machine as meaning
@@ -107,9 +107,9 @@ pub record IsNamed (plan : PlanView) (a : Frame) : Type 0 where
   pub of_plan : function_at (functions_of plan) a.function ≡ Some function
   pub names : a.env.names ≡ variable_names function
 
--- The table has the place of what a call's value goes to among the caller's variables, if there is a target.
+-- The table has the slot of what a call's value goes to among the caller's variables, if there is a target.
 abbrev pub IsNamedIn : PlanView → Frame → Option Name → Type 0
-IsNamedIn plan caller target = FindsTarget (table_of_places (functions_of plan)) caller.env target
+IsNamedIn plan caller target = FindsTarget (table_of_slots (functions_of plan)) caller.env target
 
 -- the same of a frame with this target and of each below it, by the frames below, the innermost first
 abbrev pub TargetsAreNamed : PlanView → Option Name → List Frame → Type 0

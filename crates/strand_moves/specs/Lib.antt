@@ -3,8 +3,8 @@ pub mod Cursors
 pub mod Found
 pub mod Machines
 pub mod Moves
-pub mod Quick
-pub mod Rows
+pub mod FastPath
+pub mod StraightRuns
 pub mod InstanceParts
 pub mod Spawns
 pub mod Standing

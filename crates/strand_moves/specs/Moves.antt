@@ -15,9 +15,9 @@ use Rattle.serial_meaning.specs.Exec.{does}
 use Rattle.serial_meaning.specs.Plan.{PlanView}
 use Rattle.serial_meaning.specs.declared.event.Fault.{Fault}
 use Rattle.serial_meaning.specs.declared.origin.Origin.{Origin}
-use Rattle.strand_meaning.specs.Machine.{Spawned, Looped, Effect, Opens, Closes, Emitted, Handed, Syncs, Loops, Machine, Reached, Stands, Gives, handing, inside, child_destination, state_of, with_left, machine_inside, reached}
-use Rattle.strand_values.specs.declared.halt.Halt as values
-use Rattle.strand_values.specs.declared.halt.Halt.TheVariants as halt
+use Rattle.strand_meaning.specs.Machine.{Spawned, Looped, Effect, Opens, Closes, Emitted, Starts, Syncs, Loops, Machine, Reached, Stands, Gives, parallel, inside, child_destination, state_of, with_left, machine_inside, reached}
+use Rattle.strand_values.specs.declared.evaluation_error.EvaluationError as values
+use Rattle.strand_values.specs.declared.evaluation_error.EvaluationError.TheVariants as error
 use Rattle.strand_moves.specs.declared.effects.Effects.{Effects}
 use Rattle.strand_moves.specs.declared.effects.Effects.TheVariants as effect
 use Rattle.strand_moves.specs.declared.effects.MoveResult.{MoveResult}
@@ -29,16 +29,16 @@ effects_of effect.Nothing = []
 effects_of (effect.Emitted e) = Emitted e ∷ []
 effects_of (effect.Opened path) = Opens path ∷ []
 effects_of (effect.Closed j) = Closes j ∷ []
-effects_of (effect.Spawned e s) = Emitted e ∷ Handed s.child.origin (Spawned s.height s.target) ∷ []
+effects_of (effect.Spawned e s) = Emitted e ∷ Starts s.child.origin (Spawned s.height s.target) ∷ []
 effects_of (effect.Synced e) = Emitted e ∷ Syncs ∷ []
-effects_of (effect.Looped e l) = Emitted e ∷ Handed l.child.origin (Looped l.target) ∷ Loops ∷ []
+effects_of (effect.Looped e l) = Emitted e ∷ Starts l.child.origin (Looped l.target) ∷ Loops ∷ []
 
 -- The trail is one of the plan's coefficients, and of the origin's path.
 pub record IsTrailOf (plan : PlanView) (o : Origin) (trail : Trail) : Type 0 where
   pub fits : FitsGamma plan.gamma trail
   pub path : trail.path ≡ path_of o
 
--- a child that is handed out has the trail of its origin
+-- a child that is begun has the trail of its origin
 abbrev pub ShowsTrail : PlanView → Effects → Type 0
 ShowsTrail plan effect.Nothing = Unit {0}
 ShowsTrail plan (effect.Emitted e) = Unit {0}
@@ -64,10 +64,10 @@ abbrev pub HasEffects : List Effect → MoveResult → Type 0
 HasEffects effects move_result = (m : Machine) → run_of move_result m ≡ record { items = effects; ending = Ok (Stands m) }
 
 -- A move is the defined one, where a fault is one of this strand. Want of memory may come at any time.
-abbrev pub Makes : Run Effect Fault Reached → List ℕ → Machine → Result MoveResult values.Halt → Type 0
+abbrev pub Makes : Run Effect Fault Reached → List ℕ → Machine → Result MoveResult values.EvaluationError → Type 0
 Makes run strand m (Ok move_result) = run ≡ run_of move_result m
-Makes run strand m (Err (halt.Fault kind)) = run ≡ record { items = []; ending = Err (record { kind = kind; at = strand }) }
-Makes run strand m (Err halt.Memory) = Unit {0}
+Makes run strand m (Err (error.Fault kind)) = run ≡ record { items = []; ending = Err (record { kind = kind; at = strand }) }
+Makes run strand m (Err error.Memory) = Unit {0}
 
 abbrev pub present_pedigree : List ℕ → Machine → List ℕ
 present_pedigree here m = here ++ m.rank ∷ []
@@ -75,7 +75,7 @@ present_pedigree here m = here ++ m.rank ∷ []
 -- what a statement does at a present path that is paid and stands no longer among those left
 unfoldable pub acted : PlanView → List ℕ → Machine → Stmt → Act-F Act Stmt → Run Effect Fault Reached
 acted plan here m st a =
-    let r = does (handing plan (child_destination (length m.below) a)) plan here inside (length m.below) st a (state_of m) in record { items = r.items; ending = reached plan (with_left m m.top.left) (machine_inside plan st a m.top.left m) r.ending }
+    let r = does (parallel plan (child_destination (length m.below) a)) plan here inside (length m.below) st a (state_of m) in record { items = r.items; ending = reached plan (with_left m m.top.left) (machine_inside plan st a m.top.left m) r.ending }
 
 -- a call, or a spawn, whose value goes to a variable, if any
 abbrev pub call_to : Option Name → CallText → Act-F Act Stmt

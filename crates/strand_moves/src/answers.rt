@@ -30,7 +30,8 @@ impl InstanceParts {
         }
     }
 
-    /// Takes the value of a child of the frame with `height` others below it. A variable that isn't there doesn't come to be.
+    /// Takes the value of a child of the frame with `height` others below it. Where that frame has no such variable,
+    /// nothing changes.
     pub fn receive_value(
         &mut self,
         plan: &Plan,
@@ -45,9 +46,9 @@ impl InstanceParts {
         ensures sound { (p : PlanView) → IsInstance p self.old → IsInstance p self.new }
     {
         if height == self.below.len() {
-            set_answer(plan.places(), &mut self.top, target, value);
+            set_answer(plan.slots(), &mut self.top, target, value);
         } else if height < self.below.len() {
-            set_answer(plan.places(), &mut self.below[height], target, value);
+            set_answer(plan.slots(), &mut self.below[height], target, value);
         }
     }
 
@@ -65,7 +66,7 @@ impl InstanceParts {
         ensures path { path_of self.new ≡ path_of self.old }
         ensures sound { (p : PlanView) → IsInstance p self.old → IsInstance p self.new }
     {
-        self.top.env.fill(alloc, plan.places(), target, values);
+        self.top.env.fill(alloc, plan.slots(), target, values);
     }
 
     /// The least fault among the answers that the innermost frame took since its last sync.
@@ -76,18 +77,18 @@ impl InstanceParts {
     }
 }
 
-/// Gives a variable that is there a new value.
+// Assigns a value to a variable that is there.
 #[inline(always)]
-fn set_answer(places: &[u16], frame: &mut Frame, target: Option<&Target>, value: Value)
-    requires { FindsTarget places.now frame.old.env (option_copied target) }
+fn set_answer(slots: &[u16], frame: &mut Frame, target: Option<&Target>, value: Value)
+    requires { FindsTarget slots.now frame.old.env (option_copied target) }
     ensures { frame.new ≡ record frame.old { env = with_variables frame.old.env (with_answer (option_copied target.entry) value frame.old.env.variables) } }
 {
     if let Some(x) = target {
-        frame.env.replace_scalar(places, x, value);
+        frame.env.replace_scalar(slots, x, value);
     }
 }
 
-/// Keeps the lesser of two faults.
+// Keeps the lesser of two faults.
 fn take_least(faulted: &mut Option<Fault>, fault: Fault)
     ensures { faulted.new ≡ Some (least faulted.old fault) }
 {

@@ -6,49 +6,49 @@ ghost use Rattle.script_grammar.specs.declared.tree.Stmt.{Stmt};
 ghost use Rattle.serial_meaning.specs.Functions.{function_at, function_number};
 ghost use Rattle.serial_meaning.specs.Plan.{PlanView, functions_of};
 ghost use Rattle.serial_meaning.specs.declared.event.FaultKind.{FaultKind};
-ghost use Rattle.strand_values.specs.declared.halt.Halt.TheVariants.{Fault};
+ghost use Rattle.strand_values.specs.declared.evaluation_error.EvaluationError.TheVariants.{Fault};
 ghost use Rattle.script_check.specs.Spawns.{spawns_in};
 ghost use Rattle.strand_meaning.specs.Machine.{here_of, return_move, with_scalar};
 ghost use Rattle.strand_values.specs.Gives.{Calculates};
 ghost use Rattle.strand_values.specs.Environments.{FindsArguments, with_variables};
-ghost use Rattle.strand_moves.specs.Found.{ArePlaces, FindsCallee, FindsTarget};
+ghost use Rattle.strand_moves.specs.Found.{AreSlots, FindsCallee, FindsTarget};
 ghost use Rattle.strand_moves.specs.Acts.{Acts, BeginsOne, Costs, IsCallee, StaysUnlessMemory, result_of};
 ghost use Rattle.strand_moves.specs.InstanceParts.{AreNamed, IsNamed, IsStrand, KeepsNames, machine_of, path_of, present_of};
 ghost use Rattle.strand_moves.specs.Moves.{Makes, MovesTrail, call_to, present_pedigree};
-ghost use Rattle.strand_moves.specs.Quick.{StaysThere, quiet, synced_at};
+ghost use Rattle.strand_moves.specs.FastPath.{StaysThere, silent, synced_at};
 
 use crate::effects::{Effects, MoveResult};
+use crate::fast_path::silent;
 use crate::frame::{Frame, target_of};
 use crate::instance_parts::InstanceParts;
 use crate::memory::Memory;
-use crate::quick::quiet;
 use script_grammar::{CallText, Function, Name};
 use serial_meaning::{FaultKind, Plan, Value};
 use std::alloc::Global;
 use std::mem;
-use strand_values::{Environment, Halt, Target};
+use strand_values::{Environment, EvaluationError, Target};
 
-/// How many calls may be open in an instance.
+// The most open calls of an instance.
 const MOST_CALLS: usize = 256;
 
 impl InstanceParts {
-    /// A call, whose value goes to a variable, if any.
+    // A call. Its value goes to `target`, if there is one.
     pub(crate) fn call(
         &mut self,
         alloc: Global,
         plan: &Plan,
-        places: &[u16],
+        slots: &[u16],
         target: Option<&Name>,
         call: &CallText,
-    ) -> Result<(), Halt>
+    ) -> Result<(), EvaluationError>
         requires goes_on { self.old.leaving ≡ false }
-        requires places { ArePlaces places.now plan.now }
+        requires slots { AreSlots slots.now plan.now }
         requires called { FindsCallee plan.now call.now.name }
-        requires args { FindsArguments places.now self.old.top.env call.now.args }
-        requires target { FindsTarget places.now self.old.top.env (option_copied target) }
-        ensures shows { (st : Stmt) → Acts plan.now st (call_to (option_copied target.entry) call.now) self.old self.new (quiet result) }
+        requires args { FindsArguments slots.now self.old.top.env call.now.args }
+        requires target { FindsTarget slots.now self.old.top.env (option_copied target) }
+        ensures shows { (st : Stmt) → Acts plan.now st (call_to (option_copied target.entry) call.now) self.old self.new (silent result) }
         ensures same { (kind : FaultKind) → result ≡ Err (Fault kind) → self.new ≡ self.old }
-        ensures stays { StaysUnlessMemory self.old self.new (quiet result) }
+        ensures stays { StaysUnlessMemory self.old self.new (silent result) }
         ensures few { Costs self.old self.new }
         ensures begins { OnOk result (BeginsOne self.old self.new) }
         ensures named { KeepsNames plan.now self.old self.new }
@@ -57,29 +57,29 @@ impl InstanceParts {
         let Some(function) = function_in(plan, number) else {
             unreachable!()
         };
-        self.enter(alloc, plan, places, number, function, target, call)
+        self.enter(alloc, plan, slots, number, function, target, call)
     }
 
-    /// A call of this function.
+    // A call of this function.
     fn enter(
         &mut self,
         alloc: Global,
         plan: &Plan,
-        places: &[u16],
+        slots: &[u16],
         number: u32,
         function: &Function,
         target: Option<&Name>,
         call: &CallText,
-    ) -> Result<(), Halt>
+    ) -> Result<(), EvaluationError>
         requires goes_on { self.old.leaving ≡ false }
-        requires places { ArePlaces places.now plan.now }
-        requires args { FindsArguments places.now self.old.top.env call.now.args }
-        requires target { FindsTarget places.now self.old.top.env (option_copied target) }
+        requires slots { AreSlots slots.now plan.now }
+        requires args { FindsArguments slots.now self.old.top.env call.now.args }
+        requires target { FindsTarget slots.now self.old.top.env (option_copied target) }
         requires number { number ≡ function_number (functions_of plan.now) call.now.name.bytes }
         requires there { function_at (functions_of plan.now) number ≡ Some function.now }
-        ensures shows { (st : Stmt) → Acts plan.now st (call_to (option_copied target.entry) call.now) self.old self.new (quiet result) }
+        ensures shows { (st : Stmt) → Acts plan.now st (call_to (option_copied target.entry) call.now) self.old self.new (silent result) }
         ensures same { (kind : FaultKind) → result ≡ Err (Fault kind) → self.new ≡ self.old }
-        ensures stays { StaysUnlessMemory self.old self.new (quiet result) }
+        ensures stays { StaysUnlessMemory self.old self.new (silent result) }
         ensures few { Costs self.old self.new }
         ensures begins { OnOk result (BeginsOne self.old self.new) }
         ensures named { KeepsNames plan.now self.old self.new }
@@ -89,18 +89,15 @@ impl InstanceParts {
         };
         let params = function.params.as_slice();
         let args = call.args.as_slice();
-        let env = self
-            .top
-            .env
-            .called_with(alloc, places, names, params, args)?;
+        let env = self.top.env.called_with(alloc, slots, names, params, args)?;
         if self.below.len() >= MOST_CALLS {
-            return Err(Halt::Fault(FaultKind::Calls));
+            return Err(EvaluationError::Fault(FaultKind::Calls));
         }
         self.open_call(alloc, number, env, target)?;
         Ok(())
     }
 
-    /// Begins a function with these variables over the innermost frame.
+    // Begins a function with these variables over the innermost frame.
     fn open_call(
         &mut self,
         alloc: Global,
@@ -129,18 +126,19 @@ impl InstanceParts {
         Ok(())
     }
 
-    /// Gives a variable of the innermost frame a value, if there is one.
+    // Assigns a value to a variable of the innermost frame, if one is given.
     #[inline(always)]
-    pub(crate) fn receive(&mut self, places: &[u16], target: Option<&Target>, value: Value)
-        requires { FindsTarget places.now self.old.top.env (option_copied target) }
+    pub(crate) fn receive(&mut self, slots: &[u16], target: Option<&Target>, value: Value)
+        requires { FindsTarget slots.now self.old.top.env (option_copied target) }
         ensures { self.new ≡ record self.old { top = record self.old.top { env = with_variables self.old.top.env (with_scalar (option_copied target.entry) value self.old.top.env.variables) } } }
     {
         if let Some(x) = target {
-            self.top.env.receive(places, x, value);
+            self.top.env.receive(slots, x, value);
         }
     }
 
-    /// The step of a return of a frame that spawned nothing since its last sync, and whether it implies a sync, which takes a rank.
+    // The step of a return in a frame without spawns since its last sync. Returns whether the return implies a sync,
+    // which takes a rank.
     pub(crate) fn return_alone(&mut self, plan: &Plan) -> Result<bool, FaultKind>
         requires strand { IsStrand plan.now self.old }
         requires here { here_of (path_of self.old) (machine_of plan.now self.old) ≡ present_of self.old }
@@ -162,8 +160,8 @@ impl InstanceParts {
         Ok(true)
     }
 
-    /// The step of a return and the sync that it implies.
-    pub(crate) fn return_step(&mut self, plan: &Plan) -> Result<MoveResult, Halt>
+    // The step of a return, and the sync that it implies.
+    pub(crate) fn return_step(&mut self, plan: &Plan) -> Result<MoveResult, EvaluationError>
         requires strand { IsStrand plan.now self.old }
         requires here { here_of (path_of self.old) (machine_of plan.now self.old) ≡ present_of self.old }
         ensures shows { let m = machine_of plan.now self.old in
@@ -181,27 +179,27 @@ impl InstanceParts {
         Ok(MoveResult::Went(Effects::Nothing))
     }
 
-    /// Whether the word `spawn` stands in the text of the innermost frame.
+    // Whether the text of the innermost frame's function has the word `spawn`.
     fn has_spawns(&self, plan: &Plan) -> bool
         ensures { result ≡ spawns_in (function_at (functions_of plan.now) self.now.top.function) }
     {
         plan.spawns(self.top.function)
     }
 
-    /// The value of the innermost frame's function, as its variables are.
+    // The value that the innermost frame returns.
     #[inline(always)]
-    fn result(&self, plan: &Plan) -> Result<Value, Halt>
+    fn result(&self, plan: &Plan) -> Result<Value, EvaluationError>
         requires { IsNamed plan.now self.now.top }
         ensures { Calculates result (result_of (function_at (functions_of plan.now) self.now.top.function) self.now.top.env.variables) }
     {
         match function_in(plan, self.top.function) {
-            Some(f) => self.top.env.value(plan.places(), &f.result),
+            Some(f) => self.top.env.value(plan.slots(), &f.result),
             None => Ok(Value::Int(0)),
         }
     }
 
-    /// The value of a frame that ends goes to the one below it, or is that of the instance.
-    pub(crate) fn end(&mut self, plan: &Plan) -> Result<MoveResult, Halt>
+    // Ends the innermost frame: its value goes to the frame below, or is the instance's.
+    pub(crate) fn end(&mut self, plan: &Plan) -> Result<MoveResult, EvaluationError>
         requires named { AreNamed plan.now self.old }
         requires outside { self.old.top.levels.items ≡ [] }
         requires goes_on { self.old.leaving ≡ false }
@@ -216,21 +214,21 @@ impl InstanceParts {
         if self.below.is_empty() {
             return Ok(MoveResult::Returned(self.result(plan)?));
         }
-        quiet(self.give_back(plan))
+        silent(self.give_back(plan))
     }
 
-    /// The value of a frame that ends goes to the one below it.
+    // Ends the innermost frame: its value goes to the frame below.
     #[inline(always)]
-    pub(crate) fn give_back(&mut self, plan: &Plan) -> Result<(), Halt>
+    pub(crate) fn give_back(&mut self, plan: &Plan) -> Result<(), EvaluationError>
         requires named { AreNamed plan.now self.old }
         requires outside { self.old.top.levels.items ≡ [] }
         requires goes_on { self.old.leaving ≡ false }
         requires below { self.old.below.items ≡ [] → ⊥ }
         requires here { here_of (path_of self.old) (machine_of plan.now self.old) ≡ present_of self.old }
         ensures shows { let m = machine_of plan.now self.old in
-            Makes (return_move plan.now (path_of self.old) m true) (present_pedigree (present_of self.old) m) (machine_of plan.now self.new) (quiet result) }
+            Makes (return_move plan.now (path_of self.old) m true) (present_pedigree (present_of self.old) m) (machine_of plan.now self.new) (silent result) }
         ensures same { (kind : FaultKind) → result ≡ Err (Fault kind) → self.new ≡ self.old }
-        ensures stays { StaysUnlessMemory self.old self.new (quiet result) }
+        ensures stays { StaysUnlessMemory self.old self.new (silent result) }
         ensures steps { self.new.steps ≡ self.old.steps }
         ensures rank { self.new.rank ≡ self.old.rank }
         ensures named { KeepsNames plan.now self.old self.new }
@@ -241,12 +239,12 @@ impl InstanceParts {
             unreachable!()
         };
         let callee = mem::replace(&mut self.top, caller);
-        self.receive(plan.places(), callee.target.as_ref(), value);
+        self.receive(plan.slots(), callee.target.as_ref(), value);
         Ok(())
     }
 }
 
-/// The function at this place in the script, if there is one.
+// The function with this index, if there is one.
 pub(crate) fn function_in(plan: &Plan, number: u32) -> Option<&Function>
     ensures { option_copied result ≡ function_at (functions_of plan.now) number }
 {

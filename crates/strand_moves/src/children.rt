@@ -4,12 +4,12 @@ ghost use Rattle.std.specs.Prelude.{◌≡◌, ◌<◌, ◌≤◌, ◌^◌, ◌+
 ghost use Rattle.std.specs.Option.{option_copied};
 ghost use Rattle.dotmix.specs.Trails.{FitsGamma};
 ghost use Rattle.script_grammar.specs.declared.tree.Act.TheOpen as act;
-ghost use Rattle.script_check.specs.Places.{every_in_statement};
+ghost use Rattle.script_check.specs.Slots.{every_in_statement};
 ghost use Rattle.script_grammar.specs.declared.tree.Name.{Name};
 ghost use Rattle.script_grammar.specs.declared.tree.Stmt.{Stmt};
 ghost use Rattle.serial_meaning.specs.Exec.{with_loop_values};
 ghost use Rattle.serial_meaning.specs.Functions.{function_at};
-ghost use Rattle.serial_meaning.specs.Open.{answer_filler};
+ghost use Rattle.serial_meaning.specs.Open.{answer_placeholder};
 ghost use Rattle.serial_meaning.specs.Plan.{PlanView, functions_of};
 ghost use Rattle.serial_meaning.specs.declared.event.Event.TheVariants as event;
 ghost use Rattle.strand_meaning.specs.Machine.{Emitted, sync_effects, with_scalar};
@@ -17,82 +17,106 @@ ghost use Rattle.strand_values.specs.Environments.{with_variables};
 ghost use Rattle.strand_moves.specs.Found.{EveryInSpawn, FindsLoop, FindsSpawn, FindsTarget};
 ghost use Rattle.strand_moves.specs.Acts.{Acts, Costs, Stays, loop_begins};
 ghost use Rattle.strand_moves.specs.InstanceParts.{IsInstance, IsStrand, KeepsNames, path_of, present_of};
-ghost use Rattle.strand_values.specs.declared.halt.Halt.TheVariants as halt;
+ghost use Rattle.strand_values.specs.declared.evaluation_error.EvaluationError.TheVariants as error;
 ghost use Rattle.serial_meaning.specs.declared.event.FaultKind.{FaultKind};
-ghost use Rattle.strand_values.specs.declared.halt.Halt.TheVariants.{Fault};
+ghost use Rattle.strand_values.specs.declared.evaluation_error.EvaluationError.TheVariants.{Fault};
 ghost use Rattle.strand_moves.specs.Moves.{IsTrailOf, MovesTrail, HasEffects, spawn_to};
-ghost use Rattle.strand_moves.specs.Rows.{HasPassedStatement};
-ghost use Rattle.strand_moves.specs.Spawns.{DoesAs, HasSpawned, IsHanded, SpawnsTrail, spawn_as_move};
+ghost use Rattle.strand_moves.specs.StraightRuns.{HasPassedStatement};
+ghost use Rattle.strand_moves.specs.Spawns.{DoesAs, HasSpawned, IsBoxedSpawn, SpawnsTrail, spawn_as_move};
 ghost use Rattle.strand_moves.specs.declared.effects.Effects.TheVariants as effect;
 
 use crate::calls::function_in;
-use crate::effects::{Child, Effects, LoopedChild, MoveResult, SpawnedChild, Spawning};
+use crate::effects::{Child, Effects, LoopedChild, MoveResult, SpawnedChild};
+use crate::event_sink::EventSink;
 use crate::frame::target_of;
 use crate::instance_parts::InstanceParts;
 use crate::memory::Memory;
 use crate::narrow::narrowed;
+use contract_views::{Boxed, Items};
 use dotmix::Trail;
 use loop_range::IterRange;
 use ped_path::{Ped, Pedigree};
-use script_grammar::{Act, Boxed, CallText, Expr, Items, Kind, Name, Right, Stmt};
-use serial_meaning::{Event, FaultKind, Origin, Plan, Value};
+use script_grammar::{Act, CallText, Expr, Kind, Name, Right, Stmt};
+use serial_meaning::{Event, EventKind, FaultKind, Origin, Plan, Value};
 use std::alloc::Global;
-use strand_values::{Halt, Target, iteration_count, number};
+use strand_values::{EvaluationError, Target, iteration_count, number};
 
 impl InstanceParts {
-    /// A spawn, whose child's value is to go to a variable, if any.
+    // A spawn. The child's value will go to `target`, if there is one.
     #[inline(always)]
     pub(crate) fn spawn(
         &mut self,
         alloc: Global,
         plan: &Plan,
-        places: &[u16],
+        slots: &[u16],
         target: Option<&Name>,
         call: &CallText,
-    ) -> Result<Spawning, Halt>
+    ) -> Result<SpawnedChild, EvaluationError>
         requires strand { IsStrand plan.now self.old }
-        requires finds { FindsSpawn plan.now places.now self.old.top.env (option_copied target) call.now }
-        ensures shows { (st : Stmt) → Acts plan.now st (spawn_to (option_copied target.entry) call.now) self.old self.new (spawn_as_move result) }
+        requires finds { FindsSpawn plan.now slots.now self.old.top.env (option_copied target) call.now }
+        ensures shows { (st : Stmt) → Acts plan.now st (spawn_to (option_copied target.entry) call.now) self.old self.new (spawn_as_move (event.Spawn (present_of self.old ++ self.old.rank ∷ [])) result) }
         ensures same { (kind : FaultKind) → result ≡ Err (Fault kind) → self.new ≡ self.old }
-        ensures child { IfOk result (λ s. IsTrailOf plan.now s.spawned.child.origin s.spawned.child.trail) }
+        ensures child { IfOk result (λ s. IsTrailOf plan.now s.child.origin s.child.trail) }
         ensures stays { Stays self.old self.new }
         ensures few { Costs self.old self.new }
         ensures named { (plan : PlanView) → KeepsNames plan self.old self.new }
     {
         let height = narrowed(self.below.len())?;
-        let args = self.top.env.values(alloc, places, call.args.as_slice())?;
+        let args = self.top.env.values(alloc, slots, call.args.as_slice())?;
         if self.trail.path.len() + 1 >= plan.limits.depth as u64 {
-            return Err(Halt::Fault(FaultKind::Depth));
+            return Err(EvaluationError::Fault(FaultKind::Depth));
         }
         let function = plan.callee(&call.name);
-        let target = self.receive_filler(alloc, plan, places, function, target)?;
+        let target = self.receive_placeholder(alloc, plan, slots, function, target)?;
         let (trail, path) = self.child_place(alloc, plan)?;
         let origin = Origin::Instance {
             function,
             args,
             path,
         };
-        let event = Event::Spawn(self.pedigree()?);
         self.rank += 1;
         self.top.spawned = true;
-        let spawned = SpawnedChild {
+        Ok(SpawnedChild {
             child: Child { origin, trail },
             height,
             target,
-        };
-        Ok(Spawning { event, spawned })
+        })
     }
 
-    /// The spawn that the statement is which the cursor has just passed. Where it is none, or meets a fault, nothing changes.
-    pub(crate) fn spawn_statement(
+    // The same, with its event, as a move.
+    pub(crate) fn spawn_move(
+        &mut self,
+        alloc: Global,
+        plan: &Plan,
+        slots: &[u16],
+        target: Option<&Name>,
+        call: &CallText,
+    ) -> Result<MoveResult, EvaluationError>
+        requires strand { IsStrand plan.now self.old }
+        requires finds { FindsSpawn plan.now slots.now self.old.top.env (option_copied target) call.now }
+        ensures shows { (st : Stmt) → Acts plan.now st (spawn_to (option_copied target.entry) call.now) self.old self.new result }
+        ensures child { IfOk result (MovesTrail plan.now) }
+        ensures stays { Stays self.old self.new }
+        ensures few { Costs self.old self.new }
+        ensures named { (plan : PlanView) → KeepsNames plan self.old self.new }
+    {
+        let event = Event::Spawn(self.pedigree()?);
+        let done = self.spawn(alloc, plan, slots, target, call);
+        spawn_as_move(alloc, event, done)
+    }
+
+    // The spawn that the cursor has just passed. Its event goes to the sink. Where the statement is another one, or
+    // meets a fault, nothing changes.
+    pub(crate) fn spawn_statement<S: EventSink>(
         &mut self,
         alloc: Global,
         plan: &Plan,
         statement: &Stmt,
-    ) -> Result<Option<Spawning>, Memory>
+        sink: &mut S,
+    ) -> Result<Option<SpawnedChild>, Memory>
         requires sound { IsInstance plan.now self.old }
         requires passed { HasPassedStatement plan.now self.old (Some statement.now) }
-        ensures did { IfOk result (HasSpawned plan.now self.old (Some statement.now) self.new) }
+        ensures did { IfOk result (HasSpawned S.after plan.now self.old sink.old (Some statement.now) self.new sink.new) }
         ensures child { IfOk result (SpawnsTrail plan.now) }
         ensures path { IfOk result (λ _. path_of self.new ≡ path_of self.old) }
         ensures sound { IfOk result (λ _. IsInstance plan.now self.new) }
@@ -104,22 +128,26 @@ impl InstanceParts {
             return Ok(None);
         }
         self.steps -= 1;
-        match self.spawn(alloc, plan, plan.places(), text.0, text.1) {
-            Ok(spawning) => Ok(Some(spawning)),
-            Err(Halt::Fault(_)) => {
+        let rank = self.rank;
+        match self.spawn(alloc, plan, plan.slots(), text.0, text.1) {
+            Ok(spawned) => {
+                sink.emit_at(alloc, &self.trail.path, rank, EventKind::Spawn)?;
+                Ok(Some(spawned))
+            }
+            Err(EvaluationError::Fault(_)) => {
                 self.steps += 1;
                 Ok(None)
             }
-            Err(Halt::Memory) => Err(Memory),
+            Err(EvaluationError::Memory) => Err(Memory),
         }
     }
 
-    /// A sync, written or implied.
-    pub(crate) fn sync(&mut self) -> Result<MoveResult, Halt>
+    // A sync, written or implied.
+    pub(crate) fn sync(&mut self) -> Result<MoveResult, EvaluationError>
         requires { self.old.rank < 2 ^ 32 }
         ensures effects { IfOk result (HasEffects (Emitted (event.Sync (present_of self.old ++ self.old.rank ∷ [])) ∷ sync_effects self.old.top.spawned)) }
         ensures passed { OnOk result (self.new ≡ record self.old { rank = self.old.rank + 1; top = record self.old.top { spawned = false } }) }
-        ensures fine { OnErr result (result ≡ Err halt.Memory) }
+        ensures fine { OnErr result (result ≡ Err error.Memory) }
         ensures child { (plan : PlanView) → IfOk result (MovesTrail plan) }
         ensures stays { Stays self.old self.new }
         ensures few { Costs self.old self.new }
@@ -135,33 +163,33 @@ impl InstanceParts {
         Ok(MoveResult::Went(Effects::Emitted(event)))
     }
 
-    /// A parallel loop.
+    // A parallel loop.
     pub(crate) fn pfor(
         &mut self,
         alloc: Global,
         plan: &Plan,
-        places: &[u16],
+        slots: &[u16],
         lo: &Expr,
         hi: &Expr,
         target: &Option<Name>,
         call: &CallText,
-    ) -> Result<MoveResult, Halt>
+    ) -> Result<MoveResult, EvaluationError>
         requires strand { IsStrand plan.now self.old }
         requires steps { self.old.steps < 2 ^ 32 }
-        requires finds { FindsLoop plan.now places.now self.old.top.env lo.now hi.now target.now call.now }
+        requires finds { FindsLoop plan.now slots.now self.old.top.env lo.now hi.now target.now call.now }
         ensures shows { (st : Stmt) (var : _) → Acts plan.now st (act.Pfor var lo.now hi.now target.now call.now) self.old self.new result }
         ensures child { IfOk result (MovesTrail plan.now) }
         ensures stays { Stays self.old self.new }
         ensures few { Costs self.old self.new }
         ensures named { (plan : PlanView) → KeepsNames plan self.old self.new }
     {
-        let first = number(&self.top.env.value(places, lo)?);
-        let end = number(&self.top.env.value(places, hi)?);
-        let rest = self.top.env.values(alloc, places, call.args.as_slice())?;
+        let first = number(&self.top.env.value(slots, lo)?);
+        let end = number(&self.top.env.value(slots, hi)?);
+        let rest = self.top.env.values(alloc, slots, call.args.as_slice())?;
         let count = iteration_count(first, end);
-        self.begin_loop(plan, places, target, count)?;
+        self.begin_loop(plan, slots, target, count)?;
         if count == 0 {
-            return Ok(MoveResult::Went(self.pass_loop(alloc, places, target)?));
+            return Ok(MoveResult::Went(self.pass_loop(alloc, slots, target)?));
         }
         let function = plan.callee(&call.name);
         let (trail, path) = self.child_place(alloc, plan)?;
@@ -174,18 +202,19 @@ impl InstanceParts {
             range,
         };
         let child = Child { origin, trail };
-        Ok(MoveResult::Went(self.hand_loop(alloc, places, target, child)?))
+        Ok(MoveResult::Went(self.loop_effect(alloc, slots, target, child)?))
     }
 
-    /// The steps of a loop of so many iteration_count, the room of its target, and the depth of its iteration_count.
+    // Checks and pays what a loop of `count` iterations needs: its steps, an item of its target for each, and the
+    // depth of their pedigrees.
     fn begin_loop(
         &mut self,
         plan: &Plan,
-        places: &[u16],
+        slots: &[u16],
         target: &Option<Name>,
         count: u64,
     ) -> Result<(), FaultKind>
-        requires { FindsTarget places.now self.old.top.env target.now }
+        requires { FindsTarget slots.now self.old.top.env target.now }
         ensures result { result ≡ loop_begins plan.now (present_of self.old) count target.now self.old.top.env.variables self.old.steps }
         ensures ok { OnOk result (self.new.steps + count ≡ self.old.steps) }
         ensures less { self.new.steps ≤ self.old.steps }
@@ -195,7 +224,7 @@ impl InstanceParts {
             return Err(FaultKind::Budget);
         }
         self.steps -= count;
-        if !self.top.env.has_room(places, target.as_ref(), count) {
+        if !self.top.env.has_room(slots, target.as_ref(), count) {
             return Err(FaultKind::Index);
         }
         if count != 0 && self.trail.path.len() + 2 >= plan.limits.depth as u64 {
@@ -204,37 +233,37 @@ impl InstanceParts {
         Ok(())
     }
 
-    /// A loop without an iteration.
+    // A loop without iterations.
     fn pass_loop(
         &mut self,
         alloc: Global,
-        places: &[u16],
+        slots: &[u16],
         target: &Option<Name>,
     ) -> Result<Effects, Memory>
         requires rank { self.old.rank < 2 ^ 32 }
-        requires target { FindsTarget places.now self.old.top.env target.now }
+        requires target { FindsTarget slots.now self.old.top.env target.now }
         ensures effects { IfOk result (λ s. s ≡ effect.Emitted (event.Loop (present_of self.old ++ self.old.rank ∷ []))) }
         ensures passed { OnOk result (self.new ≡ record self.old { rank = self.old.rank + 1; top = record self.old.top { env = with_variables self.old.top.env (with_loop_values target.now [] self.old.top.env.variables) } }) }
         ensures stays { Stays self.old self.new }
         ensures few { Costs self.old self.new }
         ensures named { (plan : PlanView) → KeepsNames plan self.old self.new }
     {
-        self.top.env.clear(alloc, places, target.as_ref());
+        self.top.env.clear(alloc, slots, target.as_ref());
         let event = Event::Loop(self.pedigree()?);
         self.rank += 1;
         Ok(Effects::Emitted(event))
     }
 
-    /// A loop of one iteration or more.
-    fn hand_loop(
+    // A loop of one iteration or more.
+    fn loop_effect(
         &mut self,
         alloc: Global,
-        places: &[u16],
+        slots: &[u16],
         target: &Option<Name>,
         child: Child,
     ) -> Result<Effects, Memory>
         requires rank { self.old.rank < 2 ^ 32 }
-        requires target { FindsTarget places.now self.old.top.env target.now }
+        requires target { FindsTarget slots.now self.old.top.env target.now }
         ensures effects { IfOk result (λ s. s ≡ effect.Looped (event.Loop (present_of self.old ++ self.old.rank ∷ [])) (record { child = child; target = target.now })) }
         ensures passed { OnOk result (self.new ≡ record self.old { rank = self.old.rank + 1; top = record self.old.top { env = with_variables self.old.top.env (with_loop_values target.now [] self.old.top.env.variables) } }) }
         ensures stays { Stays self.old self.new }
@@ -249,13 +278,13 @@ impl InstanceParts {
                 target: into,
             },
         )?;
-        self.top.env.clear(alloc, places, target.as_ref());
+        self.top.env.clear(alloc, slots, target.as_ref());
         let event = Event::Loop(self.pedigree()?);
         self.rank += 1;
         Ok(Effects::Looped { event, looped })
     }
 
-    /// The trail of a child of this strand, and its path, over the same memory.
+    // The trail of a child of this strand, and its path, which shares the trail's memory.
     #[inline(always)]
     pub(crate) fn child_place(&self, alloc: Global, plan: &Plan) -> Result<(Trail, Ped), Memory>
         requires fits { FitsGamma plan.now.gamma self.now.trail }
@@ -270,31 +299,31 @@ impl InstanceParts {
         Ok((trail, path))
     }
 
-    /// A spawn's target, which receives what stands for the value of a child of this function.
+    // Puts the placeholder for the value of a child of this function into a spawn's target.
     #[inline(always)]
-    fn receive_filler(
+    fn receive_placeholder(
         &mut self,
         alloc: Global,
         plan: &Plan,
-        places: &[u16],
+        slots: &[u16],
         function: u32,
         target: Option<&Name>,
     ) -> Result<Option<Target>, Memory>
-        requires { FindsTarget places.now self.old.top.env (option_copied target) }
+        requires { FindsTarget slots.now self.old.top.env (option_copied target) }
         ensures to { IfOk result (λ to. to ≡ option_copied target.entry) }
         ensures names { self.new.top.env.names ≡ self.old.top.env.names }
-        ensures env { OnOk result (self.new.top.env ≡ with_variables self.old.top.env (with_scalar (option_copied target.entry) (answer_filler (function_at (functions_of plan.now) function)) self.old.top.env.variables)) }
+        ensures env { OnOk result (self.new.top.env ≡ with_variables self.old.top.env (with_scalar (option_copied target.entry) (answer_placeholder (function_at (functions_of plan.now) function)) self.old.top.env.variables)) }
         ensures others { self.new ≡ record self.old { top = record self.old.top { env = self.new.top.env } } }
     {
-        let instead = filler(alloc, plan, function)?;
+        let instead = placeholder(alloc, plan, function)?;
         if let Some(x) = target {
-            self.top.env.set_scalar(places, x, instead);
+            self.top.env.set_scalar(slots, x, instead);
         }
         Ok(target_of(target))
     }
 }
 
-/// The variable and the call of a spawn, and nothing of another statement.
+// The variable and the call of a spawn. None for other statements.
 fn spawn_in<'a>(statement: &'a Stmt) -> Option<(Option<&'a Name>, &'a CallText)>
     ensures does { IfSome result (λ text. DoesAs statement.now (option_copied text.0) text.1.now) }
     ensures every { (is calls : Name → Bool) → every_in_statement is calls statement.now ≡ true → IfSome result (λ text. EveryInSpawn is calls (option_copied text.0) text.1.now) }
@@ -313,23 +342,24 @@ fn spawn_in<'a>(statement: &'a Stmt) -> Option<(Option<&'a Name>, &'a CallText)>
     }
 }
 
-/// A spawn, as a move.
-pub(crate) fn spawn_as_move(alloc: Global, done: Result<Spawning, Halt>) -> Result<MoveResult, Halt>
-    ensures { IsHanded done result }
+// A spawn that showed this event, as a move.
+fn spawn_as_move(
+    alloc: Global,
+    event: Event,
+    done: Result<SpawnedChild, EvaluationError>,
+) -> Result<MoveResult, EvaluationError>
+    ensures { IsBoxedSpawn event done result }
 {
     match done {
-        Ok(Spawning { event, spawned }) => {
-            let (event, spawned) = match boxed(alloc, spawned) {
-                Ok(spawned) => (event, spawned),
-                Err(_) => return Err(Halt::Memory),
-            };
-            Ok(MoveResult::Went(Effects::Spawned { event, spawned }))
-        }
-        Err(halt) => Err(halt),
+        Ok(spawned) => match boxed(alloc, spawned) {
+            Ok(spawned) => Ok(MoveResult::Went(Effects::Spawned { event, spawned })),
+            Err(_) => Err(EvaluationError::Memory),
+        },
+        Err(error) => Err(error),
     }
 }
 
-/// It in a box, so that what a move shows stays small.
+// Boxes a value, so that `Effects` stays small.
 fn boxed<T: Drop>(alloc: Global, it: T) -> Result<Boxed<T>, Memory>
     ensures { IfOk result (λ box. box ≡ it) }
 {
@@ -342,9 +372,9 @@ fn boxed<T: Drop>(alloc: Global, it: T) -> Result<Boxed<T>, Memory>
     }
 }
 
-/// What stands for the value of a child of this function.
-fn filler(alloc: Global, plan: &Plan, function: u32) -> Result<Value, Memory>
-    ensures { IfOk result (λ v. v ≡ answer_filler (function_at (functions_of plan.now) function)) }
+// The placeholder for the value of a child of this function.
+fn placeholder(alloc: Global, plan: &Plan, function: u32) -> Result<Value, Memory>
+    ensures { IfOk result (λ v. v ≡ answer_placeholder (function_at (functions_of plan.now) function)) }
 {
     match function_in(plan, function) {
         Some(f) => match f.answer {

@@ -1,11 +1,11 @@
-// Places in a block: a function's body, or that of a scope.
+// Positions in a block: a function's body, or a scope's block.
 
 ghost use Rattle.std.specs.Prelude.{◌≡◌, ◌<◌, length, false, List, [], ◌∷◌, ◌++◌, IfOk, MatchOption, if◌then◌else◌};
 ghost use Rattle.std.specs.Option.{option_copied};
 ghost use Rattle.script_grammar.specs.declared.tree.Stmt.{Stmt, out-Stmt};
 ghost use Rattle.script_grammar.specs.declared.tree.Act.{out-Act};
 ghost use Rattle.strand_moves.specs.declared.cursor.Branch.TheVariants as branch;
-ghost use Rattle.strand_moves.specs.Quick.{is_fork};
+ghost use Rattle.strand_moves.specs.FastPath.{is_fork};
 ghost use Rattle.strand_moves.specs.Cursors.{branch_of, block_in, block_of, IsAround, statements_left, scope_after, scope_of, IsAfterStatement, PassesStatement};
 
 use crate::memory::Memory;
@@ -14,7 +14,7 @@ use script_grammar::{Act, Expr, Stmt};
 use smallvec::SmallVec;
 use std::alloc::Global;
 
-/// A block of a statement: one of the two of an `if`, or a loop's body.
+// A block of a statement: one of the two of an `if`, or a loop's body.
 #[derive(Clone, Copy, Debug, Default, PartialEq, Eq)]
 pub(crate) enum Branch {
     #[default]
@@ -23,22 +23,22 @@ pub(crate) enum Branch {
     LoopBody,
 }
 
-/// A block that was entered, and the index at which the enclosing block goes on: at a loop itself, and after an `if`.
+// A block that was entered, and the index at which the enclosing block goes on: at a loop itself, and after an `if`.
 #[derive(Clone, Copy, Debug, Default, PartialEq, Eq)]
 pub(crate) struct Entered {
     pub(crate) branch: Branch,
     pub(crate) back: u32,
 }
 
-/// A place in a function's body, or in a scope's block: the blocks that were entered, the outermost first, of which two take no memory, and the index in the
-/// innermost block.
+// A position in a function's body or a scope's block: the blocks that were entered, the outermost first, two of them
+// without memory, and the index in the innermost one.
 #[derive(Drop)]
 pub(crate) struct Cursor {
     pub(crate) entered: SmallVec<Entered, 2>,
     pub(crate) next: usize,
 }
 
-/// A block of a statement, and no statements where it has no such block.
+// A statement's block; empty where it has no such block.
 fn branch_in<'a>(statement: &'a Stmt, branch: Branch) -> &'a [Stmt]
     ensures { result.now ≡ branch_of (out-Act (out-Stmt statement.now).act) branch }
 {
@@ -56,7 +56,7 @@ fn branch_in<'a>(statement: &'a Stmt, branch: Branch) -> &'a [Stmt]
     }
 }
 
-/// Whether a statement may enter a block: it is an `if` or a `while`.
+// Whether a statement may enter a block: it is an `if` or a `while`.
 pub(crate) fn is_fork(statement: &Stmt) -> bool
     ensures { result ≡ is_fork (out-Act (out-Stmt statement.now).act) }
 {
@@ -66,7 +66,7 @@ pub(crate) fn is_fork(statement: &Stmt) -> bool
     }
 }
 
-/// A scope's block, and no statements where the statement is no scope.
+// A scope's block; empty where the statement isn't a scope.
 fn scope_in<'a>(statement: &'a Stmt) -> &'a [Stmt]
     ensures { result.now ≡ scope_of (out-Act (out-Stmt statement.now).act) }
 {
@@ -76,7 +76,7 @@ fn scope_in<'a>(statement: &'a Stmt) -> &'a [Stmt]
     }
 }
 
-/// The block that was entered from this one.
+// The block that was entered from this one.
 fn block_in<'a>(block: &'a [Stmt], entered: Entered) -> &'a [Stmt]
     ensures { result.now ≡ block_in block.now entered }
 {
@@ -90,7 +90,7 @@ fn block_in<'a>(block: &'a [Stmt], entered: Entered) -> &'a [Stmt]
     }
 }
 
-/// The innermost block.
+// The innermost block.
 fn innermost<'a>(body: &'a [Stmt], entered: &[Entered]) -> &'a [Stmt]
     ensures { result.now ≡ block_of body.now entered.now }
 {
@@ -102,7 +102,7 @@ fn innermost<'a>(body: &'a [Stmt], entered: &[Entered]) -> &'a [Stmt]
 }
 
 impl Cursor {
-    /// Before a body's first statement.
+    // Before a body's first statement.
     pub(crate) fn new(alloc: Global) -> Cursor
         ensures { (body : List Stmt) → statements_left body result ≡ body }
     {
@@ -112,14 +112,14 @@ impl Cursor {
         }
     }
 
-    /// The innermost block of this body.
+    // The innermost block of this body.
     pub(crate) fn block<'a>(&self, body: &'a [Stmt]) -> &'a [Stmt]
         ensures { result.now ≡ block_of body.now self.now.entered.items }
     {
         innermost(body, self.entered.as_slice())
     }
 
-    /// The same, and the condition of the loop whose body it is, if it is one.
+    // The same, with the condition of the loop if the block is a loop's body.
     #[inline(always)]
     pub(crate) fn loop_around<'a>(&self, body: &'a [Stmt]) -> (&'a [Stmt], Option<&'a Expr>)
         ensures block { result.0.now ≡ block_of body.now self.now.entered.items }
@@ -139,7 +139,7 @@ impl Cursor {
         (block_in(block, *last), None)
     }
 
-    /// Goes after the next statement of this body, and gives it.
+    // Moves past the next statement of this body, and returns it.
     pub(crate) fn pass_next<'a>(&mut self, body: &'a [Stmt]) -> Option<&'a Stmt>
         ensures { MatchOption result ((statements_left body.now self.old ≡ []) × (statements_left body.now self.new ≡ [])) (λ st. PassesStatement body.now self.old self.new st.now) }
     {
@@ -150,7 +150,7 @@ impl Cursor {
         }
     }
 
-    /// The same where the innermost block is at hand. It gives the one in which it then stands, too.
+    // The same where the caller has the innermost block. Also returns the block in which the cursor then is.
     #[inline(always)]
     pub(crate) fn pass_in<'a>(
         &mut self,
@@ -171,7 +171,7 @@ impl Cursor {
         self.pass_statement(body, block)
     }
 
-    /// The same, also where no statement of that block is left.
+    // The same, also where that block has no statement left.
     #[inline(always)]
     fn pass_statement<'a>(
         &mut self,
@@ -195,7 +195,7 @@ impl Cursor {
         }
     }
 
-    /// The block of the scope after which the cursor stands, and no statements where it stands after none.
+    // The block of the scope that the cursor has just passed; empty where it passed none.
     pub(crate) fn scope_block<'a>(&self, body: &'a [Stmt]) -> &'a [Stmt]
         ensures { result.now ≡ scope_after body.now self.now }
     {
@@ -206,14 +206,14 @@ impl Cursor {
         }
     }
 
-    /// Goes back before the statement after which the cursor stands.
+    // Moves back before the statement that it has just passed.
     pub(crate) fn back(&mut self)
         ensures { (body : List Stmt) (st : Stmt) → IsAfterStatement body self.old st → statements_left body self.new ≡ st ∷ statements_left body self.old }
     {
         self.next = self.next.saturating_sub(1);
     }
 
-    /// Enters a block of the `if` after which the cursor stands.
+    // Enters a block of the `if` that it has just passed.
     pub(crate) fn enter(&mut self, yes: bool) -> Result<(), Memory>
         ensures { IfOk result (λ _. (body : List Stmt) (st : Stmt) → IsAfterStatement body self.old st →
             statements_left body self.new ≡ branch_of (out-Act (out-Stmt st).act) (if yes then branch.Yes else branch.No) ++ statements_left body self.old) }
@@ -227,7 +227,7 @@ impl Cursor {
         Ok(())
     }
 
-    /// Enters the body of the loop after which the cursor stands. The loop is left again after it.
+    // Enters the body of the loop that it has just passed. After the body it is before the loop again.
     pub(crate) fn enter_loop(&mut self) -> Result<(), Memory>
         ensures { IfOk result (λ _. (body : List Stmt) (st : Stmt) → IsAfterStatement body self.old st →
             statements_left body self.new ≡ branch_of (out-Act (out-Stmt st).act) branch.LoopBody ++ (st ∷ statements_left body self.old)) }

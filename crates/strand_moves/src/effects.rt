@@ -1,10 +1,10 @@
+use contract_views::Boxed;
 use dotmix::Trail;
 use ped_path::{Ped, Pedigree};
-use script_grammar::Boxed;
 use serial_meaning::{Event, Fault, Origin, Value};
 use strand_values::Target;
 
-/// A child that is handed out: what it is begun as, and the trail of its path.
+/// A child to begin: its origin, and the trail of its path.
 #[derive(Drop)]
 pub struct Child {
     /// An instance, or the iterations of a loop.
@@ -21,14 +21,7 @@ pub struct SpawnedChild {
     pub target: Option<Target>,
 }
 
-/// The spawn of a child: its event, and then the child.
-#[derive(Drop)]
-pub struct Spawning {
-    pub event: Event,
-    pub spawned: SpawnedChild,
-}
-
-/// A loop that was handed out. Its values go to the array `target`, if any, of the innermost frame.
+/// A loop to begin. Its values go to the array `target`, if any, of the innermost frame.
 #[derive(Drop)]
 pub struct LoopedChild {
     pub child: Child,
@@ -41,11 +34,11 @@ pub enum Effects {
     Nothing,
     /// An event, and nothing after it.
     Emitted(Event),
-    /// A scope was begun, whose path this is: the strand that began it has the same ranks.
+    /// A scope with this path was begun; the strand that began it has the same ranks as its pedigree.
     Opened(Ped),
     /// The scope that this strand began has ended.
     Closed(Pedigree),
-    /// A child was spawned. It stands in a box with where its value goes, so that what a move shows stays small.
+    /// A child was spawned. It is boxed with where its value goes, so that this type stays small.
     Spawned {
         event: Event,
         spawned: Boxed<SpawnedChild>,

@@ -11,14 +11,14 @@ use std::alloc::Global;
 
 /// Where the events of moves go, one by one.
 pub trait EventSink {
-    /// What it is after one event more.
+    /// The sink after one more event.
     ghost after: { Event → Self → Self };
 
-    /// Takes one event more.
+    /// Takes one more event.
     fn emit(&mut self, alloc: Global, event: Event) -> Result<(), Memory>
         ensures { OnOk result (self.new ≡ after event self.old) };
 
-    /// Takes the event of this kind whose pedigree is this rank on this path, so that nobody makes it who doesn't keep it.
+    /// Takes the event of this kind whose pedigree is this path and rank. A sink that doesn't keep it never makes it.
     fn emit_at(
         &mut self,
         alloc: Global,

@@ -13,39 +13,39 @@ use serial_meaning::{Fault, Plan};
 use std::alloc::Global;
 use strand_values::{Environment, Target};
 
-/// A scope that is open.
+// An open scope.
 #[derive(Drop)]
 pub(crate) struct Level {
-    /// The trail of the path around it.
+    // The trail of the path around it.
     pub(crate) trail: Trail,
-    /// The rank of the strand that came to it.
+    // The rank of the strand that began it.
     pub(crate) rank: u64,
-    /// The place after it in the block around it.
+    // The position after it in the block around it.
     pub(crate) cursor: Cursor,
 }
 
-/// A function that was begun.
+// A function under way.
 #[derive(Drop)]
 pub(crate) struct Frame {
-    /// Its place in the script.
+    // Its function's index in the script.
     pub(crate) function: u32,
-    /// Whether its return is paid, and the sync that this implies is after it.
+    // Whether its return is paid, and the sync that this implies is past.
     pub(crate) returning: bool,
-    /// Whether it spawned since its last sync.
+    // Whether it spawned since its last sync.
     pub(crate) spawned: bool,
-    /// Its open scopes, the outermost first.
+    // Its open scopes, the outermost first.
     pub(crate) levels: Vec<Level>,
-    /// The place in the innermost one, or in the function's body.
+    // The position in the innermost scope, or in the function's body.
     pub(crate) cursor: Cursor,
     pub(crate) env: Environment,
-    /// The least fault among the answers of its children since its last sync that were taken.
+    // The least fault among the answers taken from its children since its last sync.
     pub(crate) faulted: Option<Fault>,
-    /// The variable of the frame below that its value goes to.
+    // The variable of the frame below that takes its value.
     pub(crate) target: Option<Target>,
 }
 
 impl Frame {
-    /// A function with these variables before its first statement.
+    // A function with these variables before its first statement.
     pub(crate) fn new(alloc: Global, number: u32, env: Environment, target: Option<Target>) -> Frame
         ensures { IsCallee number env target result }
     {
@@ -61,7 +61,7 @@ impl Frame {
         }
     }
 
-    /// The statements among which its cursor stands: its function's body, or the block of its innermost open scope.
+    // The statements that its cursor is in: its function's body, or the block of its innermost open scope.
     #[inline(always)]
     pub(crate) fn statements<'a>(&self, plan: &'a Plan) -> &'a [Stmt]
         ensures { result.now ≡ statements_of plan.now self.now }
@@ -70,7 +70,7 @@ impl Frame {
     }
 }
 
-/// The block of the innermost of these scopes, which are open in a function of this body.
+// The block of the innermost of these scopes, which are open in a function of this body.
 #[inline(always)]
 fn block_inside<'a>(body: &'a [Stmt], levels: &[Level]) -> &'a [Stmt]
     ensures { result.now ≡ block_inside body.now (reverse levels.now) }
@@ -82,7 +82,7 @@ fn block_inside<'a>(body: &'a [Stmt], levels: &[Level]) -> &'a [Stmt]
     block
 }
 
-/// The statements of the function at this place, and none where there is no function.
+// The statements of the function with this index; empty where there is none.
 pub(crate) fn body(plan: &Plan, function: u32) -> &[Stmt]
     ensures { result.now ≡ body_of plan.now function }
 {
@@ -92,7 +92,7 @@ pub(crate) fn body(plan: &Plan, function: u32) -> &[Stmt]
     }
 }
 
-/// The variable of this name, if there is one.
+// The target with this name, if there is one.
 pub(crate) fn target_of(name: Option<&Name>) -> Option<Target>
     ensures { result ≡ option_copied name.entry }
 {

@@ -8,7 +8,7 @@ ghost use Rattle.strand_meaning.specs.Machine.{Stands, function_begun, move};
 ghost use Rattle.strand_meaning.specs.Found.{FindsAt, FindsInnermost, functions_in};
 ghost use Rattle.strand_meaning.specs.Task.{frame_with_answer, changed, with_values};
 
-use crate::effects::{MoveResult, Spawning};
+use crate::effects::{MoveResult, SpawnedChild};
 use crate::event_sink::EventSink;
 use crate::frame::Frame;
 use crate::instance_parts::InstanceParts;
@@ -19,7 +19,7 @@ use serial_meaning::{Fault, Plan, Value};
 use std::alloc::Global;
 use strand_values::Target;
 
-/// An instance that is running. It stands in a box, since the tasks above are moved again and again.
+/// An instance that is running. It is boxed, since the tasks that hold it are moved often.
 #[derive(Drop)]
 pub struct Instance {
     pub(crate) parts: Box<InstanceParts>,
@@ -30,7 +30,7 @@ impl Instance {
     ghost use Rattle.strand_moves.specs.Moves.{run_of, MovesTrail};
     ghost use Rattle.strand_moves.specs.Spawns.{SpawnsTrail};
 
-    /// An instance of the function at this place in the script, before its first move.
+    /// An instance of the function with this index, before its first move.
     #[inline(always)]
     pub fn new(
         alloc: Global,
@@ -50,7 +50,7 @@ impl Instance {
         Ok(Instance { parts })
     }
 
-    /// One move. Where there was no memory for it the instance is of no more use.
+    /// One move. After `Memory` the instance must not be used any more.
     pub fn make_move(&mut self, alloc: Global, plan: &Plan) -> Result<MoveResult, Memory>
         requires { IsInstance plan.now self.old }
         ensures moves { IfOk result (λ move_result. move plan.now (path_of self.old) (machine_of plan.now self.old) ≡ run_of move_result (machine_of plan.now self.new)) }
@@ -63,7 +63,7 @@ impl Instance {
 
     /// Moves in a row that show nothing or an event, which the sink takes. The answer is the statement whose move is next, if one is left, for
     /// `spawn` or `make`. Where there was no memory for one the instance is of no more use.
-    pub fn row<'a, S: EventSink>(
+    pub fn straight_run<'a, S: EventSink>(
         &mut self,
         alloc: Global,
         plan: &'a Plan,
@@ -72,27 +72,29 @@ impl Instance {
         requires { IsInstance plan.now self.old }
         ensures { IfOk result (λ next. ComesToStatement S.after plan.now self.old sink.old self.new sink.new (option_copied next)) }
     {
-        self.parts.row(alloc, plan, sink)
+        self.parts.straight_run(alloc, plan, sink)
     }
 
-    /// The move that is next, where it is the spawn of a child. Otherwise, or where it meets a fault, nothing changes.
-    pub fn spawn(
+    /// The next move, where it is the spawn of a child. Its event goes to the sink. Otherwise, or where it meets a
+    /// fault, nothing changes.
+    pub fn spawn<S: EventSink>(
         &mut self,
         alloc: Global,
         plan: &Plan,
         statement: &Stmt,
-    ) -> Result<Option<Spawning>, Memory>
+        sink: &mut S,
+    ) -> Result<Option<SpawnedChild>, Memory>
         requires sound { IsInstance plan.now self.old }
         requires passed { HasPassedStatement plan.now self.old (Some statement.now) }
-        ensures did { IfOk result (HasSpawned plan.now self.old (Some statement.now) self.new) }
+        ensures did { IfOk result (HasSpawned S.after plan.now self.old sink.old (Some statement.now) self.new sink.new) }
         ensures child { IfOk result (SpawnsTrail plan.now) }
         ensures path { IfOk result (λ _. path_of self.new ≡ path_of self.old) }
         ensures sound { IfOk result (λ _. IsInstance plan.now self.new) }
     {
-        self.parts.spawn_statement(alloc, plan, statement)
+        self.parts.spawn_statement(alloc, plan, statement, sink)
     }
 
-    /// The move that is next. Where there was no memory for it the instance is of no more use.
+    /// The next move. After `Memory` the instance must not be used any more.
     pub fn make(
         &mut self,
         alloc: Global,
@@ -109,7 +111,7 @@ impl Instance {
         self.parts.make(alloc, plan, next)
     }
 
-    /// It has ended. It is taken apart here, since to drop it by its box copies its frame twice.
+    /// Drops an instance that has ended. It is taken apart, since dropping its box would copy its frame twice.
     #[inline(always)]
     pub fn discard(self) {
         let InstanceParts {
@@ -139,7 +141,8 @@ impl Instance {
         self.parts.receive_fault(height, fault);
     }
 
-    /// Takes the value of a child of the frame with `height` others below it. A variable that isn't there doesn't come to be.
+    /// Takes the value of a child of the frame with `height` others below it. Where that frame has no such variable,
+    /// nothing changes.
     pub fn receive_value(
         &mut self,
         plan: &Plan,

@@ -14,20 +14,20 @@ use ped_path::Pedigree;
 use script_grammar::Stmt;
 use serial_meaning::{Fault, FaultKind, Plan, Value};
 use std::alloc::Global;
-use strand_values::{Environment, Halt};
+use strand_values::{Environment, EvaluationError};
 
-/// What stands in an instance's box: its present path, its rank and the steps that it has left, and its frames.
+// The content of an instance's box: its present path, its rank, the steps that it has left, and its frames.
 #[derive(Drop)]
 pub(crate) struct InstanceParts {
-    /// The trail of the present path: the instance's own, and then the ranks of the open scopes.
+    // The trail of the present path: the instance's own, and then the ranks of the open scopes.
     pub(crate) trail: Trail,
     pub(crate) rank: u64,
     pub(crate) steps: u64,
-    /// Whether the sync at the end of the innermost open scope is after it.
+    // Whether the sync at the end of the innermost open scope is past.
     pub(crate) leaving: bool,
-    /// The innermost frame.
+    // The innermost frame.
     pub(crate) top: Frame,
-    /// The others, which are its open calls, the outermost first.
+    // The others, which are its open calls, the outermost first.
     pub(crate) below: Vec<Frame>,
 }
 
@@ -35,9 +35,9 @@ impl InstanceParts {
     ghost use Rattle.strand_moves.specs.Acts.{KeepsInstance};
     ghost use Rattle.strand_moves.specs.InstanceParts.{IsInstance, machine_of, path_of, present_of};
     ghost use Rattle.strand_moves.specs.Moves.{run_of, Makes, MovesTrail, present_pedigree};
-    ghost use Rattle.strand_moves.specs.Rows.{HasPassedStatement, unpassed};
+    ghost use Rattle.strand_moves.specs.StraightRuns.{HasPassedStatement, unpassed};
 
-    /// An instance of the function at this place in the script, before its first move.
+    /// An instance of the function with this index, before its first move.
     #[inline(always)]
     pub fn new(
         alloc: Global,
@@ -57,8 +57,8 @@ impl InstanceParts {
         let Some(names) = plan.names(function) else {
             unreachable!()
         };
-        // its contract tells that no two parameters have one name
-        plan.places();
+        // its contract says that no two parameters have the same name
+        plan.slots();
         let env = Environment::bound(alloc, names, f.params.as_slice(), args)?;
         let parts = InstanceParts {
             trail,
@@ -77,7 +77,7 @@ impl InstanceParts {
         }
     }
 
-    /// One move. Where there was no memory for it the instance is of no more use.
+    /// One move. After `Memory` the instance must not be used any more.
     pub fn make_move(&mut self, alloc: Global, plan: &Plan) -> Result<MoveResult, Memory>
         requires { IsInstance plan.now self.old }
         ensures moves { IfOk result (λ move_result. move plan.now (path_of self.old) (machine_of plan.now self.old) ≡ run_of move_result (machine_of plan.now self.new)) }
@@ -92,7 +92,7 @@ impl InstanceParts {
         }
     }
 
-    /// The move of a statement that the cursor has just passed, or where none was left.
+    // The move of a statement that the cursor has just passed, or where none was left.
     #[inline(always)]
     pub(crate) fn make(
         &mut self,
@@ -110,17 +110,22 @@ impl InstanceParts {
         let rank = self.rank;
         match self.act(alloc, plan, next) {
             Ok(move_result) => Ok(move_result),
-            Err(Halt::Fault(kind)) => {
+            Err(EvaluationError::Fault(kind)) => {
                 let path = self.trail.path.share()?;
                 let at = Pedigree { path, rank };
                 Ok(MoveResult::Faulted(Fault { kind, at }))
             }
-            Err(Halt::Memory) => Err(Memory),
+            Err(EvaluationError::Memory) => Err(Memory),
         }
     }
 
-    /// The same, or the kind of the fault by which it ends.
-    fn act(&mut self, alloc: Global, plan: &Plan, next: Option<&Stmt>) -> Result<MoveResult, Halt>
+    // The same, with a fault as its kind alone.
+    fn act(
+        &mut self,
+        alloc: Global,
+        plan: &Plan,
+        next: Option<&Stmt>,
+    ) -> Result<MoveResult, EvaluationError>
         requires sound { IsInstance plan.now self.old }
         requires passed { HasPassedStatement plan.now self.old (option_copied next) }
         ensures moves { Makes (move plan.now (path_of self.old) (unpassed plan.now self.old (option_copied next.entry))) (present_pedigree (present_of self.old) (machine_of plan.now self.old)) (machine_of plan.now self.new) result }
@@ -128,12 +133,12 @@ impl InstanceParts {
         ensures keeps { KeepsInstance plan.now self.old self.new result }
     {
         match next {
-            Some(statement) => self.statement(alloc, plan, plan.places(), statement),
+            Some(statement) => self.statement(alloc, plan, plan.slots(), statement),
             None => self.end_block(plan),
         }
     }
 
-    /// Pays a step.
+    // Pays a step.
     pub(crate) fn pay(&mut self) -> Result<(), FaultKind>
         ensures ok { OnOk result (self.new ≡ record self.old { steps = self.new.steps }) }
         ensures paid { OnOk result (self.new.steps + 1 ≡ self.old.steps) }
@@ -146,7 +151,7 @@ impl InstanceParts {
         Ok(())
     }
 
-    /// The pedigree of the strand.
+    // The pedigree of the present strand.
     pub(crate) fn pedigree(&self) -> Result<Pedigree, Memory>
         requires { self.now.rank < 2 ^ 32 }
         ensures { IfOk result (λ j. j ≡ present_of self.now ++ self.now.rank ∷ []) }

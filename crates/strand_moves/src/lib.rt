@@ -1,6 +1,6 @@
 //! One move of an instance of a running script.
 //!
-//! What a move is, is defined in `strand_meaning`; the contracts here are its words. An instance is a stack of frames over the
+//! `strand_meaning` defines what a move is; the contracts here use its words. An instance is a stack of frames over the
 //! plan's tree: nothing of the tree is copied.
 #![tactic(auto)]
 
@@ -10,19 +10,19 @@ mod children;
 mod cursor;
 mod effects;
 mod event_sink;
+mod fast_path;
 mod frame;
 mod instance;
 mod instance_parts;
 mod memory;
 mod narrow;
 mod place;
-mod plain_row;
-mod quick;
+mod plain_run;
 mod right;
 mod scopes;
 mod statement;
 
-pub use effects::{Child, Effects, LoopedChild, MoveResult, SpawnedChild, Spawning};
+pub use effects::{Child, Effects, LoopedChild, MoveResult, SpawnedChild};
 pub use event_sink::EventSink;
 pub use instance::Instance;
 pub use memory::Memory;
@@ -30,7 +30,7 @@ pub use place::Place;
 
 fn is_shared<T: Send + Sync>() {}
 
-/// An instance may be sent to other threads. The body asks for it, so that a field which forbids it fails the build.
+// An instance may be sent to other threads. A field that forbids it makes this fail to compile.
 fn all_are_shared() {
     is_shared::<Instance>();
     is_shared::<MoveResult>();

@@ -1,7 +1,7 @@
 ghost use Rattle.std.specs.Prelude.{◌≡◌};
 
 use std::alloc::{AllocError, AllocFailed};
-use strand_values::Halt;
+use strand_values::EvaluationError;
 
 /// There was no memory for the call.
 #[derive(Clone, Copy, Debug, PartialEq, Eq)]
@@ -13,7 +13,7 @@ impl From<AllocError> for Memory {
     }
 }
 
-/// The value that found no room is dropped.
+/// The value for which there was no memory is dropped.
 impl<T: Drop> From<AllocFailed<T>> for Memory {
     fn from(_: AllocFailed<T>) -> Self {
         Memory
@@ -44,12 +44,12 @@ impl From<strand_values::Memory> for Memory {
     }
 }
 
-impl From<Memory> for Halt {
-    ghost use Rattle.strand_values.specs.declared.halt.Halt.TheVariants as halt;
+impl From<Memory> for EvaluationError {
+    ghost use Rattle.strand_values.specs.declared.evaluation_error.EvaluationError.TheVariants as error;
 
-    ghost from_gives = { λ _ e. e ≡ halt.Memory };
+    ghost from_gives = { λ _ e. e ≡ error.Memory };
 
     fn from(_: Memory) -> Self {
-        Halt::Memory
+        EvaluationError::Memory
     }
 }

@@ -16,13 +16,13 @@ use std::alloc::Global;
 /// Where an instance stands in the script's text.
 #[derive(Clone, Copy, Debug, PartialEq, Eq)]
 pub struct Place {
-    /// The function of its innermost call, by its place in the script.
+    /// The function of its innermost call, by its index in the script.
     pub function: u32,
-    /// The offset of the statement that is next there, or of the word `return` where none is left.
+    /// The offset of its next statement, or of the word `return` where none is left.
     pub at: u32,
 }
 
-/// The offset of a function's word `return`.
+// The offset of a function's word `return`.
 fn return_at(plan: &Plan, function: u32) -> u32
     ensures { result ≡ return_of (function_at (functions_of plan.now) function) }
 {
@@ -36,7 +36,7 @@ impl InstanceParts {
     ghost use Rattle.strand_moves.specs.InstanceParts.{IsInstance, machine_of, path_of};
     ghost use Rattle.strand_moves.specs.Moves.{run_of, MovesTrail};
 
-    /// One move, and where the instance stood before it.
+    // One move, and where the instance stood before it.
     pub(crate) fn make_placed_move(
         &mut self,
         alloc: Global,

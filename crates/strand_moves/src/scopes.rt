@@ -1,4 +1,4 @@
-// Scopes: a block one level further, and the end of a block.
+// Scopes: a block one level deeper, and the end of a block.
 
 ghost use Rattle.std.specs.Prelude.{◌≡◌, ◌<◌, ◌+◌, ◌^◌, ◌++◌, ◌∷◌, [], false, true, List, Err, IfOk, OnErr, OnOk};
 ghost use Rattle.script_grammar.specs.declared.tree.Act.TheOpen as act;
@@ -8,8 +8,8 @@ ghost use Rattle.serial_meaning.specs.Plan.{PlanView};
 ghost use Rattle.serial_meaning.specs.declared.event.Event.TheVariants as event;
 ghost use Rattle.serial_meaning.specs.declared.event.FaultKind.{FaultKind};
 ghost use Rattle.strand_meaning.specs.Machine.{Emitted, end_move, sync_effects};
-ghost use Rattle.strand_values.specs.declared.halt.Halt.TheVariants as halt;
-ghost use Rattle.strand_values.specs.declared.halt.Halt.TheVariants.{Fault};
+ghost use Rattle.strand_values.specs.declared.evaluation_error.EvaluationError.TheVariants as error;
+ghost use Rattle.strand_values.specs.declared.evaluation_error.EvaluationError.TheVariants.{Fault};
 ghost use Rattle.strand_moves.specs.Acts.{Acts, GoesIn, KeepsInstance};
 ghost use Rattle.strand_moves.specs.Cursors.{IsAfterStatement, statements_left};
 ghost use Rattle.strand_moves.specs.InstanceParts.{IsInstance, IsStrand, KeepsNames, machine_of, path_of, present_of, statements_of};
@@ -26,11 +26,15 @@ use ped_path::Pedigree;
 use serial_meaning::{FaultKind, Plan};
 use std::alloc::Global;
 use std::mem;
-use strand_values::Halt;
+use strand_values::EvaluationError;
 
 impl InstanceParts {
-    /// A scope, after which the cursor stands: its block stands one level further, at rank 0.
-    pub(crate) fn scope(&mut self, alloc: Global, plan: &Plan) -> Result<MoveResult, Halt>
+    // A scope, which the cursor has just passed: its block is one level deeper, from rank 0 on.
+    pub(crate) fn scope(
+        &mut self,
+        alloc: Global,
+        plan: &Plan,
+    ) -> Result<MoveResult, EvaluationError>
         requires { IsStrand plan.now self.old }
         ensures shows { (st : Stmt) (block : List Stmt) → IsAfterStatement (statements_of plan.now self.old.top) self.old.top.cursor st →
             out-Act (out-Stmt st).act ≡ act.Scope block → Acts plan.now st (act.Scope block) self.old self.new result }
@@ -40,14 +44,14 @@ impl InstanceParts {
         ensures named { (plan : PlanView) → KeepsNames plan self.old self.new }
     {
         if self.trail.path.len() + 1 >= plan.limits.depth as u64 {
-            return Err(Halt::Fault(FaultKind::Depth));
+            return Err(EvaluationError::Fault(FaultKind::Depth));
         }
         let (inner, path) = self.child_place(alloc, plan)?;
         self.go_in(alloc, inner)?;
         Ok(MoveResult::Went(Effects::Opened(path)))
     }
 
-    /// Goes on at rank 0 in the block of the scope after which the cursor stands, on the path of this trail.
+    // Continues at rank 0 in the block of the scope that the cursor has just passed, on the path of this trail.
     fn go_in(&mut self, alloc: Global, inner: Trail) -> Result<(), Memory>
         ensures levels { OnOk result (self.new.top.levels.items ≡ self.old.top.levels.items ++ record { trail = self.old.trail; rank = self.old.rank; cursor = self.old.top.cursor } ∷ []) }
         ensures starts { (body : List Stmt) → statements_left body self.new.top.cursor ≡ body }
@@ -62,8 +66,8 @@ impl InstanceParts {
         Ok(())
     }
 
-    /// Where no statement is left in the innermost block: the end of a scope, or of the frame.
-    pub(crate) fn end_block(&mut self, plan: &Plan) -> Result<MoveResult, Halt>
+    // Where no statement is left in the innermost block: the end of a scope, or of the frame.
+    pub(crate) fn end_block(&mut self, plan: &Plan) -> Result<MoveResult, EvaluationError>
         requires instance { IsInstance plan.now self.old }
         requires none { statements_left (statements_of plan.now self.old.top) self.old.top.cursor ≡ [] }
         ensures shows { let m = machine_of plan.now self.old in
@@ -86,19 +90,19 @@ impl InstanceParts {
         self.return_step(plan)
     }
 
-    /// The sync at the end of the innermost scope.
-    fn join_scope(&mut self) -> Result<MoveResult, Halt>
+    // The sync at the end of the innermost scope.
+    fn join_scope(&mut self) -> Result<MoveResult, EvaluationError>
         requires { self.old.rank < 2 ^ 32 }
         ensures effects { IfOk result (HasEffects (Emitted (event.Sync (present_of self.old ++ self.old.rank ∷ [])) ∷ sync_effects self.old.top.spawned)) }
         ensures passed { OnOk result (self.new ≡ record self.old { rank = self.old.rank + 1; leaving = true; top = record self.old.top { spawned = false } }) }
-        ensures fine { OnErr result (result ≡ Err halt.Memory) }
+        ensures fine { OnErr result (result ≡ Err error.Memory) }
         ensures child { (plan : PlanView) → IfOk result (MovesTrail plan) }
     {
         self.leaving = true;
         self.sync()
     }
 
-    /// Goes on after this scope, at the next rank of the path around it.
+    // Continues after this scope, at the next rank of the path around it.
     fn go_out(&mut self, level: Level) -> Result<Effects, Memory>
         requires { level.rank < 2 ^ 32 }
         ensures effects { IfOk result (λ s. s ≡ effect.Closed (level.trail.path ++ level.rank ∷ [])) }

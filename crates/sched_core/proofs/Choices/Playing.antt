@@ -6,6 +6,7 @@ use Rattle.rand_xoshiro.specs.SplitMix64.{mix_u64}
 use Rattle.serial_meaning.specs.Answer.{AnswerView}
 use Rattle.serial_meaning.specs.Eval.{main_origin}
 use Rattle.serial_meaning.specs.Plan.{PlanView}
+use Rattle.strand_machine.specs.Links.{detached}
 use Rattle.strand_machine.specs.Tasks.{fresh}
 use Rattle.sched_meaning.specs.Core as machine
 use Rattle.sched_meaning.specs.Simulation.{choices, picked, picked_of, Simulates, IsSimWorker}
@@ -140,7 +141,7 @@ starts plan workers number words s b t some few small first = record {
   consistent = t;
   root = b.root;
   plan_is = b.plan_is;
-  few = let e : length s.workers.items ≡ workers = ap length b.hired ∙ hired-many (fresh plan (main_origin plan)) workers some in omega arith;
+  few = let e : length s.workers.items ≡ workers = ap length b.hired ∙ hired-many (fresh plan (main_origin plan) detached) workers some in omega arith;
 }
 
 module _ (plan : PlanView) (workers number words : ℕ) (s : CoreState) (p : IsPlayed plan workers number words s) (x after : ℕ) (mixed : (x, after) ≡ mix_u64 words) where

@@ -71,16 +71,16 @@ job-hears nodes l parent child a at_parent at i is = by_number (same-or i.number
           node = hearing l.place child a parent;
           there = ap (λ m. slice_get (slice_set nodes l.parent (hearing l.place child a parent)) m) e ∙ get-set nodes l.parent parent (hearing l.place child a parent) at_parent;
           origin = ap (λ (x : SpawnNode). x.origin) (sym same) ∙ is.origin;
-          awaits = subst (λ b. Awaits b (slice_set parent.children l.place (record child { answer = Some a })) (awaited (task_in i).trace.handed)) (sym origins)
-              (awaits-set (origins_of nodes) parent.children (awaited (task_in i).trace.handed) l.place child (Some a) at
-              (subst (λ (x : SpawnNode). Awaits (origins_of nodes) x.children (awaited (task_in i).trace.handed)) same is.awaits));
+          awaits = subst (λ b. Awaits b (slice_set parent.children l.place (record child { answer = Some a })) (awaited (task_in i).trace.unmerged)) (sym origins)
+              (awaits-set (origins_of nodes) parent.children (awaited (task_in i).trace.unmerged) l.place child (Some a) at
+              (subst (λ (x : SpawnNode). Awaits (origins_of nodes) x.children (awaited (task_in i).trace.unmerged)) same is.awaits));
           uncut = is.uncut;
         }
     by_number (inr two) = record {
       node = is.node;
       there = get-other nodes l.parent i.number (hearing l.place child a parent) two ∙ is.there;
       origin = is.origin;
-      awaits = subst (λ b. Awaits b is.node.children (awaited (task_in i).trace.handed)) (sym origins) is.awaits;
+      awaits = subst (λ b. Awaits b is.node.children (awaited (task_in i).trace.unmerged)) (sym origins) is.awaits;
       uncut = is.uncut;
     }
 

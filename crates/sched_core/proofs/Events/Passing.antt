@@ -42,15 +42,15 @@ module _ (s : CoreState) (t : IsConsistent s) where
       machine.IsReady (core_of false s) (task_in j) → ⊥
   not-ready j is node there some ready =
       let z = not-zero node.unanswered (missing node.children) (t.nodes j.number node there).unanswered some in
-      not-all (plan_of s) s.given (origins_of s.nodes.items) node.children (awaited (task_in j).trace.handed) z.0
-      (subst (λ (n : SpawnNode). Awaits (origins_of s.nodes.items) n.children (awaited (task_in j).trace.handed)) same is.awaits)
+      not-all (plan_of s) s.given (origins_of s.nodes.items) node.children (awaited (task_in j).trace.unmerged) z.0
+      (subst (λ (n : SpawnNode). Awaits (origins_of s.nodes.items) n.children (awaited (task_in j).trace.unmerged)) same is.awaits)
       (heard (plan_of s) s.given s.nodes.items t.nodes j.number node there) z.1 given
     where
       same : is.node ≡ node
       same = some-one is.node node (sym is.there ∙ there)
 
-      given : All (Contains s.given) (awaited (task_in j).trace.handed)
-      given = subst (All (Contains s.given)) (awaited-same (task_in j).trace.handed) (λ k d lt. was-given false s _ (ready k d lt))
+      given : All (Contains s.given) (awaited (task_in j).trace.unmerged)
+      given = subst (All (Contains s.given)) (awaited-same (task_in j).trace.unmerged) (λ k d lt. was-given false s _ (ready k d lt))
 
 module _ (s next : CoreState) (t : IsConsistent s) (none : s.root ≡ None) (k : Keeps s next) (w place : ℕ) (j : Job) where
   module _ (b : Both w (Leaves place j) (Stalls j) s.workers.items next.workers.items) (free : is_free (slice_get (map worker_of s.workers.items) w) ≡ true) where

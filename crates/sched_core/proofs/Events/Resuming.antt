@@ -1,8 +1,8 @@
 -- A look by which a task goes on.
 use Rattle.std.specs.Arc.{arc_value}
 use Rattle.std.proofs.Common.{◌≡◌, ℕ, ◌+◌, ◌≤◌, true, false, [], Some, None, All, Contains, inl, slice_get, slice_set, remove, map, refl, sym, ap, ◌∙◌, subst, arith}
-use Rattle.strand_meaning.proofs.TakenAnswers.AnswersKeepTasks.{none-handed}
-use Rattle.strand_machine.specs.Family.{tags}
+use Rattle.strand_meaning.proofs.TakenAnswers.AnswersKeepTasks.{none-unmerged}
+use Rattle.strand_machine.specs.Links.{tags}
 use Rattle.strand_machine.specs.AwaitedChildren.{awaited}
 use Rattle.strand_machine.specs.Stops.{WentOn, answer_tags, view_on}
 use Rattle.strand_machine.specs.Tasks.{TaskView}
@@ -45,24 +45,24 @@ module _ (s : CoreState) (t : IsConsistent s) (w place : ℕ) (v : WorkerView) (
     pub whole : missing node.children ≡ 0
     whole = sym (t.nodes j.number node found).unanswered ∙ zero_left
 
-    awaits : Awaits (origins_of s.nodes.items) node.children (awaited (task_in j).trace.handed)
-    awaits = subst (λ (n : SpawnNode). Awaits (origins_of s.nodes.items) n.children (awaited (task_in j).trace.handed)) (some-one stalled-job.node node (sym stalled-job.there ∙ found)) stalled-job.awaits
+    awaits : Awaits (origins_of s.nodes.items) node.children (awaited (task_in j).trace.unmerged)
+    awaits = subst (λ (n : SpawnNode). Awaits (origins_of s.nodes.items) n.children (awaited (task_in j).trace.unmerged)) (some-one stalled-job.node node (sym stalled-job.there ∙ found)) stalled-job.awaits
 
-    pub tags-right : answer_tags (answers_in node.children) ≡ tags (task_in j).plan (awaited (task_in j).trace.handed)
+    pub tags-right : answer_tags (answers_in node.children) ≡ tags (task_in j).plan (awaited (task_in j).trace.unmerged)
     tags-right =
-        tags-are (plan_of s) s.given (origins_of s.nodes.items) node.children (awaited (task_in j).trace.handed) awaits (heard (plan_of s) s.given s.nodes.items t.nodes j.number node found) whole
-        ∙ ap (λ p. tags p (awaited (task_in j).trace.handed)) (sym is-stalled.0.plan_is)
+        tags-are (plan_of s) s.given (origins_of s.nodes.items) node.children (awaited (task_in j).trace.unmerged) awaits (heard (plan_of s) s.given s.nodes.items t.nodes j.number node found) whole
+        ∙ ap (λ p. tags p (awaited (task_in j).trace.unmerged)) (sym is-stalled.0.plan_is)
 
     pub ready : machine.IsReady (core_of false s) (task_in j)
     ready =
-        let all : All (Contains s.given) (awaited (task_in j).trace.handed) = all-given (plan_of s) s.given (origins_of s.nodes.items) node.children (awaited (task_in j).trace.handed) awaits (heard (plan_of s) s.given s.nodes.items t.nodes j.number node found) whole in
-        let listed : All (Contains s.given) (machine.awaited (task_in j)) = subst (All (Contains s.given)) (sym (awaited-same (task_in j).trace.handed)) all in
+        let all : All (Contains s.given) (awaited (task_in j).trace.unmerged) = all-given (plan_of s) s.given (origins_of s.nodes.items) node.children (awaited (task_in j).trace.unmerged) awaits (heard (plan_of s) s.given s.nodes.items t.nodes j.number node found) whole in
+        let listed : All (Contains s.given) (machine.awaited (task_in j)) = subst (All (Contains s.given)) (sym (awaited-same (task_in j).trace.unmerged)) all in
         λ k d lt. is-answered false s _ (listed k d lt)
 
     -- it went on by the answers, of which none is a cut
     pub went-is : (next : Job) → WentOn (answers_in node.children) j.task next.task → next.task ≡ view_on j.task
     went-is next h =
-        h.whole (none-cut (plan_of s) s.given (origins_of s.nodes.items) node.children (awaited (task_in j).trace.handed) awaits (heard (plan_of s) s.given s.nodes.items t.nodes j.number node found))
+        h.whole (none-cut (plan_of s) s.given (origins_of s.nodes.items) node.children (awaited (task_in j).trace.unmerged) awaits (heard (plan_of s) s.given s.nodes.items t.nodes j.number node found))
 
 -- what the state is after the look
 pub record HasResumed (w place : ℕ) (j next_job : Job) (node : SpawnNode) (v : WorkerView) (s next : CoreState) : Type 0 where
@@ -97,10 +97,10 @@ module _ (s next : CoreState) (t : IsConsistent s) (none : s.root ≡ None) (w p
     own : IsJob s.nodes.items j
     own = stalled-job s t w place v there j at
 
-    nothing-awaited : awaited (task_in next_job).trace.handed ≡ []
+    nothing-awaited : awaited (task_in next_job).trace.unmerged ≡ []
     nothing-awaited =
-        ap (λ (x : TaskView). awaited x.task.trace.handed) task-is ∙ sym (awaited-same (gone_on (task_in j)).trace.handed)
-        ∙ ap (λ ps. map (λ q. q.child) ps) (none-handed (task_in j) (is-stalled s t w place v there j at).0.task)
+        ap (λ (x : TaskView). awaited x.task.trace.unmerged) task-is ∙ sym (awaited-same (gone_on (task_in j)).trace.unmerged)
+        ∙ ap (λ ps. map (λ q. q.child) ps) (none-unmerged (task_in j) (is-stalled s t w place v there j at).0.task)
 
     next-is-job : IsJob (slice_set s.nodes.items j.number (settled node)) next_job
     next-is-job = record {

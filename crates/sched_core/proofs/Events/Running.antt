@@ -16,7 +16,7 @@ use Rattle.sched_meaning.proofs.BegunOnce.Begun.{is-it, is_it}
 use Rattle.sched_meaning.proofs.BegunOnce.Changing.{each-get, total}
 use Rattle.sched_meaning.proofs.KeptByEvents.Cores as cores
 use Rattle.sched_meaning.proofs.KeptByEvents.Good.{IsRunning, IsGood, current-good}
-use Rattle.sched_meaning.proofs.BegunOnce.Handed.{stops_hand}
+use Rattle.sched_meaning.proofs.BegunOnce.Starts.{stops_start}
 use Rattle.sched_meaning.proofs.KeptByEvents.Kept.{by_origin}
 use Rattle.sched_core.specs.Cores.{answer_of, core_of, current_in, origins_of, plan_of, task_in, worker_of}
 use Rattle.sched_core.specs.Consistent.{AreJobs, Awaits, StepsTo, IsJob, IsConsistent}
@@ -113,15 +113,15 @@ module _ (s next : CoreState) (t : IsConsistent s) (none : s.root ≡ None) (w :
     own : IsJob s.nodes.items j
     own = own-job s t w v there j current
 
-    hands : awaited (task_in rest).trace.handed ≡ awaited (task_in j).trace.handed
-    hands = sym (awaited-same (task_in rest).trace.handed) ∙ stops_hand (task_in j) (Wait (task_in rest)) (going s t w v there j current).0.task stops.next ∙ awaited-same (task_in j).trace.handed
+    starts : awaited (task_in rest).trace.unmerged ≡ awaited (task_in j).trace.unmerged
+    starts = sym (awaited-same (task_in rest).trace.unmerged) ∙ stops_start (task_in j) (Wait (task_in rest)) (going s t w v there j current).0.task stops.next ∙ awaited-same (task_in j).trace.unmerged
 
     rest-job : IsJob s.nodes.items rest
     rest-job = record {
       node = own.node;
       there = ap (λ n. slice_get s.nodes.items n) number ∙ own.there;
       origin = own.origin ∙ sym (stops_keep_origins (task_in j) (Wait (task_in rest)) stops.next).1;
-      awaits = subst (Awaits (origins_of s.nodes.items) own.node.children) (sym hands) own.awaits;
+      awaits = subst (Awaits (origins_of s.nodes.items) own.node.children) (sym starts) own.awaits;
       uncut = stops.keeps.2;
     }
 

@@ -10,7 +10,7 @@ use Rattle.strand_machine.specs.declared.stop.Stop.TheVariants as stop
 use Rattle.sched_meaning.specs.declared.event.CoreEvent.TheVariants.{Run}
 use Rattle.sched_meaning.proofs.OneCore.OneStep.{some-one}
 use Rattle.sched_core.specs.Cores.{plan_of}
-use Rattle.sched_core.specs.Moves.{BeginsTask, CanAnswer, CanStop, HandsOutJob, Lets, PutsAnswer, Stalls, StallsTask, StopsAt, WorkerChanges, AnswerGoes, job}
+use Rattle.sched_core.specs.Moves.{BeginsTask, CanAnswer, CanStop, SwitchesToChild, Lets, PutsAnswer, Stalls, StallsTask, StopsAt, WorkerChanges, AnswerGoes, job}
 use Rattle.sched_core.specs.Nodes.{awaiting, missing, missing_one, new_node}
 use Rattle.sched_core.specs.Consistent.{StepsTo, IsAwaited, IsChild, IsAnsweredBy, IsJob, IsLinked, IsConsistent}
 use Rattle.sched_core.specs.Workers.{WorkerView}
@@ -20,7 +20,7 @@ use Rattle.sched_core.specs.declared.node.Link.{Link}
 use Rattle.sched_core.specs.declared.node.SpawnNode.{SpawnNode}
 use Rattle.sched_core.specs.declared.state.CoreState.{CoreState}
 use Rattle.sched_core.proofs.Events.Ending.{HasEnded, child-goes, root-goes}
-use Rattle.sched_core.proofs.Events.Handing.{spawn-goes}
+use Rattle.sched_core.proofs.Events.Spawning.{spawn-goes}
 use Rattle.sched_core.proofs.Worked.Lists.{length-set}
 use Rattle.sched_core.proofs.Events.Running.{own-fresh, own-job, wait-goes}
 use Rattle.sched_core.proofs.Events.Taking.{Both, Keeps, both}
@@ -114,8 +114,8 @@ module _ (s mid : CoreState) (t : IsConsistent s) (w : ℕ) (j : Job) (lets : Wo
           runs = runs;
         })
       where
-        b : Both w (Lets j) (HandsOutJob (job child p.begun) (job rest j.number)) s.workers.items after.workers.items
-        b = both w (Lets j) (HandsOutJob (job child p.begun) (job rest j.number)) s.workers.items mid.workers.items after.workers.items lets p.workers
+        b : Both w (Lets j) (SwitchesToChild (job child p.begun) (job rest j.number)) s.workers.items after.workers.items
+        b = both w (Lets j) (SwitchesToChild (job child p.begun) (job rest j.number)) s.workers.items mid.workers.items after.workers.items lets p.workers
 
         after-is : b.after ≡ record b.worker { current = Some (job child p.begun); deque = b.worker.deque ++ job rest j.number ∷ [] }
         after-is = b.second ∙ ap (λ (v : WorkerView). record v { current = Some (job child p.begun); deque = v.deque ++ job rest j.number ∷ [] }) b.first.1

@@ -4,6 +4,7 @@ use Rattle.std.proofs.lemmas.List.{length-replicate}
 use Rattle.script_check.specs.Valid.{IsValid}
 use Rattle.serial_meaning.specs.Eval.{main_origin}
 use Rattle.serial_meaning.specs.Plan.{PlanView}
+use Rattle.strand_machine.specs.Links.{detached}
 use Rattle.strand_machine.specs.Tasks.{TaskView, fresh}
 use Rattle.sched_meaning.specs.Core as machine
 use Rattle.sched_meaning.specs.Core.{free_worker, new_core}
@@ -23,7 +24,7 @@ free-workers zero = refl
 free-workers (suc n) = ap (λ l. free_worker ∷ l) (free-workers n)
 
 module _ (plan : PlanView) where
-  hired-workers : (n : ℕ) → map worker_of (hired (fresh plan (main_origin plan)) n) ≡ (new_core plan n).workers
+  hired-workers : (n : ℕ) → map worker_of (hired (fresh plan (main_origin plan) detached) n) ≡ (new_core plan n).workers
   hired-workers n = ap (λ l. machine.first_worker plan ∷ l) (free-workers (n - 1))
 
   pub core-begun : (n : ℕ) (s : CoreState) → IsBegun plan n s → core_of false s ≡ new_core plan n
@@ -46,15 +47,15 @@ module _ (plan : PlanView) where
   all-free nodes (suc n) zero x h = subst (AreJobs nodes) (some-one (worker_with None) x h) (free-jobs nodes)
   all-free nodes (suc n) (suc k) x h = all-free nodes n k x h
 
-  first-jobs : AreJobs (new_node (main_origin plan) None ∷ []) (worker_with (Some (job (fresh plan (main_origin plan)) 0)))
+  first-jobs : AreJobs (new_node (main_origin plan) None ∷ []) (worker_with (Some (job (fresh plan (main_origin plan) detached) 0)))
   first-jobs = record {
     current = record { node = new_node (main_origin plan) None; there = refl; origin = refl; awaits = tt; uncut = refl };
     deque = λ k x h. absurd (cc);
     stalled = λ k x h. absurd (cc);
   }
 
-  workers-consistent : (n : ℕ) → AreWorkers (new_node (main_origin plan) None ∷ []) (hired (fresh plan (main_origin plan)) n)
-  workers-consistent n zero x h = subst (AreJobs (new_node (main_origin plan) None ∷ [])) (some-one (worker_with (Some (job (fresh plan (main_origin plan)) 0))) x h) first-jobs
+  workers-consistent : (n : ℕ) → AreWorkers (new_node (main_origin plan) None ∷ []) (hired (fresh plan (main_origin plan) detached) n)
+  workers-consistent n zero x h = subst (AreJobs (new_node (main_origin plan) None ∷ [])) (some-one (worker_with (Some (job (fresh plan (main_origin plan) detached) 0))) x h) first-jobs
   workers-consistent n (suc k) x h = all-free (new_node (main_origin plan) None ∷ []) (n - 1) k x h
 
   nodes-consistent : AreNodes plan [] (new_node (main_origin plan) None ∷ [])
@@ -69,7 +70,7 @@ module _ (plan : PlanView) where
   consistent-begun n s valid b = record {
     valid = subst (λ (p : PlanView). IsValid p.script) (sym b.plan_is) valid;
     led = record { workers = n; events = []; leads = core-begun n s b ∙ ap (λ (p : PlanView). new_core p n) (sym b.plan_is) };
-    workers = carry-workers s.nodes.items (new_node (main_origin plan) None ∷ []) s.workers.items (hired (fresh plan (main_origin plan)) n) b.nodes b.hired (workers-consistent n);
+    workers = carry-workers s.nodes.items (new_node (main_origin plan) None ∷ []) s.workers.items (hired (fresh plan (main_origin plan) detached) n) b.nodes b.hired (workers-consistent n);
     nodes = carry-nodes (plan_of s) plan s.given [] s.nodes.items (new_node (main_origin plan) None ∷ []) b.plan_is b.given b.nodes nodes-consistent;
     root = carry-root (plan_of s) plan s.given [] s.root None b.plan_is b.given b.root none-given;
   }

@@ -97,6 +97,6 @@ module _ (plan : PlanView) (given : List Origin) (nodes : List SpawnNode) (all :
     node = is.node;
     there = get-other nodes n i.number (settled node) two ∙ is.there;
     origin = is.origin;
-    awaits = subst (λ l. Awaits l is.node.children (awaited (task_in i).trace.handed)) (sym origins-settled) is.awaits;
+    awaits = subst (λ l. Awaits l is.node.children (awaited (task_in i).trace.unmerged)) (sym origins-settled) is.awaits;
     uncut = is.uncut;
   }

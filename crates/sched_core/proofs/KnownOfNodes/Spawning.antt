@@ -157,6 +157,6 @@ module _ (plan : PlanView) (given : List Origin) (nodes : List SpawnNode) (all :
     node = is.node;
     there = at-other i.number is.node two is.there;
     origin = is.origin;
-    awaits = subst (λ l. Awaits l is.node.children (awaited (task_in i).trace.handed)) (sym origins-after) (awaits-grow (origins_of nodes) (o ∷ []) is.node.children (awaited (task_in i).trace.handed) is.awaits);
+    awaits = subst (λ l. Awaits l is.node.children (awaited (task_in i).trace.unmerged)) (sym origins-after) (awaits-grow (origins_of nodes) (o ∷ []) is.node.children (awaited (task_in i).trace.unmerged) is.awaits);
     uncut = is.uncut;
   }

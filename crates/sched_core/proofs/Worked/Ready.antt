@@ -7,7 +7,7 @@ use Rattle.serial_meaning.specs.declared.answer.Outcome.TheVariants as outcome
 use Rattle.serial_meaning.specs.declared.origin.Origin.{Origin}
 use Rattle.strand_meaning.specs.Laws.{IsFaultOf}
 use Rattle.strand_meaning.specs.Trace.{AwaitedChild}
-use Rattle.strand_machine.specs.Family.{tag, tags}
+use Rattle.strand_machine.specs.Links.{tag, tags}
 use Rattle.strand_machine.specs.AwaitedChildren.{awaited}
 use Rattle.strand_machine.specs.Stops.{answer_tags, any_cut, is_cut}
 use Rattle.sched_core.specs.Nodes.{answers_in, and_answer, missing, missing_one}

@@ -3,8 +3,8 @@ use denote.Param.Send.{IsSend, view_send, sendable}
 use denote.Param.SendFields.{declared_send, variants_send}
 use denote.RattleType.{RattleType}
 use mir.Syntax.{Dict}
-use Rattle.meet_block.proofs.known_list.KnownList.TheSendSync as known_list_shared
-use Rattle.script_grammar.proofs.items.Items.TheSendSync as items_shared
+use Rattle.contract_views.proofs.known_list.KnownList.TheSendSync as known_list_shared
+use Rattle.contract_views.proofs.items.Items.TheSendSync as items_shared
 use Rattle.serial_meaning.proofs.CodeLemmas.Shares.{answer_sends}
 use Rattle.serial_meaning.proofs.answer.Outcome.TheSendSync as outcome_shared
 use Rattle.serial_meaning.proofs.event.Fault.TheSendSync as fault_shared
@@ -16,7 +16,7 @@ use Rattle.serial_meaning.specs.contracts.value.Value as value
 use Rattle.serial_meaning.specs.declared.keep.Keep.{Ghosts}
 use Rattle.std.proofs.Crossing.{Box-send, Vec-send}
 use Rattle.std.specs.contracts.option.Option as option
-use Rattle.strand_family.proofs.Shares.{family_sends, give_sends}
+use Rattle.strand_family.proofs.Shares.{links_sends, give_sends}
 use Rattle.strand_machine.proofs.remaining.Left.TheSendSync as left_shared
 use Rattle.strand_machine.specs.contracts.task_state.TaskState as state
 use Rattle.strand_machine.specs.contracts.destination.Destination as destination
@@ -58,7 +58,7 @@ module _ (K : RattleType) (keeps : Ghosts K.Denot) (dict : Dict) where
   trace_sends = view_send (trace_inside.the_row K keeps) _ _ _ _ trace_inside_sends
 
   task_state_sends : IsSend (state.the_row K keeps)
-  task_state_sends = declared_send (state.the_type K keeps) (family_sends K keeps dict, (trace_sends, (items_shared.the_send value.the_row value_shared.the_send, (search sendable, (search sendable, tt)))))
+  task_state_sends = declared_send (state.the_type K keeps) (links_sends K keeps dict, (trace_sends, (items_shared.the_send value.the_row value_shared.the_send, (search sendable, (search sendable, tt)))))
 
   parts_sends : IsSend (parts.the_row K keeps)
   parts_sends = declared_send (parts.the_type K keeps) (task_state_sends, (remaining_sends, tt))

@@ -31,15 +31,16 @@ use Rattle.strand_moves.specs.declared.effects.Effects.{Effects}
 use Rattle.strand_moves.specs.declared.effects.MoveResult.TheVariants as move_result-in
 use Rattle.strand_family.specs.Origins.{loop_part}
 use Rattle.strand_machine.specs.TaskStates.{is_long}
-use Rattle.strand_machine.specs.Family.{FamilyView, family_with_child}
+use Rattle.strand_machine.specs.Links.{AreJoinNames, LinksView, links_with_child}
 use Rattle.strand_machine.specs.AwaitedChildren.{awaited, destination_of}
 use Rattle.strand_machine.specs.Effects.{task_after_effects, HasSoundEffects, IsKnownChild}
-use Rattle.strand_machine.specs.Made.{ended_move}
+use Rattle.strand_machine.specs.Made.{IsSpawn, ended_move, made as made_so}
 use Rattle.strand_machine.specs.Stops.{IsStep}
 use Rattle.strand_machine.specs.declared.stop.MoveOrStop.{MoveOrStop as MadeStep}
 use Rattle.strand_machine.specs.declared.stop.MoveOrStop.TheVariants as step-in
+use Rattle.strand_machine.specs.declared.stop.Passed.TheVariants as passed-in
 use Rattle.strand_machine.specs.declared.stop.Stop.TheVariants as stop-in
-use Rattle.strand_machine.specs.Tasks.{view_of, fresh, cut_of, AwaitsLast, RunsAt, RemainsAt, IsSound, task_of, task_with, remaining_of, gone, waiting, with_child, ended_by}
+use Rattle.strand_machine.specs.Tasks.{TaskView, view_of, fresh, cut_of, AwaitsLast, RunsAt, RemainsAt, IsSound, task_of, task_with, remaining_of, gone, waiting, with_child, ended_by}
 use Rattle.strand_machine.specs.declared.task_state.TaskState.{TaskState}
 use Rattle.strand_machine.specs.declared.destination.Destination.{Destination}
 use Rattle.strand_machine.specs.declared.destination.Destination.TheVariants as destination
@@ -53,11 +54,11 @@ use Rattle.strand_machine.specs.declared.remaining.Remaining.TheVariants as rema
 sound-step : {K : Type 0} → StepsAreSound → (b : TaskState K) (w : Remaining) (s : meaning.MoveOrStop) → IsSound b w → meaning.step (task_of b w) ≡ s → IsSoundStep (task_of b w) s
 sound-step steps_are_sound b w s h e = subst (IsSoundStep (task_of b w)) e (steps_are_sound (task_of b w) h.task)
 
-pub pass-sound : {K : Type 0} → StepsAreSound → (b : TaskState K) (w next : Remaining) → IsSound b w → meaning.step (task_of b w) ≡ meaning.Passes (task_of (gone b) next) → RemainsAt b.family.plan b.family.origin next → IsSound (gone b) next
-pass-sound law b w next h e of_plan = record { task = sound-step law b w (meaning.Passes (task_of (gone b) next)) h e; family = h.family; of_plan = of_plan }
+pub pass-sound : {K : Type 0} → StepsAreSound → (b : TaskState K) (w next : Remaining) → IsSound b w → meaning.step (task_of b w) ≡ meaning.Passes (task_of (gone b) next) → RemainsAt b.links.plan b.links.origin next → IsSound (gone b) next
+pass-sound law b w next h e of_plan = record { task = sound-step law b w (meaning.Passes (task_of (gone b) next)) h e; links = h.links; of_plan = of_plan }
 
-pub wait-sound : {K : Type 0} → StepsAreSound → (b : TaskState K) (w next : Remaining) → IsSound b w → meaning.step (task_of b w) ≡ meaning.Stops (meaning.Wait (task_of (waiting b) next)) → RemainsAt b.family.plan b.family.origin next → IsSound (waiting b) next
-wait-sound law b w next h e of_plan = record { task = sound-step law b w (meaning.Stops (meaning.Wait (task_of (waiting b) next))) h e; family = h.family; of_plan = of_plan }
+pub wait-sound : {K : Type 0} → StepsAreSound → (b : TaskState K) (w next : Remaining) → IsSound b w → meaning.step (task_of b w) ≡ meaning.Stops (meaning.Wait (task_of (waiting b) next)) → RemainsAt b.links.plan b.links.origin next → IsSound (waiting b) next
+wait-sound law b w next h e of_plan = record { task = sound-step law b w (meaning.Stops (meaning.Wait (task_of (waiting b) next))) h e; links = h.links; of_plan = of_plan }
 
 awaited-append : (ps qs : List AwaitedChild) → awaited (ps ++ qs) ≡ awaited ps ++ awaited qs
 awaited-append [] qs = refl
@@ -70,8 +71,8 @@ one-longer (suc n) = ap (λ l. false ∷ l) (one-longer n)
 one-more : (n : ℕ) → replicate n false ++ false ∷ [] ≡ replicate (n + 1) false
 one-more n = rw add-one (one-longer n)
 
-pub awaits-more : (family : FamilyView) (parts : List AwaitedChild) (p : AwaitedChild) → AwaitsLast family parts → AwaitsLast (family_with_child family p.child) (parts ++ p ∷ [])
-awaits-more family parts p h = record {
+pub awaits-more : (links : LinksView) (parts : List AwaitedChild) (p : AwaitedChild) → AwaitsLast links parts → AwaitsLast (links_with_child links p.child) (parts ++ p ∷ [])
+awaits-more links parts p h = record {
   before = h.before;
   passed = h.passed;
   same = h.same;
@@ -81,10 +82,10 @@ awaits-more family parts p h = record {
 }
 
 pub spawn-sound : {K : Type 0} → StepsAreSound → (b : TaskState K) (w next : Remaining) (child : Origin) (p : Destination) → IsSound b w → meaning.step (task_of b w) ≡ meaning.Stops (meaning.Spawn child (task_of (with_child b child p) next)) →
-    RemainsAt b.family.plan b.family.origin next → IsOriginOf b.family.plan child × IsSound (with_child b child p) next
+    RemainsAt b.links.plan b.links.origin next → IsOriginOf b.links.plan child × IsSound (with_child b child p) next
 spawn-sound law b w next child p h e of_plan =
     let s = sound-step law b w (meaning.Stops (meaning.Spawn child (task_of (with_child b child p) next))) h e in
-    (s.0, record { task = s.1; family = awaits-more b.family b.trace.handed (record { child = child; destination = destination_of p; after = [] }) h.family; of_plan = of_plan })
+    (s.0, record { task = s.1; links = awaits-more b.links b.trace.unmerged (record { child = child; destination = destination_of p; after = [] }) h.links; of_plan = of_plan })
 
 -- Ends
 
@@ -101,10 +102,10 @@ answer-of plan o out (outcome.Values vs) e f = e
 answer-of plan o out (outcome.Fault g) e f = e
 answer-of plan o out (outcome.Cut g) e f = absurd f
 
-pub end-answers : {K : Type 0} → StepsAreSound → (b : TaskState K) (w : Remaining) (o : Outcome) → IsSound b w → meaning.step (task_of b w) ≡ ends (task_of b w) o → IsAnswer b.family.plan b.family.origin b.trace.prefix (ended_by b.trace.fault o)
+pub end-answers : {K : Type 0} → StepsAreSound → (b : TaskState K) (w : Remaining) (o : Outcome) → IsSound b w → meaning.step (task_of b w) ≡ ends (task_of b w) o → IsAnswer b.links.plan b.links.origin b.trace.prefix (ended_by b.trace.fault o)
 end-answers law b w o h e =
     let s = sound-step law b w (meaning.Stops (meaning.End b.trace.prefix (ended_by b.trace.fault o))) h (e ∙ ends-is (task_of b w) o) in
-    answer-of b.family.plan b.family.origin b.trace.prefix (ended_by b.trace.fault o) s.0 s.1
+    answer-of b.links.plan b.links.origin b.trace.prefix (ended_by b.trace.fault o) s.0 s.1
 
 -- What a call gives
 
@@ -118,15 +119,26 @@ of_plan-on plan o (remaining.Runs s) h = refl
 of_plan-on plan o (remaining.Finished v gone_on) h = refl
 of_plan-on plan o (remaining.Ends ended) h = absurd h
 
-pub pass-is : {K : Type 0} (b : TaskState K) (w next : Remaining) (s : MadeStep K) → RemainsAt b.family.plan b.family.origin next → meaning.step (task_of b w) ≡ meaning.Passes (task_of (gone b) next) → s ≡ step-in.Passes (view_of (gone b) next) → IsStep (view_of b w) s
-pass-is b w next s of_plan e h = rw h (record { is = e; keeps = (refl, refl, of_plan-on b.family.plan b.family.origin next of_plan) })
+pub pass-is : {K : Type 0} (b : TaskState K) (w next : Remaining) (s : MadeStep K) → RemainsAt b.links.plan b.links.origin next → meaning.step (task_of b w) ≡ meaning.Passes (task_of (gone b) next) → s ≡ step-in.Passes (view_of (gone b) next) → IsStep (view_of b w) s
+pass-is b w next s of_plan e h = rw h (record { is = e; keeps = (refl, refl, of_plan-on b.links.plan b.links.origin next of_plan, refl) })
 
-pub wait-is : {K : Type 0} (b : TaskState K) (w next : Remaining) (s : MadeStep K) → RemainsAt b.family.plan b.family.origin next → meaning.step (task_of b w) ≡ meaning.Stops (meaning.Wait (task_of (waiting b) next)) → s ≡ step-in.Stops (stop-in.Wait (view_of (waiting b) next)) → IsStep (view_of b w) s
-wait-is b w next s of_plan e h = rw h (record { is = e; keeps = (refl, refl, of_plan-on b.family.plan b.family.origin next of_plan) })
+pub wait-is : {K : Type 0} (b : TaskState K) (w next : Remaining) (s : MadeStep K) → RemainsAt b.links.plan b.links.origin next → meaning.step (task_of b w) ≡ meaning.Stops (meaning.Wait (task_of (waiting b) next)) → s ≡ step-in.Stops (stop-in.Wait (view_of (waiting b) next)) → IsStep (view_of b w) s
+wait-is b w next s of_plan e h = rw h (record { is = e; keeps = (refl, refl, of_plan-on b.links.plan b.links.origin next of_plan, refl) })
 
-pub spawn-is : {K : Type 0} (b : TaskState K) (w next : Remaining) (child : Origin) (p : Destination) (s : MadeStep K) → RemainsAt b.family.plan b.family.origin next → meaning.step (task_of b w) ≡ meaning.Stops (meaning.Spawn child (task_of (with_child b child p) next)) →
-    s ≡ step-in.Stops (stop-in.Spawn (fresh b.family.plan child) (view_of (with_child b child p) next)) → IsStep (view_of b w) s
-spawn-is b w next child p s of_plan e h = rw h (record { is = e; keeps = (refl, refl, refl, of_plan-on b.family.plan b.family.origin next of_plan) })
+pub spawn-is : {K : Type 0} (b : TaskState K) (w next : Remaining) (child : Origin) (p : Destination) (s : MadeStep K) → RemainsAt b.links.plan b.links.origin next → meaning.step (task_of b w) ≡ meaning.Stops (meaning.Spawn child (task_of (with_child b child p) next)) →
+    IsSpawn b child p next s → IsStep (view_of b w) s
+spawn-is b w next child p s of_plan e (joins, are, h) = rw h (record { is = e; keeps = (refl, refl, refl, of_plan-on b.links.plan b.links.origin next of_plan, refl, are) })
+
+-- what was begun
+pub spawned-so : {K : Type 0} (b after : TaskState K) (o : Origin) (at : Destination) (w left : Remaining) (child : TaskView) → child ≡ fresh b.links.plan o child.joins → AreJoinNames b.links.joins.own child.joins →
+    after ≡ with_child b o at → left ≡ w → IsSpawn b o at w (made_so (record { state = after; remaining = left }) (passed-in.Spawned child))
+spawned-so b after o at w left child is are e f = (
+  child.joins,
+  are,
+  ap (λ (v : TaskView). step-in.Stops (stop-in.Spawn v (view_of after left))) is
+      ∙ ap (λ (x : TaskState _). step-in.Stops (stop-in.Spawn (fresh b.links.plan o child.joins) (view_of x left))) e
+      ∙ ap (λ (x : Remaining). step-in.Stops (stop-in.Spawn (fresh b.links.plan o child.joins) (view_of (with_child b o at) x))) f,
+)
 
 -- Loops
 
@@ -134,12 +146,12 @@ only-half : (o : Origin) (left : Range) → loop_part o (lower_half left) ≡ fi
 only-half (Instance function args path) left = refl
 only-half (Loop function rest first path range) left = refl
 
-pub split-many : {K : Type 0} (b : TaskState K) (left upper : Left) (lower : Range) (child : Origin) → 2 ≤ left.range.hi - left.range.lo → lower ≡ lower_half left.range → upper.range ≡ upper_half left.range → child ≡ loop_part b.family.origin lower →
+pub split-many : {K : Type 0} (b : TaskState K) (left upper : Left) (lower : Range) (child : Origin) → 2 ≤ left.range.hi - left.range.lo → lower ≡ lower_half left.range → upper.range ≡ upper_half left.range → child ≡ loop_part b.links.origin lower →
     meaning.step (task_of b (remaining.Splits left)) ≡ meaning.Stops (meaning.Spawn child (task_of (with_child b child destination.Half) (remaining.Splits upper)))
 split-many b left upper lower child h l u c = by_size (left.range.hi - left.range.lo) refl h
   where
-    same : child ≡ first_half b.family.origin left.range
-    same = c ∙ ap (loop_part b.family.origin) l ∙ only-half b.family.origin left.range
+    same : child ≡ first_half b.links.origin left.range
+    same = c ∙ ap (loop_part b.links.origin) l ∙ only-half b.links.origin left.range
 
     by_size : (n : ℕ) → left.range.hi - left.range.lo ≡ n → 2 ≤ n → split_step (task_of b (remaining.Splits left)) left.range n ≡ meaning.Stops (meaning.Spawn child (task_of (with_child b child destination.Half) (remaining.Splits upper)))
     by_size zero e g = absurd (omega arith)
@@ -151,7 +163,7 @@ split-many b left upper lower child h l u c = by_size (left.range.hi - left.rang
 pub split-none : {K : Type 0} (b : TaskState K) (left : Left) → left.range.hi - left.range.lo ≡ 0 → meaning.step (task_of b (remaining.Splits left)) ≡ ends (task_of b (remaining.Splits left)) (outcome.Values b.values)
 split-none b left e = ap (split_step (task_of b (remaining.Splits left)) left.range) e
 
-pub split-one : {K : Type 0} (b : TaskState K) (left : Left) (next : Remaining) → left.range.hi - left.range.lo ≡ 1 → remaining_of b.family.plan next ≡ begins_last b.family.plan b.family.origin →
+pub split-one : {K : Type 0} (b : TaskState K) (left : Left) (next : Remaining) → left.range.hi - left.range.lo ≡ 1 → remaining_of b.links.plan next ≡ begins_last b.links.plan b.links.origin →
     meaning.step (task_of b (remaining.Splits left)) ≡ meaning.Passes (task_of (gone b) next)
 split-one b left next e begun =
     ap (split_step (task_of b (remaining.Splits left)) left.range) e
@@ -189,15 +201,15 @@ over-ends t v (Loop function rest first path range) h = by_size (range.hi - rang
     by_size (suc zero) g k = rw g refl
     by_size (suc (suc n)) g k = absurd (true≢false (long n ∙ rw g at k))
 
-pub over-long : {K : Type 0} (b : TaskState K) (v : Value) (gone_on : Bool) → gone_on ≡ false → is_long b.family.origin ≡ true →
+pub over-long : {K : Type 0} (b : TaskState K) (v : Value) (gone_on : Bool) → gone_on ≡ false → is_long b.links.origin ≡ true →
     meaning.step (task_of b (remaining.Finished v gone_on)) ≡ meaning.Stops (meaning.Wait (task_of (waiting b) (remaining.Finished v false)))
 over-long b v true e h = absurd (true≢false e)
-over-long b v false e h = over-waits (task_of b (remaining.Finished v false)) v b.family.origin h
+over-long b v false e h = over-waits (task_of b (remaining.Finished v false)) v b.links.origin h
 
-pub over-short : {K : Type 0} (b : TaskState K) (v : Value) (gone_on : Bool) → gone_on ≡ false → is_long b.family.origin ≡ false →
+pub over-short : {K : Type 0} (b : TaskState K) (v : Value) (gone_on : Bool) → gone_on ≡ false → is_long b.links.origin ≡ false →
     meaning.step (task_of b (remaining.Finished v gone_on)) ≡ ends (task_of b (remaining.Finished v gone_on)) (outcome.Values (b.values ++ v ∷ []))
 over-short b v true e h = absurd (true≢false e)
-over-short b v false e h = over-ends (task_of b (remaining.Finished v false)) v b.family.origin h
+over-short b v false e h = over-ends (task_of b (remaining.Finished v false)) v b.links.origin h
 
 pub over-on : {K : Type 0} (b : TaskState K) (v : Value) (gone_on : Bool) → gone_on ≡ true → meaning.step (task_of b (remaining.Finished v gone_on)) ≡ ends (task_of b (remaining.Finished v gone_on)) (outcome.Values (b.values ++ v ∷ []))
 over-on b v true e = refl
@@ -205,19 +217,19 @@ over-on b v false e = absurd (true≢false (sym e))
 
 -- Instances
 
-pub give-instance : {K : Type 0} (b : TaskState K) (v : Value) (function : ℕ) (args : List Value) (path : List ℕ) → b.family.origin ≡ Instance function args path →
+pub give-instance : {K : Type 0} (b : TaskState K) (v : Value) (function : ℕ) (args : List Value) (path : List ℕ) → b.links.origin ≡ Instance function args path →
     meaning.step (task_of b (remaining.Runs (stage.Returned v))) ≡ ends (task_of b (remaining.Runs (stage.Returned v))) (outcome.Value v)
 give-instance b v function args path e = ap (λ (o : Origin). returned (task_of b (remaining.Runs (stage.Returned v))) o v) e
 
-pub give-loop : {K : Type 0} (b : TaskState K) (v : Value) (function : ℕ) (rest : List Value) (first : ℤ) (path : List ℕ) (range : Range) → b.family.origin ≡ Loop function rest first path range →
+pub give-loop : {K : Type 0} (b : TaskState K) (v : Value) (function : ℕ) (rest : List Value) (first : ℤ) (path : List ℕ) (range : Range) → b.links.origin ≡ Loop function rest first path range →
     meaning.step (task_of b (remaining.Runs (stage.Returned v))) ≡ meaning.Passes (task_of (gone b) (remaining.Finished v false))
 give-loop b v function rest first path range e = ap (λ (o : Origin). returned (task_of b (remaining.Runs (stage.Returned v))) o v) e
 
-pub fault-alone : {K : Type 0} (b : TaskState K) (f : Fault) → b.trace.handed ≡ [] → meaning.step (task_of b (remaining.Runs (stage.Faulted f))) ≡ ends (task_of b (remaining.Runs (stage.Faulted f))) (outcome.Fault f)
+pub fault-alone : {K : Type 0} (b : TaskState K) (f : Fault) → b.trace.unmerged ≡ [] → meaning.step (task_of b (remaining.Runs (stage.Faulted f))) ≡ ends (task_of b (remaining.Runs (stage.Faulted f))) (outcome.Fault f)
 fault-alone b f e = ap (λ (ps : List AwaitedChild). faults_after ps (task_of b (remaining.Runs (stage.Faulted f))) f) e
 
-pub fault-after : {K : Type 0} (b : TaskState K) (f : Fault) → (b.trace.handed ≡ [] → ⊥) → meaning.step (task_of b (remaining.Runs (stage.Faulted f))) ≡ meaning.Stops (meaning.Wait (task_of (waiting b) (remaining.Runs (stage.Faulted f))))
-fault-after b f h = from b.trace.handed h
+pub fault-after : {K : Type 0} (b : TaskState K) (f : Fault) → (b.trace.unmerged ≡ [] → ⊥) → meaning.step (task_of b (remaining.Runs (stage.Faulted f))) ≡ meaning.Stops (meaning.Wait (task_of (waiting b) (remaining.Runs (stage.Faulted f))))
+fault-after b f h = from b.trace.unmerged h
   where
     from : (ps : List AwaitedChild) → (ps ≡ [] → ⊥) → faults_after ps (task_of b (remaining.Runs (stage.Faulted f))) f ≡ waits (task_of b (remaining.Runs (stage.Faulted f)))
     from [] g = absurd (g refl)
@@ -232,29 +244,29 @@ module _ {K : Type 0} (b : TaskState K) (i : RawInstance) where
   abbrev made : Run Effect Fault Reached → meaning.MoveOrStop
   made r = step_result here r.items r.ending
 
-  pub go-went : (next : RawInstance) (s : Effects) → RunsAt b.family.plan (path_of (own_instance b.family.origin)) i →
-      move b.family.plan (moves.path_of i) (moves.machine_of b.family.plan i) ≡ run_of (move_result-in.Went s) (moves.machine_of b.family.plan next) →
+  pub go-went : (next : RawInstance) (s : Effects) → RunsAt b.links.plan (path_of (own_instance b.links.origin)) i →
+      move b.links.plan (moves.path_of i) (moves.machine_of b.links.plan i) ≡ run_of (move_result-in.Went s) (moves.machine_of b.links.plan next) →
       meaning.step here ≡ stops_at (child_in (effects_of s)) (task_after_effects b next s)
-  go-went next s at e = ap (λ (p : List ℕ). made (move b.family.plan p (moves.machine_of b.family.plan i))) (sym at.at) ∙ ap made e
+  go-went next s at e = ap (λ (p : List ℕ). made (move b.links.plan p (moves.machine_of b.links.plan i))) (sym at.at) ∙ ap made e
 
-  pub go-returned : (next : RawInstance) (v : Value) → RunsAt b.family.plan (path_of (own_instance b.family.origin)) i →
-      move b.family.plan (moves.path_of i) (moves.machine_of b.family.plan i) ≡ run_of (move_result-in.Returned v) (moves.machine_of b.family.plan next) →
+  pub go-returned : (next : RawInstance) (v : Value) → RunsAt b.links.plan (path_of (own_instance b.links.origin)) i →
+      move b.links.plan (moves.path_of i) (moves.machine_of b.links.plan i) ≡ run_of (move_result-in.Returned v) (moves.machine_of b.links.plan next) →
       meaning.step here ≡ meaning.Passes (task_of (gone b) (remaining.Runs (stage.Returned v)))
-  go-returned next v at e = ap (λ (p : List ℕ). made (move b.family.plan p (moves.machine_of b.family.plan i))) (sym at.at) ∙ ap made e
+  go-returned next v at e = ap (λ (p : List ℕ). made (move b.links.plan p (moves.machine_of b.links.plan i))) (sym at.at) ∙ ap made e
 
-  pub go-faulted : (next : RawInstance) (f : Fault) → RunsAt b.family.plan (path_of (own_instance b.family.origin)) i →
-      move b.family.plan (moves.path_of i) (moves.machine_of b.family.plan i) ≡ run_of (move_result-in.Faulted f) (moves.machine_of b.family.plan next) →
+  pub go-faulted : (next : RawInstance) (f : Fault) → RunsAt b.links.plan (path_of (own_instance b.links.origin)) i →
+      move b.links.plan (moves.path_of i) (moves.machine_of b.links.plan i) ≡ run_of (move_result-in.Faulted f) (moves.machine_of b.links.plan next) →
       meaning.step here ≡ meaning.Passes (task_of (gone b) (remaining.Runs (stage.Faulted f)))
-  go-faulted next f at e = ap (λ (p : List ℕ). made (move b.family.plan p (moves.machine_of b.family.plan i))) (sym at.at) ∙ ap made e
+  go-faulted next f at e = ap (λ (p : List ℕ). made (move b.links.plan p (moves.machine_of b.links.plan i))) (sym at.at) ∙ ap made e
 
   pub shown-sound : StepsAreSound → (next : RawInstance) (s : Effects) → IsSound b (remaining.Runs (stage.Running i)) →
-      move b.family.plan (moves.path_of i) (moves.machine_of b.family.plan i) ≡ run_of (move_result-in.Went s) (moves.machine_of b.family.plan next) →
-      RunsAt b.family.plan (path_of (own_instance b.family.origin)) next → ShowsTrail b.family.plan s → HasSoundEffects b next s
+      move b.links.plan (moves.path_of i) (moves.machine_of b.links.plan i) ≡ run_of (move_result-in.Went s) (moves.machine_of b.links.plan next) →
+      RunsAt b.links.plan (path_of (own_instance b.links.origin)) next → ShowsTrail b.links.plan s → HasSoundEffects b next s
   shown-sound law next s h moved-so runs trail =
       let e = go-went next s h.of_plan moved-so in
       let known = from (child_in (effects_of s)) (sound-step law b (remaining.Runs (stage.Running i)) (stops_at (child_in (effects_of s)) (task_after_effects b next s)) h e) in
-      record { task = known.0; child = known.1; family = h.family; runs = runs; trail = trail }
+      record { task = known.0; child = known.1; links = h.links; runs = runs; trail = trail }
     where
-      from : (o : Option Origin) → IsSoundStep here (stops_at o (task_after_effects b next s)) → IsTask (task_after_effects b next s) × IsKnownChild b.family.plan o
+      from : (o : Option Origin) → IsSoundStep here (stops_at o (task_after_effects b next s)) → IsTask (task_after_effects b next s) × IsKnownChild b.links.plan o
       from None g = (g, tt)
       from (Some o) g = (g.1, g.0)

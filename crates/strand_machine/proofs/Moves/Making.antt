@@ -84,7 +84,7 @@ pub record IsOnWay {K : Type 0} (first : TaskView) (p : Parts K) : Type 0 where
   pub leads : LeadsTo first (view_of p.state p.remaining)
 
 pub way-start : {K : Type 0} (p : Parts K) → IsSound p.state p.remaining → IsOnWay (view_of p.state p.remaining) p
-way-start p h = record { sound = h; leads = leads-start (view_of p.state p.remaining) (of_plan-on p.state.family.plan p.state.family.origin p.remaining h.of_plan) }
+way-start p h = record { sound = h; leads = leads-start (view_of p.state p.remaining) (of_plan-on p.state.links.plan p.state.links.origin p.remaining h.of_plan) }
 
 module _ {K : Type 0} (first : TaskView) (now next : Parts K) (x : Passed K) (way : IsOnWay first now) (goes : StepsOn (view_of now.state now.remaining) (made next x)) (sound : IsSoundMade next x) where
   abbrev here : TaskView

@@ -17,8 +17,8 @@ use Rattle.strand_meaning.specs.Task as meaning
 use Rattle.strand_meaning.specs.Task.{IsNext, Now, Later, own_instance, stops_at, child_in}
 use Rattle.strand_moves.specs.Machines as moves
 use Rattle.strand_moves.specs.Moves.{IsTrailOf, MovesTrail, ShowsTrail, effects_of, run_of}
-use Rattle.strand_moves.specs.Rows as rows
-use Rattle.strand_moves.specs.Rows.{Row, Still, More, Emits}
+use Rattle.strand_moves.specs.StraightRuns as straight_runs
+use Rattle.strand_moves.specs.StraightRuns.{StraightRun, Still, More, Emits}
 use Rattle.strand_moves.specs.InstanceParts as instance_parts
 use Rattle.strand_moves.specs.declared.instance.Instance.{Instance as RawInstance}
 use Rattle.strand_moves.specs.declared.instance_parts.InstanceParts.{InstanceParts}
@@ -29,11 +29,11 @@ use Rattle.strand_moves.specs.declared.effects.MoveResult.{MoveResult}
 use Rattle.strand_moves.specs.declared.effects.MoveResult.TheVariants as move_result-in
 use Rattle.strand_moves.specs.declared.effects.Effects.{Effects}
 use Rattle.strand_moves.specs.declared.effects.Effects.TheVariants as effects-in
-use Rattle.strand_machine.specs.Family.{FamilyView}
+use Rattle.strand_machine.specs.Links.{LinksView}
 use Rattle.strand_machine.specs.AwaitedChildren.{awaited, destination_of}
 use Rattle.strand_machine.specs.Effects.{task_after_effects, HasSoundEffects}
-use Rattle.strand_machine.specs.Made.{IsRun, LeadsTo}
-use Rattle.strand_machine.specs.Stops.{IsStep, KeepsFamilyInStep, step_of}
+use Rattle.strand_machine.specs.Made.{IsRun, IsSpawn, LeadsTo}
+use Rattle.strand_machine.specs.Stops.{IsStep, KeepsLinksInStep, step_of}
 use Rattle.strand_machine.specs.Tasks.{TaskView, task_of, view_of, fresh, cut_of, AwaitsLast, RunsAt, IsSound, gone, waiting, with_child}
 use Rattle.strand_machine.specs.declared.task_state.TaskState.{TaskState}
 use Rattle.strand_machine.specs.declared.destination.Destination.{Destination}
@@ -57,8 +57,8 @@ length-after : (p : AwaitedChild) (ps : List AwaitedChild) (e : Event) → lengt
 length-after p [] e = refl
 length-after p (q ∷ qs) e = ap (λ (n : ℕ). suc n) (length-after q qs e)
 
-awaits-same : (family : FamilyView) (ps qs : List AwaitedChild) → awaited qs ≡ awaited ps → length qs ≡ length ps → AwaitsLast family ps → AwaitsLast family qs
-awaits-same family ps qs a n h = record {
+awaits-same : (links : LinksView) (ps qs : List AwaitedChild) → awaited qs ≡ awaited ps → length qs ≡ length ps → AwaitsLast links ps → AwaitsLast links qs
+awaits-same links ps qs a n h = record {
   before = h.before;
   passed = h.passed;
   same = h.same;
@@ -66,12 +66,12 @@ awaits-same family ps qs a n h = record {
   taken = h.taken ∙ ap (λ (m : ℕ). h.passed ++ replicate m false) (sym n);
 }
 
-awaits-emitted : (family : FamilyView) (trace : Trace) (e : Event) → AwaitsLast family trace.handed → AwaitsLast family (emit e trace).handed
-awaits-emitted family trace e h = from trace.handed refl
+awaits-emitted : (links : LinksView) (trace : Trace) (e : Event) → AwaitsLast links trace.unmerged → AwaitsLast links (emit e trace).unmerged
+awaits-emitted links trace e h = from trace.unmerged refl
   where
-    from : (ps : List AwaitedChild) → trace.handed ≡ ps → AwaitsLast family (emit_at ps e trace).handed
+    from : (ps : List AwaitedChild) → trace.unmerged ≡ ps → AwaitsLast links (emit_at ps e trace).unmerged
     from [] g = h
-    from (p ∷ ps) g = awaits-same family (p ∷ ps) (after_last p ps e) (awaited-after p ps e) (length-after p ps e) (subst (AwaitsLast family) g h)
+    from (p ∷ ps) g = awaits-same links (p ∷ ps) (after_last p ps e) (awaited-after p ps e) (length-after p ps e) (subst (AwaitsLast links) g h)
 
 -- The body after an event
 
@@ -84,30 +84,30 @@ module _ {K : Type 0} (b : TaskState K) (i : RawInstance) where
 
   -- nothing, or where a scope begins or has ended
 
-  abbrev pub IsQuiet : Effects → Type 0
-  IsQuiet s = (s ≡ effects-in.Nothing) ⊎ (((j : List ℕ) × s ≡ effects-in.Opened j) ⊎ ((j : List ℕ) × s ≡ effects-in.Closed j))
+  abbrev pub IsSilent : Effects → Type 0
+  IsSilent s = (s ≡ effects-in.Nothing) ⊎ (((j : List ℕ) × s ≡ effects-in.Opened j) ⊎ ((j : List ℕ) × s ≡ effects-in.Closed j))
 
   pub nothing-sound : (s : Effects) → s ≡ effects-in.Nothing → HasSoundEffects b i s → IsSound (gone b) running
-  nothing-sound s is h = let k : HasSoundEffects b i effects-in.Nothing = subst (HasSoundEffects b i) is h in record { task = k.task; family = k.family; of_plan = k.runs }
+  nothing-sound s is h = let k : HasSoundEffects b i effects-in.Nothing = subst (HasSoundEffects b i) is h in record { task = k.task; links = k.links; of_plan = k.runs }
 
   pub nothing-step : (s : Effects) (r : MadeStep K) → s ≡ effects-in.Nothing → r ≡ step-in.Passes (view_of (gone b) running) →
       step_of r ≡ stops_at (child_in (effects_of s)) (task_after_effects b i s)
   nothing-step s r is h = rw (h, is) refl
 
-  pub quiet-sound : (s : Effects) → IsQuiet s → HasSoundEffects b i s → IsSound (gone b) running
-  quiet-sound s (inl is) h = nothing-sound s is h
-  quiet-sound s (inr (inl (j, is))) h = let k : HasSoundEffects b i (effects-in.Opened j) = subst (HasSoundEffects b i) is h in record { task = k.task; family = k.family; of_plan = k.runs }
-  quiet-sound s (inr (inr (j, is))) h = let k : HasSoundEffects b i (effects-in.Closed j) = subst (HasSoundEffects b i) is h in record { task = k.task; family = k.family; of_plan = k.runs }
+  pub silent-sound : (s : Effects) → IsSilent s → HasSoundEffects b i s → IsSound (gone b) running
+  silent-sound s (inl is) h = nothing-sound s is h
+  silent-sound s (inr (inl (j, is))) h = let k : HasSoundEffects b i (effects-in.Opened j) = subst (HasSoundEffects b i) is h in record { task = k.task; links = k.links; of_plan = k.runs }
+  silent-sound s (inr (inr (j, is))) h = let k : HasSoundEffects b i (effects-in.Closed j) = subst (HasSoundEffects b i) is h in record { task = k.task; links = k.links; of_plan = k.runs }
 
-  pub quiet-step : (s : Effects) (r : MadeStep K) → IsQuiet s → r ≡ step-in.Passes (view_of (gone b) running) → step_of r ≡ stops_at (child_in (effects_of s)) (task_after_effects b i s)
-  quiet-step s r (inl is) h = nothing-step s r is h
-  quiet-step s r (inr (inl (j, is))) h = rw (h, is) refl
-  quiet-step s r (inr (inr (j, is))) h = rw (h, is) refl
+  pub silent-step : (s : Effects) (r : MadeStep K) → IsSilent s → r ≡ step-in.Passes (view_of (gone b) running) → step_of r ≡ stops_at (child_in (effects_of s)) (task_after_effects b i s)
+  silent-step s r (inl is) h = nothing-step s r is h
+  silent-step s r (inr (inl (j, is))) h = rw (h, is) refl
+  silent-step s r (inr (inr (j, is))) h = rw (h, is) refl
 
   -- an event
 
   emitted-at : (e : Event) → HasSoundEffects b i (effects-in.Emitted e) → IsSound (gone (with_trace b (emit e b.trace))) running
-  emitted-at e h = record { task = h.task; family = awaits-emitted b.family b.trace e h.family; of_plan = h.runs }
+  emitted-at e h = record { task = h.task; links = awaits-emitted b.links b.trace e h.links; of_plan = h.runs }
 
   pub emitted-sound : (s : Effects) (e : Event) (p : Trace) → s ≡ effects-in.Emitted e → p ≡ emit e b.trace → HasSoundEffects b i s → IsSound (gone (with_trace b p)) running
   emitted-sound s e p is q h = subst (λ (x : Trace). IsSound (gone (with_trace b x)) running) (sym q) (emitted-at e (subst (HasSoundEffects b i) is h))
@@ -122,7 +122,7 @@ module _ {K : Type 0} (b : TaskState K) (i : RawInstance) where
   at-sync = remaining.Runs (stage.AtSync i)
 
   synced-at : (e : Event) → HasSoundEffects b i (effects-in.Synced e) → IsSound (gone (with_trace b (emit e b.trace))) at-sync
-  synced-at e h = record { task = h.task; family = awaits-emitted b.family b.trace e h.family; of_plan = h.runs }
+  synced-at e h = record { task = h.task; links = awaits-emitted b.links b.trace e h.links; of_plan = h.runs }
 
   pub synced-sound : (s : Effects) (e : Event) (p : Trace) → s ≡ effects-in.Synced e → p ≡ emit e b.trace → HasSoundEffects b i s → IsSound (gone (with_trace b p)) at-sync
   synced-sound s e p is q h = subst (λ (x : Trace). IsSound (gone (with_trace b x)) at-sync) (sym q) (synced-at e (subst (HasSoundEffects b i) is h))
@@ -133,17 +133,17 @@ module _ {K : Type 0} (b : TaskState K) (i : RawInstance) where
 
   -- a child
 
-  pub spawned-known : (s : Effects) (e : Event) (o : SpawnedChild) → s ≡ effects-in.Spawned e o → HasSoundEffects b i s → IsOriginOf b.family.plan o.child.origin
+  pub spawned-known : (s : Effects) (e : Event) (o : SpawnedChild) → s ≡ effects-in.Spawned e o → HasSoundEffects b i s → IsOriginOf b.links.plan o.child.origin
   spawned-known s e o is h = let k : HasSoundEffects b i (effects-in.Spawned e o) = subst (HasSoundEffects b i) is h in k.child
 
-  pub spawned-trail : (s : Effects) (e : Event) (o : SpawnedChild) → s ≡ effects-in.Spawned e o → HasSoundEffects b i s → IsTrailOf b.family.plan o.child.origin o.child.trail
+  pub spawned-trail : (s : Effects) (e : Event) (o : SpawnedChild) → s ≡ effects-in.Spawned e o → HasSoundEffects b i s → IsTrailOf b.links.plan o.child.origin o.child.trail
   spawned-trail s e o is h = let k : HasSoundEffects b i (effects-in.Spawned e o) = subst (HasSoundEffects b i) is h in k.trail
 
   spawned-at : (e : Event) (o : SpawnedChild) → HasSoundEffects b i (effects-in.Spawned e o) →
       IsSound (with_child (with_trace b (emit e b.trace)) o.child.origin (destination.Spawned o.height o.target)) running
   spawned-at e o h = record {
     task = h.task;
-    family = awaits-more b.family (emit e b.trace).handed (record { child = o.child.origin; destination = destination_of (destination.Spawned o.height o.target); after = [] }) (awaits-emitted b.family b.trace e h.family);
+    links = awaits-more b.links (emit e b.trace).unmerged (record { child = o.child.origin; destination = destination_of (destination.Spawned o.height o.target); after = [] }) (awaits-emitted b.links b.trace e h.links);
     of_plan = h.runs;
   }
 
@@ -153,26 +153,26 @@ module _ {K : Type 0} (b : TaskState K) (i : RawInstance) where
       subst (λ (x : Trace). IsSound (with_child (with_trace b x) o.child.origin (destination.Spawned o.height o.target)) running) (sym q) (spawned-at e o (subst (HasSoundEffects b i) is h))
 
   pub spawned-step : (s : Effects) (e : Event) (o : SpawnedChild) (p : Trace) (r : MadeStep K) → s ≡ effects-in.Spawned e o → p ≡ emit e b.trace →
-      r ≡ step-in.Stops (stop-in.Spawn (fresh b.family.plan o.child.origin) (view_of (with_child (with_trace b p) o.child.origin (destination.Spawned o.height o.target)) running)) →
+      IsSpawn (with_trace b p) o.child.origin (destination.Spawned o.height o.target) running r →
       step_of r ≡ stops_at (child_in (effects_of s)) (task_after_effects b i s)
-  spawned-step s e o p r is q h = rw (h, q, is) refl
+  spawned-step s e o p r is q (joins, are, h) = rw (h, q, is) refl
 
   -- a loop
 
   abbrev at-loop : Remaining
   at-loop = remaining.Runs (stage.AtLoop i)
 
-  pub looped-known : (s : Effects) (e : Event) (o : LoopedChild) → s ≡ effects-in.Looped e o → HasSoundEffects b i s → IsOriginOf b.family.plan o.child.origin
+  pub looped-known : (s : Effects) (e : Event) (o : LoopedChild) → s ≡ effects-in.Looped e o → HasSoundEffects b i s → IsOriginOf b.links.plan o.child.origin
   looped-known s e o is h = let k : HasSoundEffects b i (effects-in.Looped e o) = subst (HasSoundEffects b i) is h in k.child
 
-  pub looped-trail : (s : Effects) (e : Event) (o : LoopedChild) → s ≡ effects-in.Looped e o → HasSoundEffects b i s → IsTrailOf b.family.plan o.child.origin o.child.trail
+  pub looped-trail : (s : Effects) (e : Event) (o : LoopedChild) → s ≡ effects-in.Looped e o → HasSoundEffects b i s → IsTrailOf b.links.plan o.child.origin o.child.trail
   looped-trail s e o is h = let k : HasSoundEffects b i (effects-in.Looped e o) = subst (HasSoundEffects b i) is h in k.trail
 
   looped-at : (e : Event) (o : LoopedChild) → HasSoundEffects b i (effects-in.Looped e o) →
       IsSound (with_child (with_trace b (emit e b.trace)) o.child.origin (destination.Looped o.target)) at-loop
   looped-at e o h = record {
     task = h.task;
-    family = awaits-more b.family (emit e b.trace).handed (record { child = o.child.origin; destination = destination_of (destination.Looped o.target); after = [] }) (awaits-emitted b.family b.trace e h.family);
+    links = awaits-more b.links (emit e b.trace).unmerged (record { child = o.child.origin; destination = destination_of (destination.Looped o.target); after = [] }) (awaits-emitted b.links b.trace e h.links);
     of_plan = h.runs;
   }
 
@@ -182,20 +182,20 @@ module _ {K : Type 0} (b : TaskState K) (i : RawInstance) where
       subst (λ (x : Trace). IsSound (with_child (with_trace b x) o.child.origin (destination.Looped o.target)) at-loop) (sym q) (looped-at e o (subst (HasSoundEffects b i) is h))
 
   pub looped-step : (s : Effects) (e : Event) (o : LoopedChild) (p : Trace) (r : MadeStep K) → s ≡ effects-in.Looped e o → p ≡ emit e b.trace →
-      r ≡ step-in.Stops (stop-in.Spawn (fresh b.family.plan o.child.origin) (view_of (with_child (with_trace b p) o.child.origin (destination.Looped o.target)) at-loop)) →
+      IsSpawn (with_trace b p) o.child.origin (destination.Looped o.target) at-loop r →
       step_of r ≡ stops_at (child_in (effects_of s)) (task_after_effects b i s)
-  looped-step s e o p r is q h = rw (h, q, is) refl
+  looped-step s e o p r is q (joins, are, h) = rw (h, q, is) refl
 
--- What the family keeps
+-- What the links keep
 
-pub passes-keep : {K : Type 0} (b : TaskState K) (p : Trace) (w next : Remaining) (r : MadeStep K) → cut_of next ≡ None → r ≡ step-in.Passes (view_of (gone (with_trace b p)) next) → KeepsFamilyInStep (view_of b w) r
-passes-keep b p w next r none h = rw h (refl, refl, none)
+pub passes-keep : {K : Type 0} (b : TaskState K) (p : Trace) (w next : Remaining) (r : MadeStep K) → cut_of next ≡ None → r ≡ step-in.Passes (view_of (gone (with_trace b p)) next) → KeepsLinksInStep (view_of b w) r
+passes-keep b p w next r none h = rw h (refl, refl, none, refl)
 
 pub spawns-keep : {K : Type 0} (b : TaskState K) (p : Trace) (w next : Remaining) (o : Origin) (at : Destination) (r : MadeStep K) → cut_of next ≡ None →
-    r ≡ step-in.Stops (stop-in.Spawn (fresh b.family.plan o) (view_of (with_child (with_trace b p) o at) next)) → KeepsFamilyInStep (view_of b w) r
-spawns-keep b p w next o at r none h = rw h (refl, refl, refl, none)
+    IsSpawn (with_trace b p) o at next r → KeepsLinksInStep (view_of b w) r
+spawns-keep b p w next o at r none (joins, are, h) = rw h (refl, refl, refl, none, refl, are)
 
-keeps-alike : {K : Type 0} (b : TaskState K) (w other : Remaining) (r : MadeStep K) → KeepsFamilyInStep (view_of b w) r → KeepsFamilyInStep (view_of b other) r
+keeps-alike : {K : Type 0} (b : TaskState K) (w other : Remaining) (r : MadeStep K) → KeepsLinksInStep (view_of b w) r → KeepsLinksInStep (view_of b other) r
 keeps-alike b w other (step-in.Passes next) h = h
 keeps-alike b w other (step-in.Stops (stop-in.Spawn child rest)) h = h
 keeps-alike b w other (step-in.Stops (stop-in.Wait rest)) h = h
@@ -208,11 +208,11 @@ pub record IsOnRun {K : Type 0} (first : TaskView) (b : TaskState K) (i : RawIns
 
 -- A move
 
-module _ {K : Type 0} (b : TaskState K) (i next : RawInstance) (plan : PlanView) (m : MoveResult) (p : plan ≡ b.family.plan) (e : move plan (moves.path_of i) (moves.machine_of plan i) ≡ run_of m (moves.machine_of plan next)) (h : IsSound b (remaining.Runs (stage.Running i))) where
-  pub runs-on : moves.path_of next ≡ moves.path_of i → moves.IsInstance plan next → RunsAt b.family.plan (path_of (own_instance b.family.origin)) next
+module _ {K : Type 0} (b : TaskState K) (i next : RawInstance) (plan : PlanView) (m : MoveResult) (p : plan ≡ b.links.plan) (e : move plan (moves.path_of i) (moves.machine_of plan i) ≡ run_of m (moves.machine_of plan next)) (h : IsSound b (remaining.Runs (stage.Running i))) where
+  pub runs-on : moves.path_of next ≡ moves.path_of i → moves.IsInstance plan next → RunsAt b.links.plan (path_of (own_instance b.links.origin)) next
   runs-on path sound = record { sound = subst (λ (q : PlanView). moves.IsInstance q next) p sound; at = path ∙ h.of_plan.at }
 
-  moves-so : (n : MoveResult) → m ≡ n → move b.family.plan (moves.path_of i) (moves.machine_of b.family.plan i) ≡ run_of n (moves.machine_of b.family.plan next)
+  moves-so : (n : MoveResult) → m ≡ n → move b.links.plan (moves.path_of i) (moves.machine_of b.links.plan i) ≡ run_of n (moves.machine_of b.links.plan next)
   moves-so n is =
       subst (λ (q : PlanView). move q (moves.path_of i) (moves.machine_of q i) ≡ run_of n (moves.machine_of q next)) p
       (e ∙ ap (λ (x : MoveResult). run_of x (moves.machine_of plan next)) is)
@@ -234,19 +234,19 @@ module _ {K : Type 0} (b : TaskState K) (i next : RawInstance) (plan : PlanView)
   pub faulted-is : (f : Fault) (r : MadeStep K) → m ≡ move_result-in.Faulted f → r ≡ step-in.Passes (view_of (gone b) (remaining.Runs (stage.Faulted f))) → IsStep (view_of b (remaining.Runs (stage.Running i))) r
   faulted-is f r is = pass-is b (remaining.Runs (stage.Running i)) (remaining.Runs (stage.Faulted f)) r tt (go-faulted b i next f h.of_plan (moves-so (move_result-in.Faulted f) is))
 
-  went-one : (s : Effects) (r : MadeStep K) → m ≡ move_result-in.Went s → step_of r ≡ stops_at (child_in (effects_of s)) (task_after_effects b next s) → KeepsFamilyInStep (view_of b (remaining.Runs (stage.Running next))) r →
+  went-one : (s : Effects) (r : MadeStep K) → m ≡ move_result-in.Went s → step_of r ≡ stops_at (child_in (effects_of s)) (task_after_effects b next s) → KeepsLinksInStep (view_of b (remaining.Runs (stage.Running next))) r →
       IsStep (view_of b (remaining.Runs (stage.Running i))) r
   went-one s r is g k = record { is = go-went b i next s h.of_plan (moves-so (move_result-in.Went s) is) ∙ sym g; keeps = keeps-alike b (remaining.Runs (stage.Running next)) (remaining.Runs (stage.Running i)) r k }
 
   pub went-is : {X E : Type 0} (f : X → MadeStep K) (s : Effects) (r : Result X E) → m ≡ move_result-in.Went s → IfOk r (λ x. step_of (f x) ≡ stops_at (child_in (effects_of s)) (task_after_effects b next s)) →
-      IfOk r (λ x. KeepsFamilyInStep (view_of b (remaining.Runs (stage.Running next))) (f x)) → IfOk r (λ x. IsStep (view_of b (remaining.Runs (stage.Running i))) (f x))
+      IfOk r (λ x. KeepsLinksInStep (view_of b (remaining.Runs (stage.Running next))) (f x)) → IfOk r (λ x. IsStep (view_of b (remaining.Runs (stage.Running i))) (f x))
   went-is f s (Ok x) is g k = went-one s (f x) is g k
   went-is f s (Err x) is g k = tt
 
   -- one that shows nothing, or an event alone: the instance goes on
 
   still-is : (s : Effects) → m ≡ move_result-in.Went s → s ≡ effects-in.Nothing → IsStep {K = K} (view_of b (remaining.Runs (stage.Running i))) (step-in.Passes (view_of (gone b) (remaining.Runs (stage.Running next))))
-  still-is s is shows = went-one s _ is (nothing-step b next s _ shows refl) (refl, refl, refl)
+  still-is s is shows = went-one s _ is (nothing-step b next s _ shows refl) (refl, refl, refl, refl)
 
   pub still-on : StepsAreSound → MovesFall → (first : TaskView) → LeadsTo first (view_of b (remaining.Runs (stage.Running i))) → (s : Effects) → m ≡ move_result-in.Went s → s ≡ effects-in.Nothing →
       moves.path_of next ≡ moves.path_of i → moves.IsInstance plan next → MovesTrail plan m → IsOnRun first (gone b) next
@@ -260,7 +260,7 @@ module _ {K : Type 0} (b : TaskState K) (i next : RawInstance) (plan : PlanView)
 
   emits-is : (s : Effects) (t : Event) (q : Trace) → m ≡ move_result-in.Went s → s ≡ effects-in.Emitted t → q ≡ emit t b.trace →
       IsStep {K = K} (view_of b (remaining.Runs (stage.Running i))) (step-in.Passes (view_of (gone (with_trace b q)) (remaining.Runs (stage.Running next))))
-  emits-is s t q is shows g = went-one s _ is (emitted-step b next s t q _ shows g refl) (refl, refl, refl)
+  emits-is s t q is shows g = went-one s _ is (emitted-step b next s t q _ shows g refl) (refl, refl, refl, refl)
 
   pub emits-on : StepsAreSound → MovesFall → (first : TaskView) → LeadsTo first (view_of b (remaining.Runs (stage.Running i))) → (s : Effects) (t : Event) (q : Trace) → m ≡ move_result-in.Went s → s ≡ effects-in.Emitted t → q ≡ emit t b.trace →
       moves.path_of next ≡ moves.path_of i → moves.IsInstance plan next → MovesTrail plan m → IsOnRun first (gone (with_trace b q)) next
@@ -284,10 +284,10 @@ module _ {K : Type 0} (b : TaskState K) (i next : RawInstance) (plan : PlanView)
       let k = synced-sound b next s t q shows g (went-sound law s is path sound trail) in wait-sound law (gone (with_trace b q)) syncs syncs k refl k.of_plan
 
   pub syncs-run : MovesFall → (first : TaskView) → LeadsTo first (view_of b (remaining.Runs (stage.Running i))) → (s : Effects) (t : Event) (q : Trace) → m ≡ move_result-in.Went s → s ≡ effects-in.Synced t → q ≡ emit t b.trace →
-      RunsAt b.family.plan (path_of (own_instance b.family.origin)) next → (r : MadeStep K) → r ≡ step-in.Stops (stop-in.Wait (view_of (waiting (gone (with_trace b q))) syncs)) → IsRun first r
+      RunsAt b.links.plan (path_of (own_instance b.links.origin)) next → (r : MadeStep K) → r ≡ step-in.Stops (stop-in.Wait (view_of (waiting (gone (with_trace b q))) syncs)) → IsRun first r
   syncs-run fall first leads s t q is shows g at r e = record {
     before = view_of (gone (with_trace b q)) syncs;
-    leads = leads-on fall first _ _ _ leads (went-one s (step-in.Passes (view_of (gone (with_trace b q)) syncs)) is (synced-step b next s t q _ shows g refl) (refl, refl, refl)) refl;
+    leads = leads-on fall first _ _ _ leads (went-one s (step-in.Passes (view_of (gone (with_trace b q)) syncs)) is (synced-step b next s t q _ shows g refl) (refl, refl, refl, refl)) refl;
     step = wait-is (gone (with_trace b q)) syncs syncs r at refl e;
   }
 
@@ -338,7 +338,7 @@ module _ {K : Type 0} (b : TaskState K) (i : RawInstance) where
   on_task = task_of b (remaining.Runs (stage.Running i))
 
   step-gone : meaning.step on_task ≡ meaning.step (record on_task { advanced = true })
-  step-gone = let r = move b.family.plan (path_of (own_instance b.family.origin)) (moves.machine_of b.family.plan i) in result-gone on_task r.items r.ending
+  step-gone = let r = move b.links.plan (path_of (own_instance b.links.origin)) (moves.machine_of b.links.plan i) in result-gone on_task r.items r.ending
 
   -- an instance that goes on is advanced by its next move anyway
   pub gone-run : (first : TaskView) → IsOnRun first b i → IsOnRun first (gone b) i
@@ -348,7 +348,7 @@ module _ {K : Type 0} (b : TaskState K) (i : RawInstance) where
       record {
         sound = record {
           task = record { finishes = t.finishes; known = t.known; clear = t.clear; awaiting = t.awaiting; shown = t.shown; remaining = t.remaining; pending = t.pending; found = t.found };
-          family = h.sound.family;
+          links = h.sound.links;
           of_plan = h.sound.of_plan;
         };
         leads = record {
@@ -358,6 +358,7 @@ module _ {K : Type 0} (b : TaskState K) (i : RawInstance) where
           origin = l.origin;
           children = l.children;
           loads = l.loads;
+          joins = l.joins;
           cut = l.cut;
         };
       }
@@ -365,26 +366,30 @@ module _ {K : Type 0} (b : TaskState K) (i : RawInstance) where
 abbrev after : Event → Trace → Trace
 after e trace = emit e trace
 
-module _ {K : Type 0} (law : StepsAreSound) (fall : MovesFall) (plan : PlanView) (first : TaskView) (b : TaskState K) (i : RawInstance) (p : plan ≡ b.family.plan) (h : IsOnRun first (gone b) i) where
-  row-on : (now : InstanceParts) (trace : Trace) → Row after plan i.parts.value b.trace now trace → IsOnRun first (gone (with_trace b trace)) (holding i now)
-  row-on now trace (Still _ _ e q) =
+module _ {K : Type 0} (law : StepsAreSound) (fall : MovesFall) (plan : PlanView) (first : TaskView) (b : TaskState K) (i : RawInstance) (p : plan ≡ b.links.plan) (h : IsOnRun first (gone b) i) where
+  straight_run-on : (now : InstanceParts) (trace : Trace) → StraightRun after plan i.parts.value b.trace now trace → IsOnRun first (gone (with_trace b trace)) (holding i now)
+  straight_run-on now trace (Still _ _ e q) =
       subst (λ (x : Trace). IsOnRun first (gone (with_trace b x)) (holding i now)) (sym q) (subst (λ (r : InstanceParts). IsOnRun first (gone b) (holding i r)) (sym e) h)
-  row-on now trace (More before _ _ row e path sound) =
-      let k = row-on before trace row in
+  straight_run-on now trace (More before _ _ straight_run e path sound) =
+      let k = straight_run-on before trace straight_run in
       still-on (gone (with_trace b trace)) (holding i before) (holding i now) plan (move_result-in.Went effects-in.Nothing) p e k.sound law fall first k.leads effects-in.Nothing refl refl path sound tt
-  row-on now trace (Emits before _ merging _ t row e q path sound) =
-      let k = row-on before merging row in
+  straight_run-on now trace (Emits before _ merging _ t straight_run e q path sound) =
+      let k = straight_run-on before merging straight_run in
       emits-on (gone (with_trace b merging)) (holding i before) (holding i now) plan (move_result-in.Went (effects-in.Emitted t)) p e k.sound law fall first k.leads (effects-in.Emitted t) t trace refl refl q path sound tt
 
 -- where the moves in a row came to, before the last one
-pub row-run : {K : Type 0} → StepsAreSound → MovesFall → (plan : PlanView) (b : TaskState K) (i : RawInstance) → plan ≡ b.family.plan → IsSound b (remaining.Runs (stage.Running i)) → (now : InstanceParts) (trace : Trace) → Row after plan i.parts.value b.trace now trace →
+pub straight_run-run : {K : Type 0} → StepsAreSound → MovesFall → (plan : PlanView) (b : TaskState K) (i : RawInstance) → plan ≡ b.links.plan → IsSound b (remaining.Runs (stage.Running i)) → (now : InstanceParts) (trace : Trace) → StraightRun after plan i.parts.value b.trace now trace →
     IsOnRun (view_of b (remaining.Runs (stage.Running i))) (gone (with_trace b trace)) (holding i now)
-row-run law fall plan b i p sound now trace row =
+straight_run-run law fall plan b i p sound now trace straight_run =
     let first = view_of b (remaining.Runs (stage.Running i)) in
-    row-on law fall plan first b i p (gone-run b i first (record { sound = sound; leads = leads-start first refl })) now trace row
+    straight_run-on law fall plan first b i p (gone-run b i first (record { sound = sound; leads = leads-start first refl })) now trace straight_run
 
 pub on-run-over : {K : Type 0} (first : TaskView) (b c : TaskState K) (i j : RawInstance) → IsOnRun first b i → IsOnRun (view_of b (remaining.Runs (stage.Running i))) c j → IsOnRun first c j
 on-run-over first b c i j h k = record { sound = k.sound; leads = leads-over first _ _ h.leads k.leads }
+
+-- moves in a row after which the trace is still this one
+pub comes-heard : (plan : PlanView) (i : RawInstance) (start : Trace) (now : RawInstance) (sent heard : Trace) (next : Option Stmt) → heard ≡ sent → moves.ComesToStatement after plan i start now sent next → moves.ComesToStatement after plan i start now heard next
+comes-heard plan i start now sent heard next same came = subst (λ (t : Trace). moves.ComesToStatement after plan i start now t next) (sym same) came
 
 -- A move of an instance to which moves in a row have led. This much was left before them.
 pub record IsLast {K : Type 0} (first : TaskView) (b : TaskState K) (left : ℕ) (plan : PlanView) (m : MoveResult) (new : RawInstance) : Type 0 where
@@ -396,23 +401,23 @@ pub record IsLast {K : Type 0} (first : TaskView) (b : TaskState K) (left : ℕ)
   pub sound : moves.IsInstance plan new
 
 -- The instance to which moves in a row came, which a spawn may have looked at since, and one move more of it.
-module _ {K : Type 0} (law : StepsAreSound) (fall : MovesFall) (plan : PlanView) (first : TaskView) (b : TaskState K) (i : RawInstance) (p : plan ≡ b.family.plan) (h : IsOnRun first b i) (now : RawInstance) (sent : Trace) (next : Option Stmt) (came : moves.ComesToStatement after plan i b.trace now sent next) (from : RawInstance) (same : from.parts.value ≡ now.parts.value) where
+module _ {K : Type 0} (law : StepsAreSound) (fall : MovesFall) (plan : PlanView) (first : TaskView) (b : TaskState K) (i : RawInstance) (p : plan ≡ b.links.plan) (h : IsOnRun first b i) (now : RawInstance) (sent : Trace) (next : Option Stmt) (came : moves.ComesToStatement after plan i b.trace now sent next) (from : RawInstance) (same : from.parts.value ≡ now.parts.value) where
   pub came-sound : moves.IsInstance plan from
   came-sound = subst (λ (r : InstanceParts). instance_parts.IsInstance plan r) (sym same) (comes-sound after plan i.parts.value b.trace now.parts.value sent next came)
 
   pub came-has : (at : Option Stmt) → next ≡ at → moves.HasPassedStatement plan from at
   came-has at is =
-      subst (λ (o : Option Stmt). rows.HasPassedStatement plan from.parts.value o) is
-      (subst (λ (r : InstanceParts). rows.HasPassedStatement plan r next) (sym same) (comes-has after plan i.parts.value b.trace now.parts.value sent next came))
+      subst (λ (o : Option Stmt). straight_runs.HasPassedStatement plan from.parts.value o) is
+      (subst (λ (r : InstanceParts). straight_runs.HasPassedStatement plan r next) (sym same) (comes-has after plan i.parts.value b.trace now.parts.value sent next came))
 
   pub one-more : (at : Option Stmt) → next ≡ at → (new : RawInstance) (m : MoveResult) → move plan (moves.path_of from) (moves.unpassed plan from at) ≡ run_of m (moves.machine_of plan new) → moves.path_of new ≡ moves.path_of from → moves.IsInstance plan new →
       IsLast first (gone (with_trace b sent)) (moves_left (task_of b (remaining.Runs (stage.Running i)))) plan m new
   one-more at is new m e path sound =
-      let k : move plan (instance_parts.path_of now.parts.value) (rows.unpassed plan now.parts.value next) ≡ run_of m (moves.machine_of plan new) =
-      subst (λ (o : Option Stmt). move plan (instance_parts.path_of now.parts.value) (rows.unpassed plan now.parts.value o) ≡ run_of m (moves.machine_of plan new)) (sym is)
-      (subst (λ (r : InstanceParts). move plan (instance_parts.path_of r) (rows.unpassed plan r at) ≡ run_of m (moves.machine_of plan new)) same e) in
+      let k : move plan (instance_parts.path_of now.parts.value) (straight_runs.unpassed plan now.parts.value next) ≡ run_of m (moves.machine_of plan new) =
+      subst (λ (o : Option Stmt). move plan (instance_parts.path_of now.parts.value) (straight_runs.unpassed plan now.parts.value o) ≡ run_of m (moves.machine_of plan new)) (sym is)
+      (subst (λ (r : InstanceParts). move plan (instance_parts.path_of r) (straight_runs.unpassed plan r at) ≡ run_of m (moves.machine_of plan new)) same e) in
       let r : moves.RunsOn after plan i b.trace m new sent = comes-moved after plan i.parts.value b.trace now.parts.value sent next came {E = Unit {0}} (Ok m) new.parts.value k in
-      let q = row-run law fall plan b i p h.sound r.before sent r.row in
+      let q = straight_run-run law fall plan b i p h.sound r.before sent r.straight_run in
       record {
         before = holding i r.before;
         runs = on-run-over first b (gone (with_trace b sent)) i (holding i r.before) h q;

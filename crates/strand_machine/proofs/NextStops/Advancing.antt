@@ -20,11 +20,11 @@ use Rattle.strand_meaning.specs.Trace.{AwaitedChild}
 use Rattle.strand_meaning.specs.Sound.{IsTask}
 use Rattle.strand_meaning.specs.Task as meaning
 use Rattle.strand_meaning.specs.Task.{Task, Stop, IsNext, Now, Later, own_instance, stage_after, child_in, stops_at, passing, step_result, ends_unless, faults_after, returned, stage_step, split_step, over_step, remaining_step}
-use Rattle.strand_machine.specs.Family.{tag}
+use Rattle.strand_machine.specs.Links.{AreJoinNames, GiveView, JoinNames, task_give}
 use Rattle.strand_machine.specs.Made.{IsRun, LeadsTo, StepsOn, stage_goes_on, remaining_goes_on}
-use Rattle.strand_machine.specs.Stops.{IsStep, IsStop, IsKnownStop, Advances, KeepsFamily, stop_of}
+use Rattle.strand_machine.specs.Stops.{IsStep, IsStop, IsKnownStop, Advances, KeepsLinks, stop_of}
 use Rattle.strand_machine.proofs.NextStops.ByCut.{advances-so}
-use Rattle.strand_machine.specs.Tasks.{TaskView, HoldsOfTask, IsCutShort, IsSound, fresh, is_cut_short, cut_of, view_of}
+use Rattle.strand_machine.specs.Tasks.{TaskView, HoldsOfTask, IsCutShort, IsSound, fresh, has_outcome, cut_of, view_of}
 use Rattle.strand_machine.specs.declared.task_state.TaskState.{TaskState}
 use Rattle.strand_machine.specs.declared.remaining.Remaining.{Remaining}
 use Rattle.strand_machine.specs.declared.remaining.Remaining.TheVariants as remaining
@@ -66,7 +66,7 @@ module _ (t : Task) where
   of-stage (meaning.AtSync m) = tt
   of-stage (meaning.AtLoop m) = tt
   of-stage (meaning.Ended (Ok v)) = of-returned t.origin v
-  of-stage (meaning.Ended (Err (Own f))) = of-faults t.trace.handed f
+  of-stage (meaning.Ended (Err (Own f))) = of-faults t.trace.unmerged f
   of-stage (meaning.Ended (Err (ChildFaulted f))) = of-ends t.trace.fault _
 
   of-split : (left : Range) (n : ℕ) → KeepsOf t (split_step t left n)
@@ -95,7 +95,7 @@ pass-of t next e = subst (KeepsOf t) e (of-remaining t t.remaining)
 -- Moves in a row
 
 pub leads-start : (t : TaskView) → t.cut ≡ None → LeadsTo t t
-leads-start t goes = record { next = λ stop n. n; fewer = omega arith; plan = refl; origin = refl; children = refl; loads = refl; cut = goes }
+leads-start t goes = record { next = λ stop n. n; fewer = omega arith; plan = refl; origin = refl; children = refl; loads = refl; joins = refl; cut = goes }
 
 pub leads-over : (first now next : TaskView) → LeadsTo first now → LeadsTo now next → LeadsTo first next
 leads-over first now next h g = record {
@@ -105,6 +105,7 @@ leads-over first now next h g = record {
   origin = g.origin ∙ h.origin;
   children = g.children ∙ h.children;
   loads = g.loads ∙ h.loads;
+  joins = g.joins ∙ h.joins;
   cut = g.cut;
 }
 
@@ -125,19 +126,26 @@ leads-on {K} law first now next s h g e =
       origin = of.1 ∙ h.origin;
       children = k.keeps.0 ∙ h.children;
       loads = k.keeps.1 ∙ h.loads;
+      joins = k.keeps.3 ∙ h.joins;
       cut = k.keeps.2;
     }
 
-keeps-first : {K : Type 0} (first now : TaskView) (stop : MadeStop K) → LeadsTo first now → KeepsFamily now stop → KeepsFamily first stop
+keeps-first : {K : Type 0} (first now : TaskView) (stop : MadeStop K) → LeadsTo first now → KeepsLinks now stop → KeepsLinks first stop
 keeps-first first now (stop-in.Spawn child rest) h k = (
-  k.0 ∙ ap (λ (p : PlanView). fresh p child.task.origin) h.plan,
+  k.0 ∙ ap (λ (p : PlanView). fresh p child.task.origin child.joins) h.plan,
   k.1 ∙ ap (λ (l : List Origin). l ++ child.task.origin ∷ []) h.children,
   k.2 ∙ h.loads,
   k.3,
+  k.4 ∙ h.joins,
+  subst (λ (l : JoinNames). AreJoinNames l.own child.joins) h.joins k.5,
 )
-keeps-first first now (stop-in.Wait rest) h k = (k.0 ∙ h.children, k.1 ∙ h.loads, k.2)
-keeps-first first now (stop-in.Done answer give) h k =
-    (k.0 ∙ h.plan, k.1 ∙ h.origin, k.2 ∙ ap (λ (p : PlanView). tag p now.task.origin) h.plan ∙ ap (tag first.task.plan) h.origin)
+keeps-first first now (stop-in.Wait rest) h k = (k.0 ∙ h.children, k.1 ∙ h.loads, k.2, k.3 ∙ h.joins)
+keeps-first first now (stop-in.Done answer give) h k = (
+  k.0 ∙ h.plan,
+  k.1 ∙ h.origin,
+  k.2 ∙ ap (λ (p : PlanView). task_give p now.task.origin now.joins) h.plan ∙ ap (λ (o : Origin). task_give first.task.plan o now.joins) h.origin
+      ∙ ap (task_give first.task.plan first.task.origin) h.joins,
+)
 
 known-of : {K : Type 0} (t : TaskView) (stop : MadeStop K) → IsSoundStop t.task (stop_of stop) → IsKnownStop t stop
 known-of t (stop-in.Spawn child rest) h = h.0
@@ -210,11 +218,11 @@ waits-sound b (remaining.Finished v gone_on) t view waits h = h
 waits-sound b (remaining.Ends ended) t view waits h = absurd (true≢false (sym waits ∙ ap (λ (v : TaskView). v.task.waiting) (sym view) ∙ h.waits))
 
 -- one that took none, and one that did
-not-cut : (o : Option Outcome) → is_cut_short o ≡ false → o ≡ None
+not-cut : (o : Option Outcome) → has_outcome o ≡ false → o ≡ None
 not-cut None e = refl
 not-cut (Some ended) e = absurd (true≢false e)
 
-pub goes-on-uncut : (o : Option Outcome) (r : Bool) → r ≡ is_cut_short o → r ≡ false → o ≡ None
+pub goes-on-uncut : (o : Option Outcome) (r : Bool) → r ≡ has_outcome o → r ≡ false → o ≡ None
 goes-on-uncut o r e f = not-cut o (sym e ∙ f)
 
 pub advances-uncut : {K : Type 0} (t : TaskView) (stop : MadeStop K) → t.cut ≡ None → IsStop t stop → Advances t stop
@@ -222,10 +230,10 @@ advances-uncut t stop e h = advances-so t stop None e h
 
 -- one that took a cut ends so
 
-pub is-short : {K : Type 0} (b : TaskState K) (w : Remaining) (t : TaskView) → view_of b w ≡ t → is_cut_short t.cut ≡ true → ((o : Outcome) → w ≡ remaining.Ends o → ⊥) → ⊥
-is-short b w t view short other = by_remaining w (ap (λ (v : TaskView). is_cut_short v.cut) view ∙ short) other
+pub is-short : {K : Type 0} (b : TaskState K) (w : Remaining) (t : TaskView) → view_of b w ≡ t → has_outcome t.cut ≡ true → ((o : Outcome) → w ≡ remaining.Ends o → ⊥) → ⊥
+is-short b w t view short other = by_remaining w (ap (λ (v : TaskView). has_outcome v.cut) view ∙ short) other
   where
-    by_remaining : (x : Remaining) → is_cut_short (cut_of x) ≡ true → ((o : Outcome) → x ≡ remaining.Ends o → ⊥) → ⊥
+    by_remaining : (x : Remaining) → has_outcome (cut_of x) ≡ true → ((o : Outcome) → x ≡ remaining.Ends o → ⊥) → ⊥
     by_remaining (remaining.Splits left) e h = true≢false (sym e)
     by_remaining (remaining.Runs s) e h = true≢false (sym e)
     by_remaining (remaining.Finished v gone_on) e h = true≢false (sym e)
@@ -234,13 +242,13 @@ is-short b w t view short other = by_remaining w (ap (λ (v : TaskView). is_cut_
 held-short : {K : Type 0} (b : TaskState K) (w : Remaining) (o : Outcome) → w ≡ remaining.Ends o → HoldsOfTask b w → IsCutShort b o
 held-short b w o is h = subst (HoldsOfTask b) is h
 
-pub short-answers : {K : Type 0} (b : TaskState K) (w : Remaining) (o : Outcome) (prefix : List Event) → w ≡ remaining.Ends o → prefix ≡ b.trace.prefix → HoldsOfTask b w → IsAnswer b.family.plan b.family.origin prefix o
-short-answers b w o prefix is same h = subst (λ (es : List Event). IsAnswer b.family.plan b.family.origin es o) (sym same) (held-short b w o is h).answers
+pub short-answers : {K : Type 0} (b : TaskState K) (w : Remaining) (o : Outcome) (prefix : List Event) → w ≡ remaining.Ends o → prefix ≡ b.trace.prefix → HoldsOfTask b w → IsAnswer b.links.plan b.links.origin prefix o
+short-answers b w o prefix is same h = subst (λ (es : List Event). IsAnswer b.links.plan b.links.origin es o) (sym same) (held-short b w o is h).answers
 
-pub short-ends : {K : Type 0} (b : TaskState K) (w : Remaining) (o : Outcome) (t : TaskView) → view_of b w ≡ t → w ≡ remaining.Ends o → HoldsOfTask b w → (prefix : List Event) (answer : AnswerView) (give : AnswerTag) → prefix ≡ b.trace.prefix →
-    answer ≡ record { plan = b.family.plan; origin = b.family.origin; out = prefix; outcome = o } → give ≡ tag b.family.plan b.family.origin → Advances {K = K} t (stop-in.Done answer give)
+pub short-ends : {K : Type 0} (b : TaskState K) (w : Remaining) (o : Outcome) (t : TaskView) → view_of b w ≡ t → w ≡ remaining.Ends o → HoldsOfTask b w → (prefix : List Event) (answer : AnswerView) (give : GiveView AnswerTag) → prefix ≡ b.trace.prefix →
+    answer ≡ record { plan = b.links.plan; origin = b.links.origin; out = prefix; outcome = o } → give ≡ task_give b.links.plan b.links.origin b.links.joins → Advances {K = K} t (stop-in.Done answer give)
 short-ends {K} b w o t view is h prefix answer give same e g = subst (λ (v : TaskView). Advances {K = K} v (stop-in.Done answer give)) view (subst (λ (x : Remaining). Advances {K = K} (view_of b x) (stop-in.Done answer give)) (sym is) (advances-so (view_of b (remaining.Ends o)) (stop-in.Done answer give) (Some o) refl (record {
-  is = ap (λ (a : AnswerView). stop-in.Done a give) (e ∙ ap (λ (es : List Event). record { plan = b.family.plan; origin = b.family.origin; out = es; outcome = o }) same)
-      ∙ ap (λ (y : AnswerTag). stop-in.Done (record { plan = b.family.plan; origin = b.family.origin; out = b.trace.prefix; outcome = o }) y) g;
+  is = ap (λ (a : AnswerView). stop-in.Done a give) (e ∙ ap (λ (es : List Event). record { plan = b.links.plan; origin = b.links.origin; out = es; outcome = o }) same)
+      ∙ ap (λ (y : GiveView AnswerTag). stop-in.Done (record { plan = b.links.plan; origin = b.links.origin; out = b.trace.prefix; outcome = o }) y) g;
   known = (held-short b w o is h).known;
 })))

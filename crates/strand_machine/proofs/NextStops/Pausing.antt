@@ -1,15 +1,17 @@
 -- A task that comes to a stop and still has what it answers.
-use Rattle.std.proofs.Common.{◌≡◌, true, false, None, refl, sym, ap, subst}
+use Rattle.std.proofs.Common.{◌≡◌, ◌∙◌, true, false, None, refl, sym, ap, subst}
 use Rattle.serial_meaning.specs.Answer.{AnswerView, AnswerTag, IsAnswer}
 use Rattle.serial_meaning.specs.Plan.{PlanView}
 use Rattle.serial_meaning.specs.declared.answer.Outcome.{Outcome}
 use Rattle.serial_meaning.specs.declared.answer.Outcome.TheVariants as outcome
 use Rattle.strand_meaning.specs.Cuts.{IsByFaultOf}
 use Rattle.strand_meaning.specs.Laws.{IsFaultOf}
-use Rattle.strand_machine.specs.Family.{FamilyView, tag}
+use Rattle.meet_block.specs.Gives.{give_of}
+use Rattle.serial_meaning.specs.declared.origin.Origin.{Origin}
+use Rattle.strand_machine.specs.Links.{LinksView, GiveView, tag, task_give}
 use Rattle.strand_machine.specs.Made.{KeepsAnswer, KnowsEnd, PausesAs, StopsSo, made}
 use Rattle.strand_machine.specs.Stops.{Advances, HasEnded, IsCutEnd, IsStop, Pauses}
-use Rattle.strand_machine.specs.Tasks.{HoldsOfTask, TaskView, cut_of, ended_by, is_cut_short, view_of}
+use Rattle.strand_machine.specs.Tasks.{HoldsOfTask, TaskView, cut_of, ended_by, has_outcome, view_of}
 use Rattle.strand_machine.specs.declared.task_state.TaskState.{TaskState}
 use Rattle.strand_machine.specs.declared.parts.Parts.{Parts}
 use Rattle.strand_machine.specs.declared.stop.MoveOrStop.{MoveOrStop}
@@ -36,16 +38,19 @@ knows-end t p passed-in.Continues h = tt
 knows-end t p passed-in.Waits h = tt
 knows-end t p (passed-in.Spawned child) h = tt
 knows-end t p (passed-in.Ends o) h =
-    let ended = ended_by p.state.trace.fault o in by-fault p.state.family.plan ended (subst (λ (plan : PlanView). IsFaultOf plan ended) (sym h.keeps.0) h.known)
+    let ended = ended_by p.state.trace.fault o in by-fault p.state.links.plan ended (subst (λ (plan : PlanView). IsFaultOf plan ended) (sym h.keeps.0) h.known)
 
-kept-end : {K : Type 0} (t rest : TaskView) (a : AnswerView) (give : AnswerTag) → IsStop {K = K} t (stop-in.Done a give) → KeepsAnswer {K = K} a (paused-in.Ended rest) → HasEnded K t rest
+kept-end : {K : Type 0} (t rest : TaskView) (a : AnswerView) (give : GiveView AnswerTag) → IsStop {K = K} t (stop-in.Done a give) → KeepsAnswer {K = K} a give (paused-in.Ended rest) → HasEnded K t rest
 kept-end {K} t rest a give h k =
     let answer : record { plan = rest.task.plan; origin = rest.task.origin; out = rest.task.trace.prefix; outcome = a.outcome } ≡ a = rw (k.0, k.1, k.2) refl in
-    let give-is : tag rest.task.plan rest.task.origin ≡ give = rw (k.0, k.1, h.keeps.0, h.keeps.1) (sym h.keeps.2) in
+    let join : rest.joins.parents ≡ t.joins.parents = k.4 ∙ ap (λ (g : GiveView AnswerTag). g.join) h.keeps.2 in
+    let give-is : task_give rest.task.plan rest.task.origin rest.joins ≡ give =
+    ap (λ (p : PlanView). task_give p rest.task.origin rest.joins) (k.0 ∙ h.keeps.0) ∙ ap (λ (o : Origin). task_give t.task.plan o rest.joins) (k.1 ∙ h.keeps.1)
+    ∙ ap (give_of (tag t.task.plan t.task.origin)) join ∙ sym h.keeps.2 in
     record {
       outcome = a.outcome;
       cut = k.3;
-      stop = subst (λ (x : AnswerView). IsStop {K = K} t (stop-in.Done x (tag rest.task.plan rest.task.origin))) (sym answer) (subst (λ (y : AnswerTag). IsStop {K = K} t (stop-in.Done a y)) (sym give-is) h);
+      stop = subst (λ (x : AnswerView). IsStop {K = K} t (stop-in.Done x (task_give rest.task.plan rest.task.origin rest.joins))) (sym answer) (subst (λ (y : GiveView AnswerTag). IsStop {K = K} t (stop-in.Done a y)) (sym give-is) h);
     }
 
 -- What a task answers that has ended is its next stop.
@@ -61,16 +66,16 @@ waits-as p passed is = subst (λ (x : Passed _). PausesAs (made p x) (paused-in.
 pub spawns-as : {K : Type 0} (p : Parts K) (passed : Passed K) (child : TaskView) → passed ≡ passed-in.Spawned child → PausesAs (made p passed) (paused-in.Spawn child (view_of p.state p.remaining))
 spawns-as p passed child is = subst (λ (x : Passed _). PausesAs (made p x) (paused-in.Spawn child (view_of p.state p.remaining))) (sym is) refl
 
-pub knows-at : {K : Type 0} (p : Parts K) (passed : Passed K) (o : Outcome) → passed ≡ passed-in.Ends o → KnowsEnd p passed → IsByFaultOf p.state.family.plan (ended_by p.state.trace.fault o)
+pub knows-at : {K : Type 0} (p : Parts K) (passed : Passed K) (o : Outcome) → passed ≡ passed-in.Ends o → KnowsEnd p passed → IsByFaultOf p.state.links.plan (ended_by p.state.trace.fault o)
 knows-at p passed o is h = subst (KnowsEnd p) is h
 
-pub keeps-end : {K : Type 0} (p new : Parts K) (passed : Passed K) (o : Outcome) → passed ≡ passed-in.Ends o → new.remaining ≡ remaining.Ends (ended_by p.state.trace.fault o) → new.state.family ≡ p.state.family → new.state.trace.prefix ≡ p.state.trace.prefix →
+pub keeps-end : {K : Type 0} (p new : Parts K) (passed : Passed K) (o : Outcome) → passed ≡ passed-in.Ends o → new.remaining ≡ remaining.Ends (ended_by p.state.trace.fault o) → new.state.links ≡ p.state.links → new.state.trace.prefix ≡ p.state.trace.prefix →
     PausesAs (made p passed) (paused-in.Ended (view_of new.state new.remaining))
-keeps-end p new passed o is ends family prefix =
+keeps-end p new passed o is ends links prefix =
     subst (λ (x : Passed _). PausesAs (made p x) (paused-in.Ended (view_of new.state new.remaining))) (sym is)
-    (ap (λ (f : FamilyView). f.plan) family, ap (λ (f : FamilyView). f.origin) family, prefix, ap cut_of ends)
+    (ap (λ (f : LinksView). f.plan) links, ap (λ (f : LinksView). f.origin) links, prefix, ap cut_of ends, ap (λ (f : LinksView). f.joins.parents) links)
 
-pub holds-end : {K : Type 0} (b : TaskState K) (ended : Outcome) (w : Remaining) → w ≡ remaining.Ends ended → IsAnswer b.family.plan b.family.origin b.trace.prefix ended → IsByFaultOf b.family.plan ended → b.waiting ≡ false → HoldsOfTask b w
+pub holds-end : {K : Type 0} (b : TaskState K) (ended : Outcome) (w : Remaining) → w ≡ remaining.Ends ended → IsAnswer b.links.plan b.links.origin b.trace.prefix ended → IsByFaultOf b.links.plan ended → b.waiting ≡ false → HoldsOfTask b w
 holds-end b ended w is answers known waits = subst (HoldsOfTask b) (sym is) (record { answers = answers; known = known; waits = waits })
 
 -- What the code makes of it is its pause.
@@ -93,8 +98,8 @@ module _ {K : Type 0} (t : TaskView) (p : Paused K) (h : Pauses t p) where
   has-ended : (rest : TaskView) → p ≡ paused-in.Ended rest → HasEnded K t rest
   has-ended rest is = subst (Pauses t) is h
 
-  pub ended-short : (rest : TaskView) → p ≡ paused-in.Ended rest → is_cut_short rest.cut ≡ true
-  ended-short rest is = ap is_cut_short (has-ended rest is).cut
+  pub ended-short : (rest : TaskView) → p ≡ paused-in.Ended rest → has_outcome rest.cut ≡ true
+  ended-short rest is = ap has_outcome (has-ended rest is).cut
 
   pub ends-so : (rest : TaskView) (s : Stop K) → t.cut ≡ None → p ≡ paused-in.Ended rest → Advances rest s → Advances t s
   ends-so rest s goes is a = advances-uncut t s goes (ended-stop t rest s (has-ended rest is) a)

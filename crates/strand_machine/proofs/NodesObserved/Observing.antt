@@ -11,18 +11,18 @@ use Rattle.strand_meaning.specs.Strands.{own_events, events_at}
 use Rattle.strand_meaning.specs.Task.{Stop}
 use Rattle.strand_meaning.proofs.NodesObserved.StopsObserved.{also-assoc}
 use Rattle.strand_meaning.proofs.NodesObserved.EventsOfPedigree.{events_at-append}
-use Rattle.strand_machine.specs.Eyes.{eye_after}
+use Rattle.strand_machine.specs.Probes.{probe_after}
 use Rattle.strand_machine.specs.Observed.{IsObserved, with_step}
 use Rattle.strand_machine.specs.Made.{LeadsTo}
 use Rattle.strand_machine.specs.Stops.{IsStep, stop_of}
 use Rattle.strand_machine.specs.Tasks.{TaskView}
-use Rattle.strand_machine.specs.declared.eye.Eye.{Eye}
+use Rattle.strand_machine.specs.declared.probe.StrandProbe.{StrandProbe}
 use Rattle.strand_machine.specs.declared.observe.Observed.{Observed}
 use Rattle.strand_machine.specs.declared.stop.MoveOrStop.{MoveOrStop as MadeStep}
 use Rattle.strand_machine.specs.declared.stop.MoveOrStop.TheVariants as step-in
 use Rattle.strand_machine.specs.declared.stop.Stop.{Stop as MadeStop}
 use Rattle.strand_machine.proofs.NextStops.Advancing.{leads-start, leads-on, stops-there}
-use Rattle.strand_machine.proofs.NodesObserved.Eyes.{looks-append, own-append}
+use Rattle.strand_machine.proofs.NodesObserved.Probes.{looks-append, own-append}
 
 newest-none : (f : Option Fault) → newest None f ≡ f
 newest-none None = refl
@@ -32,33 +32,33 @@ also-nothing : (later : meaning.Observation) → later ≡ also no_observation l
 also-nothing later =
     ap (λ (f : Option Fault). record later { fault = f }) (sym (newest-none later.fault)) ∙ ap (λ (f : Option Fault). record later { fault = newest None later.fault; child_fault = f }) (sym (newest-none later.child_fault))
 
--- What comes next of a task comes next of the first one, after what is observed, of which the eye and the events have what is of the pedigree j.
-pub record LeadsObserved (first : TaskView) (j : List ℕ) (before : Eye) (now : TaskView) (observation : Observed) : Type 0 where
+-- What comes next of a task comes next of the first one, after what is observed, of which the probe and the events have what is of the pedigree j.
+pub record LeadsObserved (first : TaskView) (j : List ℕ) (before : StrandProbe) (now : TaskView) (observation : Observed) : Type 0 where
   pub leads : LeadsTo first now
   pub front : meaning.Observation
   pub shows : (later : meaning.Observation) (stop : Stop) → Shows now.task later stop → Shows first.task (also front later) stop
-  pub eye : observation.eye ≡ eye_after j before front.items
+  pub probe : observation.probe ≡ probe_after j before front.items
   pub events : observation.events ≡ events_at j (own_events front.items)
   pub fault : observation.fault ≡ front.fault
   pub child_fault : observation.child_fault ≡ front.child_fault
 
-pub observed-start : (t : TaskView) (j : List ℕ) (eye : Eye) (observation : Observed) → t.cut ≡ None → observation ≡ record { eye = eye; events = []; fault = None; child_fault = None } → LeadsObserved t j eye t observation
-observed-start t j eye observation goes h = record {
+pub observed-start : (t : TaskView) (j : List ℕ) (probe : StrandProbe) (observation : Observed) → t.cut ≡ None → observation ≡ record { probe = probe; events = []; fault = None; child_fault = None } → LeadsObserved t j probe t observation
+observed-start t j probe observation goes h = record {
   leads = leads-start t goes;
   front = no_observation;
   shows = λ later stop s. subst (λ (n : meaning.Observation). Shows t.task n stop) (also-nothing later) s;
-  eye = ap (λ (n : Observed). n.eye) h;
+  probe = ap (λ (n : Observed). n.probe) h;
   events = ap (λ (n : Observed). n.events) h;
   fault = ap (λ (n : Observed). n.fault) h;
   child_fault = ap (λ (n : Observed). n.child_fault) h;
 }
 
-module _ (first : TaskView) (j : List ℕ) (eye : Eye) (now : TaskView) (observation after : Observed) (h : LeadsObserved first j eye now observation) (same : after ≡ with_step j (step_observation now.task) observation) where
+module _ (first : TaskView) (j : List ℕ) (probe : StrandProbe) (now : TaskView) (observation after : Observed) (h : LeadsObserved first j probe now observation) (same : after ≡ with_step j (step_observation now.task) observation) where
   abbrev step-shows : meaning.Observation
   step-shows = step_observation now.task
 
-  more-seen : after.eye ≡ eye_after j eye (h.front.items ++ step-shows.items)
-  more-seen = ap (λ (n : Observed). n.eye) same ∙ ap (λ (e : Eye). eye_after j e step-shows.items) h.eye ∙ sym (looks-append j eye h.front.items step-shows.items)
+  more-seen : after.probe ≡ probe_after j probe (h.front.items ++ step-shows.items)
+  more-seen = ap (λ (n : Observed). n.probe) same ∙ ap (λ (e : StrandProbe). probe_after j e step-shows.items) h.probe ∙ sym (looks-append j probe h.front.items step-shows.items)
 
   more-events : after.events ≡ events_at j (own_events (h.front.items ++ step-shows.items))
   more-events =
@@ -67,28 +67,28 @@ module _ (first : TaskView) (j : List ℕ) (eye : Eye) (now : TaskView) (observa
       ∙ sym (events_at-append j (own_events h.front.items) (own_events step-shows.items))
       ∙ ap (events_at j) (sym (own-append h.front.items step-shows.items))
 
-  pub observed-on : MovesFall → (next : TaskView) (s : MadeStep All) → IsStep now s → s ≡ step-in.Passes next → LeadsObserved first j eye next after
+  pub observed-on : MovesFall → (next : TaskView) (s : MadeStep All) → IsStep now s → s ≡ step-in.Passes next → LeadsObserved first j probe next after
   observed-on law next s g e =
       let k : IsStep {K = All} now (step-in.Passes next) = subst (IsStep now) e g in
       record {
         leads = leads-on law first now next s h.leads g e;
         front = also h.front step-shows;
         shows = λ later stop n. subst (λ (x : meaning.Observation). Shows first.task x stop) (sym (also-assoc h.front step-shows later)) (h.shows (also step-shows later) stop (Later next.task later k.is n refl));
-        eye = more-seen;
+        probe = more-seen;
         events = more-events;
         fault = ap (λ (n : Observed). n.fault) same ∙ ap (λ (f : Option Fault). newest f step-shows.fault) h.fault;
         child_fault = ap (λ (n : Observed). n.child_fault) same ∙ ap (λ (f : Option Fault). newest f step-shows.child_fault) h.child_fault;
       }
 
   pub observed-stop : StopsAreSound → IsTask first.task → (stop : MadeStop All) (s : MadeStep All) → IsStep now s → s ≡ step-in.Stops stop →
-      IsObserved first j eye (record { stop = stop; eye = after.eye; events = after.events; fault = after.fault; child_fault = after.child_fault })
+      IsObserved first j probe (record { stop = stop; probe = after.probe; events = after.events; fault = after.fault; child_fault = after.child_fault })
   observed-stop sounds sound stop s g e =
       let k : IsStep now (step-in.Stops stop) = subst (IsStep now) e g in
       record {
         stop = stops-there sounds first now s stop sound h.leads g e;
         observation = also h.front step-shows;
         shows = h.shows step-shows (stop_of stop) (Now k.is refl);
-        eye = more-seen;
+        probe = more-seen;
         events = more-events;
         fault = ap (λ (n : Observed). n.fault) same ∙ ap (λ (f : Option Fault). newest f step-shows.fault) h.fault;
         child_fault = ap (λ (n : Observed). n.child_fault) same ∙ ap (λ (f : Option Fault). newest f step-shows.child_fault) h.child_fault;

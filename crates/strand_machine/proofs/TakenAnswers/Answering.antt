@@ -10,7 +10,7 @@ use Rattle.serial_meaning.specs.declared.origin.Origin.{Origin}
 use Rattle.serial_meaning.specs.declared.answer.Outcome.{Outcome}
 use Rattle.serial_meaning.specs.declared.answer.Outcome.TheVariants as outcome
 use Rattle.strand_meaning.specs.Trace.{AwaitedChild}
-use Rattle.strand_machine.specs.Family.{FamilyView, AwaitsCount, tag, tags, origins}
+use Rattle.strand_machine.specs.Links.{LinksView, AwaitsCount, tag, tags, origins}
 use Rattle.strand_machine.specs.AwaitedChildren.{awaited}
 use Rattle.strand_machine.specs.Stops.{answer_tags, is_cut}
 use Rattle.strand_machine.specs.Tasks.{AwaitsLast}
@@ -59,9 +59,9 @@ take-all (o ∷ os) (suc n) h = ap (λ l. o ∷ l) (take-all os n (omega arith))
 pub all-of-them : (os : List Origin) (first n : ℕ) → first + n ≡ length os → take n (drop first os) ≡ drop first os
 all-of-them os first n h = take-all (drop first os) n (omega (arith, length-drop first os))
 
-pub family-kept : (a b d : FamilyView) (taken : List Bool) → b ≡ record a { taken = b.taken } → d ≡ record b { taken = taken } → d ≡ record a { taken = d.taken }
-family-kept a b d taken h k =
-    k ∙ ap (λ (f : FamilyView). record f { taken = taken }) h ∙ ap (λ (l : List Bool). record a { taken = l }) (sym (ap (λ (f : FamilyView). f.taken) k))
+pub links-kept : (a b d : LinksView) (taken : List Bool) → b ≡ record a { taken = b.taken } → d ≡ record b { taken = taken } → d ≡ record a { taken = d.taken }
+links-kept a b d taken h k =
+    k ∙ ap (λ (f : LinksView). record f { taken = taken }) h ∙ ap (λ (l : List Bool). record a { taken = l }) (sym (ap (λ (f : LinksView). f.taken) k))
 
 front : (xs : List Bool) (m k : ℕ) → m ≡ length xs → 0 < k → slice_get (xs ++ replicate k false) m ≡ Some false
 front [] m zero h pos = absurd (omega arith)
@@ -71,9 +71,9 @@ front (x ∷ xs) zero k h pos = absurd (omega arith)
 front (x ∷ xs) (suc m) k h pos = front xs m k (omega arith) pos
 
 -- the first of the answers that are awaited is there
-pub first-there : (family : FamilyView) (m k : ℕ) → AwaitsCount family k → m + k ≡ length family.children → 0 < k → slice_get family.taken m ≡ Some false
-first-there family m k h at pos =
-    let same : length h.passed + k ≡ length family.children = h.same in
+pub first-there : (links : LinksView) (m k : ℕ) → AwaitsCount links k → m + k ≡ length links.children → 0 < k → slice_get links.taken m ≡ Some false
+first-there links m k h at pos =
+    let same : length h.passed + k ≡ length links.children = h.same in
     let e : m ≡ length h.passed = omega arith in ap (λ (l : List Bool). slice_get l m) h.taken ∙ front h.passed m k e pos
 
 taken-front : (xs : List Bool) (m k : ℕ) → m ≡ length xs → set (xs ++ replicate (suc k) false) m true ≡ (xs ++ true ∷ []) ++ replicate k false
@@ -83,31 +83,31 @@ taken-front (x ∷ xs) zero k h = absurd (omega arith)
 taken-front (x ∷ xs) (suc m) k h = ap (λ l. x ∷ l) (taken-front xs m k (omega arith))
 
 -- one fewer is awaited once it is taken
-pub first-taken : (family after : FamilyView) (m k : ℕ) → AwaitsCount family (suc k) → m + suc k ≡ length family.children →
-    after ≡ record family { taken = set family.taken m true } → AwaitsCount after k
-first-taken family after m k h at is =
-    let same : length h.passed + suc k ≡ length family.children = h.same in
+pub first-taken : (links after : LinksView) (m k : ℕ) → AwaitsCount links (suc k) → m + suc k ≡ length links.children →
+    after ≡ record links { taken = set links.taken m true } → AwaitsCount after k
+first-taken links after m k h at is =
+    let same : length h.passed + suc k ≡ length links.children = h.same in
     let e : m ≡ length h.passed = omega arith in
-    let within : suc k ≤ length family.children = h.within in
+    let within : suc k ≤ length links.children = h.within in
     let longer : length (h.passed ++ true ∷ []) ≡ length h.passed + 1 = length-append h.passed (true ∷ []) in
-    let there : AwaitsCount (record family { taken = set family.taken m true }) k = record {
+    let there : AwaitsCount (record links { taken = set links.taken m true }) k = record {
       within = omega arith;
       passed = h.passed ++ true ∷ [];
       same = omega arith;
       taken = ap (λ (l : List Bool). set l m true) h.taken ∙ taken-front h.passed m k e;
-    } in subst (λ (f : FamilyView). AwaitsCount f k) (sym is) there
+    } in subst (λ (f : LinksView). AwaitsCount f k) (sym is) there
 
--- of as many children as were handed out it is known whether their answers were taken
-pub taken-length : (family : FamilyView) (k : ℕ) → AwaitsCount family k → length family.taken ≡ length family.children
-taken-length family k h = ap length h.taken ∙ length-append h.passed (replicate k false) ∙ ap (λ (n : ℕ). length h.passed + n) (length-replicate k false) ∙ h.same
+-- of as many children as were begun it is known whether their answers were taken
+pub taken-length : (links : LinksView) (k : ℕ) → AwaitsCount links k → length links.taken ≡ length links.children
+taken-length links k h = ap length h.taken ∙ length-append h.passed (replicate k false) ∙ ap (λ (n : ℕ). length h.passed + n) (length-replicate k false) ∙ h.same
 
 length-awaited : (ps : List AwaitedChild) → length (awaited ps) ≡ length ps
 length-awaited [] = refl
 length-awaited (p ∷ ps) = ap suc (length-awaited ps)
 
-pub awaits-count : (family : FamilyView) (ps : List AwaitedChild) → AwaitsLast family ps → AwaitsCount family (length (awaited ps))
-awaits-count family ps h =
-    let all : length family.children ≡ length h.before + length (awaited ps) = ap length h.children ∙ length-append h.before (awaited ps) in
+pub awaits-count : (links : LinksView) (ps : List AwaitedChild) → AwaitsLast links ps → AwaitsCount links (length (awaited ps))
+awaits-count links ps h =
+    let all : length links.children ≡ length h.before + length (awaited ps) = ap length h.children ∙ length-append h.before (awaited ps) in
     record {
       within = omega arith;
       passed = h.passed;
@@ -122,11 +122,11 @@ drop-front (o ∷ os) more zero h = absurd (omega arith)
 drop-front (o ∷ os) more (suc n) h = drop-front os more n (omega arith)
 
 -- the last children are those whose answers are awaited
-pub last-awaited : (family : FamilyView) (ps : List AwaitedChild) → AwaitsLast family ps → drop (length family.children - length (awaited ps)) family.children ≡ awaited ps
-last-awaited family ps h =
-    let all : length family.children ≡ length h.before + length (awaited ps) = ap length h.children ∙ length-append h.before (awaited ps) in
-    let n : length family.children - length (awaited ps) ≡ length h.before = omega arith in
-    ap (λ (l : List Origin). drop (length family.children - length (awaited ps)) l) h.children ∙ drop-front h.before (awaited ps) _ n
+pub last-awaited : (links : LinksView) (ps : List AwaitedChild) → AwaitsLast links ps → drop (length links.children - length (awaited ps)) links.children ≡ awaited ps
+last-awaited links ps h =
+    let all : length links.children ≡ length h.before + length (awaited ps) = ap length h.children ∙ length-append h.before (awaited ps) in
+    let n : length links.children - length (awaited ps) ≡ length h.before = omega arith in
+    ap (λ (l : List Origin). drop (length links.children - length (awaited ps)) l) h.children ∙ drop-front h.before (awaited ps) _ n
 
 -- The tags of answers
 

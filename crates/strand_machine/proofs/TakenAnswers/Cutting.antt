@@ -17,7 +17,7 @@ use Rattle.strand_meaning.specs.Machine.{Half}
 use Rattle.strand_meaning.specs.Trace.{AwaitedChild, Trace, merged_answer, merged_answers, merged_answer_unless}
 use Rattle.strand_meaning.specs.Sound.{IsTask}
 use Rattle.strand_meaning.specs.Task.{takes, more_values}
-use Rattle.strand_machine.specs.Family.{FamilyView, tag, tags, origins}
+use Rattle.strand_machine.specs.Links.{LinksView, tag, tags, origins}
 use Rattle.strand_machine.specs.Merge.{AreSaid, BecomesRemaining, EndsShort, IsShort, KeepsRest, Merge, IsMergeOf, TakesAnswers, RemainingFindsAll, IsRemainingOfPlan, end_of, ended_of, result_of_outcome, meanings, merge_of, trace_of, with_stage}
 use Rattle.strand_machine.specs.AwaitedChildren.{awaited, awaited_child, awaited_children, destination_of}
 use Rattle.strand_machine.specs.declared.destination.Destination.{Destination}
@@ -31,7 +31,7 @@ use Rattle.strand_machine.specs.declared.trace.AfterChild.{AfterChild}
 use Rattle.strand_machine.specs.declared.remaining.Remaining.{Remaining}
 use Rattle.strand_machine.specs.declared.remaining.Remaining.TheVariants as remaining
 use Rattle.strand_machine.proofs.TakenAnswers.Answering.{eval-of, origins-tags}
-use Rattle.strand_machine.proofs.Moves.Handed.{awaited_parts}
+use Rattle.strand_machine.proofs.Moves.Starts.{awaited_parts}
 use Rattle.strand_machine.proofs.TakenAnswers.Targets.{found-kept}
 use Rattle.strand_machine.proofs.TakenAnswers.Taking.{begins, same-stage, takes-then, takes-none}
 
@@ -48,18 +48,18 @@ or-false true = refl
 or-false false = refl
 
 -- what was heard leaves no child, whichever there were
-merging-none : (f : Option Fault) (prefix : List Event) (p : AwaitedChild) (events : List Event) (ending : Result (List Value) Fault) → (merged_answer_unless f prefix p events ending).handed ≡ []
+merging-none : (f : Option Fault) (prefix : List Event) (p : AwaitedChild) (events : List Event) (ending : Result (List Value) Fault) → (merged_answer_unless f prefix p events ending).unmerged ≡ []
 merging-none (Some f) prefix p events ending = refl
 merging-none None prefix p events (Ok vs) = refl
 merging-none None prefix p events (Err f) = refl
 
-pub merging-alone : (p : AwaitedChild) (e : Evaluation) (before after : Trace) → after ≡ merged_answer p e before → after.handed ≡ []
-merging-alone p e before after h = ap (λ (t : Trace). t.handed) h ∙ merging-none before.fault before.prefix p e.items e.ending
+pub merging-alone : (p : AwaitedChild) (e : Evaluation) (before after : Trace) → after ≡ merged_answer p e before → after.unmerged ≡ []
+merging-alone p e before after h = ap (λ (t : Trace). t.unmerged) h ∙ merging-none before.fault before.prefix p e.items e.ending
 
-pub merging-front : (p : AwaitedChild) (e : Evaluation) (before after : Trace) → after ≡ merged_answer p e before → record after { handed = [] } ≡ merged_answer p e (record before { handed = [] })
+pub merging-front : (p : AwaitedChild) (e : Evaluation) (before after : Trace) → after ≡ merged_answer p e before → record after { unmerged = [] } ≡ merged_answer p e (record before { unmerged = [] })
 merging-front p e before after h =
-    ap (λ (t : Trace). record t { handed = [] }) h
-    ∙ ap (λ (ps : List AwaitedChild). record (merged_answer p e before) { handed = ps }) (sym (merging-none before.fault before.prefix p e.items e.ending))
+    ap (λ (t : Trace). record t { unmerged = [] }) h
+    ∙ ap (λ (ps : List AwaitedChild). record (merged_answer p e before) { unmerged = ps }) (sym (merging-none before.fault before.prefix p e.items e.ending))
 
 pub takes-answer : (p : AwaitedChild) (a : AnswerView) (before after : Merge) → trace_of after ≡ merged_answer p (record { items = a.out; ending = result_of_outcome a.outcome }) (trace_of before) →
     ended_of after ≡ or_ends (ended_of before) a.outcome → after.cut ≡ (before.cut || is_cut a.outcome) → after.values ≡ more_values p.destination (result_of_outcome a.outcome) before.values →
@@ -158,8 +158,8 @@ fault-first : (f : Option Fault) → end_of f false ≡ by_fault f
 fault-first None = refl
 fault-first (Some f) = refl
 
-pub own-children : {K : Type 0} (b : TaskState K) (os : List Origin) (bs : List (AfterChild K)) (ts : List AnswerTag) → awaited_children os bs ≡ b.trace.handed → length os ≡ length bs → ts ≡ tags b.family.plan (awaited b.trace.handed) → origins ts ≡ os
-own-children b os bs ts parts same e = ap origins e ∙ origins-tags b.family.plan (awaited b.trace.handed) ∙ ap awaited (sym parts) ∙ awaited_parts os bs same
+pub own-children : {K : Type 0} (b : TaskState K) (os : List Origin) (bs : List (AfterChild K)) (ts : List AnswerTag) → awaited_children os bs ≡ b.trace.unmerged → length os ≡ length bs → ts ≡ tags b.links.plan (awaited b.trace.unmerged) → origins ts ≡ os
+own-children b os bs ts parts same e = ap origins e ∙ origins-tags b.links.plan (awaited b.trace.unmerged) ∙ ap awaited (sym parts) ∙ awaited_parts os bs same
 
 pub went-whole : (answers : List AnswerView) (t next : TaskView) → any_cut answers ≡ false → next ≡ view_on t → WentOn answers t next
 went-whole answers t next whole h = record { whole = λ _. h; cut = λ is. absurd (true≢false (sym is ∙ whole)) }
@@ -170,25 +170,25 @@ went-short answers t next cut h = record { whole = λ none. absurd (true≢false
 -- Answers change the trace and the values of a body, and what remains.
 
 pub keeps-then : {K : Type 0} (p q r : Parts K) → KeepsRest p q → KeepsRest q r → KeepsRest p r
-keeps-then p q r h k = record { state = k.state ∙ ap (λ (b : TaskState _). record b { trace = r.state.trace; values = r.state.values }) h.state; handed = k.handed }
+keeps-then p q r h k = record { state = k.state ∙ ap (λ (b : TaskState _). record b { trace = r.state.trace; values = r.state.values }) h.state; unmerged = k.unmerged }
 
 pub of_plan-then : {K : Type 0} (p q : Parts K) (merging after : Merging) (ps : List AwaitedChild) (answers : List AnswerView) → KeepsRest p q → TakesAnswers ps answers (merge_of p merging) (merge_of q after) →
-    IsRemainingOfPlan p.state.family.plan p.remaining → IsRemainingOfPlan q.state.family.plan q.remaining
+    IsRemainingOfPlan p.state.links.plan p.remaining → IsRemainingOfPlan q.state.links.plan q.remaining
 of_plan-then p q merging after ps answers kept h w =
-    subst (λ (f : FamilyView). IsRemainingOfPlan f.plan q.remaining) (sym (ap (λ (b : TaskState _). b.family) kept.state)) (w.0, h.takes.remaining.of_plan p.state.family.plan w.0 w.1)
+    subst (λ (f : LinksView). IsRemainingOfPlan f.plan q.remaining) (sym (ap (λ (b : TaskState _). b.links) kept.state)) (w.0, h.takes.remaining.of_plan p.state.links.plan w.0 w.1)
 
 -- the variables of the children that are left are found still
 pub found-then : {K : Type 0} (p q : Parts K) (merging after : Merging) (child : AwaitedChild) (a : AnswerView) (bs : List (AfterChild K)) → KeepsRest p q → TakesAnswers (child ∷ []) (a ∷ []) (merge_of p merging) (merge_of q after) →
-    RemainingFindsAll p.state.family.plan bs (remaining_of p.state.family.plan p.remaining) → RemainingFindsAll q.state.family.plan bs (remaining_of q.state.family.plan q.remaining)
+    RemainingFindsAll p.state.links.plan bs (remaining_of p.state.links.plan p.remaining) → RemainingFindsAll q.state.links.plan bs (remaining_of q.state.links.plan q.remaining)
 found-then p q merging after child a bs kept h found =
-    subst (λ (f : FamilyView). RemainingFindsAll f.plan bs (remaining_of f.plan q.remaining)) (sym (ap (λ (b : TaskState _). b.family) kept.state))
-    (found-kept p.state.family.plan child.destination (evaluation_of a.out a.outcome).ending p.remaining q.remaining bs h.takes.remaining found)
+    subst (λ (f : LinksView). RemainingFindsAll f.plan bs (remaining_of f.plan q.remaining)) (sym (ap (λ (b : TaskState _). b.links) kept.state))
+    (found-kept p.state.links.plan child.destination (evaluation_of a.out a.outcome).ending p.remaining q.remaining bs h.takes.remaining found)
 
-pub kept-state : {K : Type 0} (p q : Parts K) → KeepsRest p q → q.state ≡ record p.state { trace = record q.state.trace { handed = [] }; values = q.state.values }
-kept-state p q k = k.state ∙ ap (λ (ps : List AwaitedChild). record p.state { trace = record q.state.trace { handed = ps }; values = q.state.values }) k.handed
+pub kept-state : {K : Type 0} (p q : Parts K) → KeepsRest p q → q.state ≡ record p.state { trace = record q.state.trace { unmerged = [] }; values = q.state.values }
+kept-state p q k = k.state ∙ ap (λ (ps : List AwaitedChild). record p.state { trace = record q.state.trace { unmerged = ps }; values = q.state.values }) k.unmerged
 
 -- the task as it was before its children were taken out of the trace
-pub taken-from : {K : Type 0} (b : TaskState K) (w : Remaining) (trace : Trace) (ps : List AwaitedChild) (answers : List AnswerView) (after : Merge) → trace ≡ record b.trace { handed = [] } →
+pub taken-from : {K : Type 0} (b : TaskState K) (w : Remaining) (trace : Trace) (ps : List AwaitedChild) (answers : List AnswerView) (after : Merge) → trace ≡ record b.trace { unmerged = [] } →
     TakesAnswers ps answers (begins (record b { trace = trace }) w) after → TakesAnswers ps answers (begins b w) after
 taken-from b w trace ps answers after e h = subst (λ (t : Trace). TakesAnswers ps answers (begins (record b { trace = t }) w) after) e h
 
@@ -200,67 +200,69 @@ module _ {K : Type 0} (b : TaskState K) (w : Remaining) (os : List Origin) (bs :
       IsMergeOf (awaited_children (origins (answer_tags answers)) bs) (meanings (answer_tags answers)) (begins b w) after
   takes-whole law h whole = subst (λ (es : List Evaluation). IsMergeOf (awaited_children (origins (answer_tags answers)) bs) es (begins b w) after) (whole-answers law answers h.said whole) h.takes
 
-  module _ (parts : awaited_children os bs ≡ b.trace.handed) (children : origins (answer_tags answers) ≡ os) (h : TakesAnswers (awaited_children (origins (answer_tags answers)) bs) answers (begins b w) after) where
-    handed : awaited_children (origins (answer_tags answers)) bs ≡ b.trace.handed
-    handed = ap (λ (cs : List Origin). awaited_children cs bs) children ∙ parts
+  module _ (parts : awaited_children os bs ≡ b.trace.unmerged) (children : origins (answer_tags answers) ≡ os) (h : TakesAnswers (awaited_children (origins (answer_tags answers)) bs) answers (begins b w) after) where
+    unmerged : awaited_children (origins (answer_tags answers)) bs ≡ b.trace.unmerged
+    unmerged = ap (λ (cs : List Origin). awaited_children cs bs) children ∙ parts
 
     prefix-same : after.prefix ≡ prefix_with answers (task_of b w)
-    prefix-same = ap (λ (p : Trace). p.prefix) h.takes.trace ∙ ap (λ (ps : List AwaitedChild). (merged_answers ps (answer_evaluations answers) (record b.trace { handed = [] })).prefix) handed
+    prefix-same = ap (λ (p : Trace). p.prefix) h.takes.trace ∙ ap (λ (ps : List AwaitedChild). (merged_answers ps (answer_evaluations answers) (record b.trace { unmerged = [] })).prefix) unmerged
 
     ended-same : ended_of after ≡ ended_after (by_fault b.trace.fault) answers
     ended-same = h.ended ∙ ap (λ (o : Option Outcome). ended_after o answers) (fault-first b.trace.fault)
 
-    pub ends-short : AnswersEnd → IsTask (task_of b w) → AreAnswersOf b.family.plan b.trace.handed answers → any_cut answers ≡ true → EndsShort b.family after
+    pub ends-short : AnswersEnd → IsTask (task_of b w) → AreAnswersOf b.links.plan b.trace.unmerged answers → any_cut answers ≡ true → EndsShort b.links after
     ends-short law is are cut =
         let some = ends-some (by_fault b.trace.fault) answers cut in
         let end = law (task_of b w) answers some.0 is are some.1 in
-        record { outcome = some.0; ended = ended-same ∙ some.1; answers = subst (λ (es : List Event). IsAnswer b.family.plan b.family.origin es some.0) (sym prefix-same) end.0; known = end.1 }
+        record { outcome = some.0; ended = ended-same ∙ some.1; answers = subst (λ (es : List Event). IsAnswer b.links.plan b.links.origin es some.0) (sym prefix-same) end.0; known = end.1 }
 
-    pub short-on : (next : TaskView) → IsShort b.family after b.advanced next → IsCutOn answers (view_of b w) next × (next.loads ≡ b.family.loads)
+    pub short-on : (next : TaskView) → IsShort b.links after b.advanced next → IsCutOn answers (view_of b w) next × (next.loads ≡ b.links.loads)
     short-on next s = (
       record {
         plan = s.plan;
         origin = s.origin;
         prefix = s.prefix ∙ prefix-same;
-        handed = s.handed;
+        unmerged = s.unmerged;
         waits = s.waits;
         advanced = s.advanced;
         cut = s.cut ∙ ended-same;
         children = s.children;
+        joins = s.joins;
       },
       s.loads,
     )
 
 -- the task itself
 
-pub short-some : (family : FamilyView) (g : Merge) (r : Option Outcome) → EndsShort family g → r ≡ ended_of g → r ≡ None → ⊥
-short-some family g r h e none = let some : Some h.outcome ≡ None = sym h.ended ∙ sym e ∙ none in absurd (cc)
+pub short-some : (links : LinksView) (g : Merge) (r : Option Outcome) → EndsShort links g → r ≡ ended_of g → r ≡ None → ⊥
+short-some links g r h e none = let some : Some h.outcome ≡ None = sym h.ended ∙ sym e ∙ none in absurd (cc)
 
-same-end : (family : FamilyView) (g : Merge) (h : EndsShort family g) (o : Outcome) (r : Option Outcome) → r ≡ ended_of g → r ≡ Some o → h.outcome ≡ o
-same-end family g h o r e is = let some : Some h.outcome ≡ Some o = sym h.ended ∙ sym e ∙ is in cc
+same-end : (links : LinksView) (g : Merge) (h : EndsShort links g) (o : Outcome) (r : Option Outcome) → r ≡ ended_of g → r ≡ Some o → h.outcome ≡ o
+same-end links g h o r e is = let some : Some h.outcome ≡ Some o = sym h.ended ∙ sym e ∙ is in cc
 
-pub short-holds : {K : Type 0} (family : FamilyView) (g : Merge) → EndsShort family g → (o : Outcome) (r : Option Outcome) → r ≡ ended_of g → r ≡ Some o →
-    (b : TaskState K) → b.family ≡ family → b.trace ≡ record { prefix = g.prefix; fault = None; handed = [] } → b.waiting ≡ false → IsCutShort b o
-short-holds family g h o r e is b same trace waits =
+pub short-holds : {K : Type 0} (links : LinksView) (g : Merge) → EndsShort links g → (o : Outcome) (r : Option Outcome) → r ≡ ended_of g → r ≡ Some o →
+    (b : TaskState K) → b.links ≡ links → b.trace ≡ record { prefix = g.prefix; fault = None; unmerged = [] } → b.waiting ≡ false → IsCutShort b o
+short-holds links g h o r e is b same trace waits =
     let prefix : b.trace.prefix ≡ g.prefix = ap (λ (p : Trace). p.prefix) trace in
-    let end = same-end family g h o r e is in
+    let end = same-end links g h o r e is in
     record {
-      answers = subst (λ (f : FamilyView). IsAnswer f.plan f.origin b.trace.prefix o) (sym same)
-          (subst (λ (es : List Event). IsAnswer family.plan family.origin es o) (sym prefix) (subst (IsAnswer family.plan family.origin g.prefix) end h.answers));
-      known = subst (λ (f : FamilyView). IsByFaultOf f.plan o) (sym same) (subst (IsByFaultOf family.plan) end h.known);
+      answers = subst (λ (f : LinksView). IsAnswer f.plan f.origin b.trace.prefix o) (sym same)
+          (subst (λ (es : List Event). IsAnswer links.plan links.origin es o) (sym prefix) (subst (IsAnswer links.plan links.origin g.prefix) end h.answers));
+      known = subst (λ (f : LinksView). IsByFaultOf f.plan o) (sym same) (subst (IsByFaultOf links.plan) end h.known);
       waits = waits;
     }
 
-pub short-view : {K : Type 0} (family : FamilyView) (g : Merge) (advanced : Bool) (o : Outcome) (r : Option Outcome) → r ≡ ended_of g → r ≡ Some o →
-    (b : TaskState K) → b.family ≡ family → b.trace ≡ record { prefix = g.prefix; fault = None; handed = [] } → b.waiting ≡ false → b.advanced ≡ advanced → IsShort family g advanced (view_of b (remaining.Ends o))
-short-view family g advanced o r e is b same trace waits was = record {
-  plan = ap (λ (f : FamilyView). f.plan) same;
-  origin = ap (λ (f : FamilyView). f.origin) same;
+pub short-view : {K : Type 0} (links : LinksView) (g : Merge) (advanced : Bool) (o : Outcome) (r : Option Outcome) → r ≡ ended_of g → r ≡ Some o →
+    (b : TaskState K) → b.links ≡ links → b.trace ≡ record { prefix = g.prefix; fault = None; unmerged = [] } → b.waiting ≡ false → b.advanced ≡ advanced → IsShort links g advanced (view_of b (remaining.Ends o))
+short-view links g advanced o r e is b same trace waits was = record {
+  plan = ap (λ (f : LinksView). f.plan) same;
+  origin = ap (λ (f : LinksView). f.origin) same;
   prefix = ap (λ (p : Trace). p.prefix) trace;
-  handed = ap (λ (p : Trace). p.handed) trace;
+  unmerged = ap (λ (p : Trace). p.unmerged) trace;
   waits = waits;
   advanced = was;
   cut = sym is ∙ e;
-  children = ap (λ (f : FamilyView). f.children) same;
-  loads = ap (λ (f : FamilyView). f.loads) same;
+  children = ap (λ (f : LinksView). f.children) same;
+  loads = ap (λ (f : LinksView). f.loads) same;
+  joins = ap (λ (f : LinksView). f.joins) same;
 }

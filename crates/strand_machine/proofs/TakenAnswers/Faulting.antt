@@ -20,7 +20,7 @@ use Rattle.strand_meaning.specs.Trace.{AwaitedChild, Trace, merged_answer_unless
 use Rattle.strand_meaning.specs.Rest.{evaluations, prefix_run, awaited_run, remaining_run}
 use Rattle.strand_meaning.specs.Sound.{IsTask}
 use Rattle.strand_meaning.specs.Task.{Task}
-use Rattle.strand_machine.specs.Family.{tag, tags}
+use Rattle.strand_machine.specs.Links.{GiveView, task_give, tag, tags}
 use Rattle.strand_machine.specs.Faults.{is_fault, EndsByFault}
 use Rattle.strand_machine.specs.AwaitedChildren.{awaited}
 use Rattle.strand_machine.specs.Stops.{WentOn, answer_tags, any_cut, is_cut, view_on}
@@ -74,7 +74,7 @@ faulted-same : (t : Task) → IsTask t → (f : Fault) → t.trace.fault ≡ Som
 faulted-same t is f h = ap run (sym h) ∙ is.finishes
   where
     run : Option Fault → Evaluation
-    run g = prefix_run (record t.trace { fault = g }) then λ u. awaited_run (eval t.plan) t.trace.handed t.values then remaining_run t.plan t.origin t.trace.handed t.remaining
+    run g = prefix_run (record t.trace { fault = g }) then λ u. awaited_run (eval t.plan) t.trace.unmerged t.values then remaining_run t.plan t.origin t.trace.unmerged t.remaining
 
 pub faulted-answer : (t : Task) → IsTask t → (f : Fault) → t.trace.fault ≡ Some f → IsEval t.plan t.origin t.trace.prefix (outcome.Fault f)
 faulted-answer t is f h =
@@ -84,8 +84,8 @@ faulted-answer t is f h =
 pub faulted-known : (t : Task) → IsTask t → (f : Fault) → t.trace.fault ≡ Some f → IsFaultOf t.plan (outcome.Fault f)
 faulted-known t is f h = subst (λ (q : Evaluation). EndsWithin (faults t.plan) q.ending) (sym (faulted-same t is f h)) (origins_end_within_faults t.plan t.origin is.known)
 
-pub answers-by : {K : Type 0} (b : TaskState K) (w : Remaining) (prefix : List Event) (f : Fault) → IsSound b w → prefix ≡ b.trace.prefix → b.trace.fault ≡ Some f → IsEval b.family.plan b.family.origin prefix (outcome.Fault f)
-answers-by b w prefix f sound same h = subst (λ (es : List Event). IsEval b.family.plan b.family.origin es (outcome.Fault f)) (sym same) (faulted-answer (task_of b w) sound.task f h)
+pub answers-by : {K : Type 0} (b : TaskState K) (w : Remaining) (prefix : List Event) (f : Fault) → IsSound b w → prefix ≡ b.trace.prefix → b.trace.fault ≡ Some f → IsEval b.links.plan b.links.origin prefix (outcome.Fault f)
+answers-by b w prefix f sound same h = subst (λ (es : List Event). IsEval b.links.plan b.links.origin es (outcome.Fault f)) (sym same) (faulted-answer (task_of b w) sound.task f h)
 
 -- The call
 
@@ -117,24 +117,25 @@ goes-whole xs ys given a t next e same whole f on =
     let none : any_cut ys ≡ false = ap any_cut e ∙ whole-more xs a f (ap any_cut same ∙ whole) in on.whole none
 
 -- once its children's answers are taken, of which the last is a fault, there is one in a task's trace
-pub not-none : (v begun after : TaskView) (ts : List AnswerTag) (t : AnswerTag) → begun ≡ v → after ≡ view_on begun → ts ++ t ∷ [] ≡ tags v.task.plan (awaited v.task.trace.handed) →
+pub not-none : (v begun after : TaskView) (ts : List AnswerTag) (t : AnswerTag) → begun ≡ v → after ≡ view_on begun → ts ++ t ∷ [] ≡ tags v.task.plan (awaited v.task.trace.unmerged) →
     IsErr (eval t.plan t.origin).ending → after.task.trace.fault ≡ None → ⊥
 not-none v begun after ts t same on tagged err none =
     let is : after ≡ view_on v = on ∙ ap view_on same in
-    last-err v.task.plan v.task.trace.handed ts t tagged err (record v.task.trace { handed = [] }) (ap (λ (w : TaskView). w.task.trace.fault) (sym is) ∙ none)
+    last-err v.task.plan v.task.trace.unmerged ts t tagged err (record v.task.trace { unmerged = [] }) (ap (λ (w : TaskView). w.task.trace.fault) (sym is) ∙ none)
 
 -- the answer of the task after them is the task's own
 pub ends-by : {K : Type 0} (b : TaskState K) (w : Remaining) (v begun after : TaskView) → begun ≡ v → after ≡ view_on begun → view_of b w ≡ after → IsSound b w → (f : Fault) → b.trace.fault ≡ Some f →
-    (out : List Event) (answer : AnswerView) (by : AnswerTag) → answer ≡ record { plan = b.family.plan; origin = b.family.origin; out = out; outcome = outcome.Fault f } → by ≡ tag b.family.plan b.family.origin →
+    (out : List Event) (answer : AnswerView) (by : GiveView AnswerTag) → answer ≡ record { plan = b.links.plan; origin = b.links.origin; out = out; outcome = outcome.Fault f } → by ≡ task_give b.links.plan b.links.origin b.links.joins →
     EndsByFault v answer by
 ends-by b w v begun after same on view sound f h out answer by e g =
     let is : view_of b w ≡ view_on v = view ∙ on ∙ ap view_on same in
-    let plan : b.family.plan ≡ v.task.plan = ap (λ (x : TaskView). x.task.plan) is in
-    let origin : b.family.origin ≡ v.task.origin = ap (λ (x : TaskView). x.task.origin) is in
+    let plan : b.links.plan ≡ v.task.plan = ap (λ (x : TaskView). x.task.plan) is in
+    let origin : b.links.origin ≡ v.task.origin = ap (λ (x : TaskView). x.task.origin) is in
     record {
       plan = ap (λ (a : AnswerView). a.plan) e ∙ plan;
       origin = ap (λ (a : AnswerView). a.origin) e ∙ origin;
-      give = g ∙ ap (λ (p : PlanView). tag p b.family.origin) plan ∙ ap (λ (o : Origin). tag v.task.plan o) origin;
+      give = g ∙ ap (λ (p : PlanView). task_give p b.links.origin b.links.joins) plan ∙ ap (λ (o : Origin). task_give v.task.plan o b.links.joins) origin
+          ∙ ap (λ (x : TaskView). task_give v.task.plan v.task.origin x.joins) is;
       fault = ap (λ (a : AnswerView). is_fault a.outcome) e;
       known = subst (IsFaultOf v.task.plan) (sym (ap (λ (a : AnswerView). a.outcome) e)) (subst (λ (p : PlanView). IsFaultOf p (outcome.Fault f)) plan (faulted-known (task_of b w) sound.task f h));
     }

@@ -20,7 +20,7 @@ use Rattle.strand_meaning.specs.Rest.{evaluations}
 use Rattle.strand_meaning.specs.Sound.{IsTask}
 use Rattle.strand_meaning.specs.Task as meaning
 use Rattle.strand_meaning.specs.Task.{Splits, Runs, Finished, Task, changed, frame_with_answer, with_values, pass_sync, resumed, takes, takes_all, more_values, all_values, resumed_remaining, on, own_instance}
-use Rattle.strand_machine.specs.Family.{FamilyView, HasPassed, HasStopped, tags, origins}
+use Rattle.strand_machine.specs.Links.{LinksView, HasPassed, HasStopped, tags, origins}
 use Rattle.strand_machine.specs.Merge.{BecomesStage, BecomesRemaining, Merge, IsStageOfPlan, IsMergeOf, HasTakenAnswers, IsRemainingOfPlan, with_stage, trace_of, meanings}
 use Rattle.strand_machine.specs.AwaitedChildren.{awaited, awaited_children, destination_of}
 use Rattle.strand_meaning.specs.Cuts.{AreAnswersOf}
@@ -38,7 +38,7 @@ use Rattle.strand_machine.specs.declared.remaining.Remaining.{Remaining}
 use Rattle.strand_machine.specs.declared.remaining.Remaining.TheVariants as remaining
 use Rattle.strand_machine.proofs.TakenAnswers.Answering.{origins-tags, awaits-count, taken-length}
 use Rattle.strand_machine.proofs.Moves.Dispatch.{of_plan-on}
-use Rattle.strand_machine.proofs.Moves.Handed.{awaited_parts}
+use Rattle.strand_machine.proofs.Moves.Starts.{awaited_parts}
 
 pub same-stage : (w : meaning.Remaining) → with_stage (λ s. s) w ≡ w
 same-stage (Splits left) = refl
@@ -214,19 +214,19 @@ takes-awaited plan os bs ts before after same are h =
     subst (λ es. IsMergeOf (awaited_children os bs) es before after) answers (subst (λ cs. IsMergeOf (awaited_children cs bs) (meanings ts) before after) children h)
 
 -- the task with the answers of its children, once its wait is over
-pub goes-on : (t : Task) (before after : Merge) (rest : Remaining) → trace_of before ≡ record t.trace { handed = [] } → before.values ≡ t.values → remaining_of t.plan before.remaining ≡ t.remaining →
-    IsMergeOf t.trace.handed (evaluations (eval t.plan) t.trace.handed) before after → BecomesRemaining (resumed_remaining [] []) after.remaining rest →
-    ◌≡◌ {A = Task} (record t { trace = trace_of after; values = after.values; remaining = remaining_of t.plan rest; waiting = false }) (on (evaluations (eval t.plan) t.trace.handed) t)
+pub goes-on : (t : Task) (before after : Merge) (rest : Remaining) → trace_of before ≡ record t.trace { unmerged = [] } → before.values ≡ t.values → remaining_of t.plan before.remaining ≡ t.remaining →
+    IsMergeOf t.trace.unmerged (evaluations (eval t.plan) t.trace.unmerged) before after → BecomesRemaining (resumed_remaining [] []) after.remaining rest →
+    ◌≡◌ {A = Task} (record t { trace = trace_of after; values = after.values; remaining = remaining_of t.plan rest; waiting = false }) (on (evaluations (eval t.plan) t.trace.unmerged) t)
 goes-on t before after rest trace values remaining h over =
-    let ps = t.trace.handed in
+    let ps = t.trace.unmerged in
     let es = evaluations (eval t.plan) ps in
-    let prefix : trace_of after ≡ merged_answers ps es (record t.trace { handed = [] }) = h.trace ∙ ap (merged_answers ps es) trace in
+    let prefix : trace_of after ≡ merged_answers ps es (record t.trace { unmerged = [] }) = h.trace ∙ ap (merged_answers ps es) trace in
     let given : after.values ≡ all_values ps es t.values = h.values ∙ ap (all_values ps es) values in
     let left : remaining_of t.plan rest ≡ resumed_remaining ps es t.remaining =
     over.is t.plan ∙ ap (resumed_remaining [] []) (h.remaining.is t.plan) ∙ resumed-stage ps es (remaining_of t.plan before.remaining) ∙ ap (resumed_remaining ps es) remaining in
     ap (λ (p : Trace). record t { trace = p; values = after.values; remaining = remaining_of t.plan rest; waiting = false }) prefix
-    ∙ ap (λ (vs : List Value). record t { trace = merged_answers ps es (record t.trace { handed = [] }); values = vs; remaining = remaining_of t.plan rest; waiting = false }) given
-    ∙ ap (λ (w : meaning.Remaining). record t { trace = merged_answers ps es (record t.trace { handed = [] }); values = all_values ps es t.values; remaining = w; waiting = false }) left
+    ∙ ap (λ (vs : List Value). record t { trace = merged_answers ps es (record t.trace { unmerged = [] }); values = vs; remaining = remaining_of t.plan rest; waiting = false }) given
+    ∙ ap (λ (w : meaning.Remaining). record t { trace = merged_answers ps es (record t.trace { unmerged = [] }); values = all_values ps es t.values; remaining = w; waiting = false }) left
 
 -- The task after its wait
 
@@ -237,85 +237,86 @@ module _ {K : Type 0} (b : TaskState K) (w : Remaining) (os : List Origin) (bs :
   abbrev next-state : TaskState K
   next-state = record b { trace = trace_of after; values = after.values; waiting = false }
 
-  task-on : awaited_children os bs ≡ b.trace.handed → length os ≡ length bs → ts ≡ tags b.family.plan (awaited b.trace.handed) → IsMergeOf (awaited_children (origins ts) bs) (meanings ts) (begins b w) after →
-      BecomesRemaining (resumed_remaining [] []) after.remaining rest → task_of next-state rest ≡ on (evaluations (eval b.family.plan) b.trace.handed) (task_of b w)
+  task-on : awaited_children os bs ≡ b.trace.unmerged → length os ≡ length bs → ts ≡ tags b.links.plan (awaited b.trace.unmerged) → IsMergeOf (awaited_children (origins ts) bs) (meanings ts) (begins b w) after →
+      BecomesRemaining (resumed_remaining [] []) after.remaining rest → task_of next-state rest ≡ on (evaluations (eval b.links.plan) b.trace.unmerged) (task_of b w)
   task-on parts same are h over =
-      let plan = b.family.plan in
+      let plan = b.links.plan in
       let tagged : ts ≡ tags plan (awaited (awaited_children os bs)) = are ∙ ap (λ (ps : List AwaitedChild). tags plan (awaited ps)) (sym parts) in
-      let taken : IsMergeOf b.trace.handed (evaluations (eval plan) b.trace.handed) (begins b w) after =
+      let taken : IsMergeOf b.trace.unmerged (evaluations (eval plan) b.trace.unmerged) (begins b w) after =
       subst (λ (ps : List AwaitedChild). IsMergeOf ps (evaluations (eval plan) ps) (begins b w) after) parts (takes-awaited plan os bs ts (begins b w) after same tagged h) in
       goes-on (task_of b w) (begins b w) after rest refl refl refl taken over
 
-  pub goes-on-view : awaited_children os bs ≡ b.trace.handed → length os ≡ length bs → ts ≡ tags b.family.plan (awaited b.trace.handed) → IsMergeOf (awaited_children (origins ts) bs) (meanings ts) (begins b w) after →
+  pub goes-on-view : awaited_children os bs ≡ b.trace.unmerged → length os ≡ length bs → ts ≡ tags b.links.plan (awaited b.trace.unmerged) → IsMergeOf (awaited_children (origins ts) bs) (meanings ts) (begins b w) after →
       BecomesRemaining (resumed_remaining [] []) after.remaining rest → HasTakenAnswers b w → view_of next-state rest ≡ view_on (view_of b w)
   goes-on-view parts same are h over sound =
-      let plan = b.family.plan in
-      let uncut : cut_of rest ≡ cut_of w = of_plan-on plan b.family.origin rest (over.of_plan plan _ (h.remaining.of_plan plan _ sound.of_plan)) ∙ sym (of_plan-on plan b.family.origin w sound.of_plan) in
+      let plan = b.links.plan in
+      let uncut : cut_of rest ≡ cut_of w = of_plan-on plan b.links.origin rest (over.of_plan plan _ (h.remaining.of_plan plan _ sound.of_plan)) ∙ sym (of_plan-on plan b.links.origin w sound.of_plan) in
       ap (λ (t : Task). record (view_of b w) { task = t; cut = cut_of rest }) (task-on parts same are h over) ∙ ap (λ (o : Option Outcome). record (view_on (view_of b w)) { cut = o }) uncut
 
-  pub goes-on-sound : awaited_children os bs ≡ b.trace.handed → length os ≡ length bs → ts ≡ tags b.family.plan (awaited b.trace.handed) → IsMergeOf (awaited_children (origins ts) bs) (meanings ts) (begins b w) after →
+  pub goes-on-sound : awaited_children os bs ≡ b.trace.unmerged → length os ≡ length bs → ts ≡ tags b.links.plan (awaited b.trace.unmerged) → IsMergeOf (awaited_children (origins ts) bs) (meanings ts) (begins b w) after →
       BecomesRemaining (resumed_remaining [] []) after.remaining rest → AnswersKeepTasks → HasTakenAnswers b w → IsSound next-state rest
   goes-on-sound parts same are h over law sound =
-      let plan = b.family.plan in
+      let plan = b.links.plan in
       record {
         task = subst IsTask (sym (task-on parts same are h over)) (law (task_of b w) sound.task);
-        family = record { before = b.family.children; passed = b.family.taken; same = sound.taken; children = sym (append-nil b.family.children); taken = sym (append-nil b.family.taken) };
+        links = record { before = b.links.children; passed = b.links.taken; same = sound.taken; children = sym (append-nil b.links.children); taken = sym (append-nil b.links.taken) };
         of_plan = over.of_plan plan _ (h.remaining.of_plan plan _ sound.of_plan);
       }
 
 pub answered-sound : {K : Type 0} (b : TaskState K) (w : Remaining) → IsSound b w → HasTakenAnswers b w
-answered-sound b w h = record { task = h.task; taken = taken-length b.family _ (awaits-count b.family b.trace.handed h.family); of_plan = h.of_plan }
+answered-sound b w h = record { task = h.task; taken = taken-length b.links _ (awaits-count b.links b.trace.unmerged h.links); of_plan = h.of_plan }
 
 -- Looks
 
-pub looked-last : (f g : FamilyView) (ps : List AwaitedChild) (ready : Bool) (loads : List ℕ) → g ≡ record f { ready = ready; loads = loads } → AwaitsLast f ps → AwaitsLast g ps
+pub looked-last : (f g : LinksView) (ps : List AwaitedChild) (ready : Bool) (loads : List ℕ) → g ≡ record f { ready = ready; loads = loads } → AwaitsLast f ps → AwaitsLast g ps
 looked-last f g ps ready loads e h =
     let there : AwaitsLast (record f { ready = ready; loads = loads }) ps = record { before = h.before; passed = h.passed; same = h.same; children = h.children; taken = h.taken } in
-    subst (λ (x : FamilyView). AwaitsLast x ps) (sym e) there
+    subst (λ (x : LinksView). AwaitsLast x ps) (sym e) there
 
 -- a look that finds no answers leaves the task as it was
-pub looked-sound : {K : Type 0} (b : TaskState K) (w : Remaining) (g : FamilyView) (ready : Bool) (loads : List ℕ) → g ≡ record b.family { ready = ready; loads = loads } → IsSound b w → IsSound (record b { family = g }) w
+pub looked-sound : {K : Type 0} (b : TaskState K) (w : Remaining) (g : LinksView) (ready : Bool) (loads : List ℕ) → g ≡ record b.links { ready = ready; loads = loads } → IsSound b w → IsSound (record b { links = g }) w
 looked-sound b w g ready loads e h =
-    let there : IsSound (record b { family = record b.family { ready = ready; loads = loads } }) w =
-    record { task = h.task; family = looked-last b.family (record b.family { ready = ready; loads = loads }) b.trace.handed ready loads refl h.family; of_plan = h.of_plan } in
-    subst (λ (x : FamilyView). IsSound (record b { family = x }) w) (sym e) there
+    let there : IsSound (record b { links = record b.links { ready = ready; loads = loads } }) w =
+    record { task = h.task; links = looked-last b.links (record b.links { ready = ready; loads = loads }) b.trace.unmerged ready loads refl h.links; of_plan = h.of_plan } in
+    subst (λ (x : LinksView). IsSound (record b { links = x }) w) (sym e) there
 
 -- a look that finds all answers, and the answers taken
-pub taken-answered : {K : Type 0} (b : TaskState K) (w : Remaining) (g k : FamilyView) (ready : Bool) (loads : List ℕ) → g ≡ record b.family { ready = ready; loads = loads } → k ≡ record g { taken = k.taken } →
-    length k.taken ≡ length g.taken → IsSound b w → HasTakenAnswers (record b { family = k }) w
+pub taken-answered : {K : Type 0} (b : TaskState K) (w : Remaining) (g k : LinksView) (ready : Bool) (loads : List ℕ) → g ≡ record b.links { ready = ready; loads = loads } → k ≡ record g { taken = k.taken } →
+    length k.taken ≡ length g.taken → IsSound b w → HasTakenAnswers (record b { links = k }) w
 taken-answered b w g k ready loads e d same h =
     let looked = looked-sound b w g ready loads e h in
-    let whole = answered-sound (record b { family = g }) w looked in
-    let there : HasTakenAnswers (record b { family = record g { taken = k.taken } }) w = record { task = whole.task; taken = same ∙ whole.taken; of_plan = whole.of_plan } in
-    subst (λ (x : FamilyView). HasTakenAnswers (record b { family = x }) w) (sym d) there
+    let whole = answered-sound (record b { links = g }) w looked in
+    let there : HasTakenAnswers (record b { links = record g { taken = k.taken } }) w = record { task = whole.task; taken = same ∙ whole.taken; of_plan = whole.of_plan } in
+    subst (λ (x : LinksView). HasTakenAnswers (record b { links = x }) w) (sym d) there
 
-pub looked-same : {K : Type 0} (b : TaskState K) (w : Remaining) (g : FamilyView) (ready : Bool) (loads : List ℕ) → g ≡ record b.family { ready = ready; loads = loads } → (t : TaskView) → view_of b w ≡ t → HasStopped b.family.loads g.loads →
-    (task_of (record b { family = g }) w ≡ t.task) × (g.children ≡ t.children) × HasStopped t.loads g.loads × (cut_of w ≡ t.cut)
+pub looked-same : {K : Type 0} (b : TaskState K) (w : Remaining) (g : LinksView) (ready : Bool) (loads : List ℕ) → g ≡ record b.links { ready = ready; loads = loads } → (t : TaskView) → view_of b w ≡ t → HasStopped b.links.loads g.loads →
+    (task_of (record b { links = g }) w ≡ t.task) × (g.children ≡ t.children) × HasStopped t.loads g.loads × (cut_of w ≡ t.cut) × (g.joins ≡ t.joins)
 looked-same b w g ready loads e t view stopped = (
-  ap (λ (f : FamilyView). task_of (record b { family = f }) w) e ∙ ap (λ (v : TaskView). v.task) view,
-  ap (λ (f : FamilyView). f.children) e ∙ ap (λ (v : TaskView). v.children) view,
+  ap (λ (f : LinksView). task_of (record b { links = f }) w) e ∙ ap (λ (v : TaskView). v.task) view,
+  ap (λ (f : LinksView). f.children) e ∙ ap (λ (v : TaskView). v.children) view,
   subst (λ (l : List ℕ). HasStopped l g.loads) (ap (λ (v : TaskView). v.loads) view) stopped,
   ap (λ (v : TaskView). v.cut) view,
+  ap (λ (f : LinksView). f.joins) e ∙ ap (λ (v : TaskView). v.joins) view,
 )
 
 -- with the numbers that the look has loaded
-taken-view : {K : Type 0} (b : TaskState K) (w : Remaining) (g k : FamilyView) (ready : Bool) (loads : List ℕ) → g ≡ record b.family { ready = ready; loads = loads } → k ≡ record g { taken = k.taken } → (t : TaskView) → view_of b w ≡ t →
-    view_of (record b { family = k }) w ≡ record t { loads = g.loads }
+taken-view : {K : Type 0} (b : TaskState K) (w : Remaining) (g k : LinksView) (ready : Bool) (loads : List ℕ) → g ≡ record b.links { ready = ready; loads = loads } → k ≡ record g { taken = k.taken } → (t : TaskView) → view_of b w ≡ t →
+    view_of (record b { links = k }) w ≡ record t { loads = g.loads }
 taken-view b w g k ready loads e d t view =
-    ap (λ (f : FamilyView). view_of (record b { family = f }) w) d
-    ∙ ap (λ (f : FamilyView). record (view_of (record b { family = record f { taken = k.taken } }) w) { loads = g.loads }) e
+    ap (λ (f : LinksView). view_of (record b { links = f }) w) d
+    ∙ ap (λ (f : LinksView). record (view_of (record b { links = record f { taken = k.taken } }) w) { loads = g.loads }) e
     ∙ ap (λ (v : TaskView). record v { loads = g.loads }) view
 
-pub resumed-on : {K : Type 0} (b : TaskState K) (w : Remaining) (g k : FamilyView) (ready : Bool) (loads : List ℕ) → g ≡ record b.family { ready = ready; loads = loads } → k ≡ record g { taken = k.taken } →
-    (t next : TaskView) → view_of b w ≡ t → t.cut ≡ None → (answers : List AnswerView) → AreAnswersOf k.plan b.trace.handed answers → WentOn answers (view_of (record b { family = k }) w) next → HasPassed b.family.loads g.loads →
-    (xs : List AnswerView) × AreAnswersOf t.task.plan t.task.trace.handed xs × WentOn xs (looked next.loads t) next × HasPassed t.loads next.loads
+pub resumed-on : {K : Type 0} (b : TaskState K) (w : Remaining) (g k : LinksView) (ready : Bool) (loads : List ℕ) → g ≡ record b.links { ready = ready; loads = loads } → k ≡ record g { taken = k.taken } →
+    (t next : TaskView) → view_of b w ≡ t → t.cut ≡ None → (answers : List AnswerView) → AreAnswersOf k.plan b.trace.unmerged answers → WentOn answers (view_of (record b { links = k }) w) next → HasPassed b.links.loads g.loads →
+    (xs : List AnswerView) × AreAnswersOf t.task.plan t.task.trace.unmerged xs × WentOn xs (looked next.loads t) next × HasPassed t.loads next.loads
 resumed-on b w g k ready loads e d t next view goes answers are went-on passed = (answers, frame_with_answer, looks, read)
   where
     plan : k.plan ≡ t.task.plan
-    plan = ap (λ (f : FamilyView). f.plan) d ∙ ap (λ (f : FamilyView). f.plan) e ∙ ap (λ (v : TaskView). v.task.plan) view
+    plan = ap (λ (f : LinksView). f.plan) d ∙ ap (λ (f : LinksView). f.plan) e ∙ ap (λ (v : TaskView). v.task.plan) view
 
-    frame_with_answer : AreAnswersOf t.task.plan t.task.trace.handed answers
-    frame_with_answer = subst (λ (v : TaskView). AreAnswersOf t.task.plan v.task.trace.handed answers) view (subst (λ (p : PlanView). AreAnswersOf p b.trace.handed answers) plan are)
+    frame_with_answer : AreAnswersOf t.task.plan t.task.trace.unmerged answers
+    frame_with_answer = subst (λ (v : TaskView). AreAnswersOf t.task.plan v.task.trace.unmerged answers) view (subst (λ (p : PlanView). AreAnswersOf p b.trace.unmerged answers) plan are)
 
     there : WentOn answers (record t { loads = g.loads }) next
     there = subst (λ (v : TaskView). WentOn answers v next) (taken-view b w g k ready loads e d t view) went-on

@@ -8,7 +8,7 @@ use Rattle.script_grammar.specs.declared.tree.Stmt.{Stmt, out-Stmt}
 use Rattle.script_grammar.specs.declared.tree.Act.{Act, out-Act}
 use Rattle.script_grammar.specs.declared.tree.Act.TheOpen as act
 use Rattle.script_grammar.specs.declared.tree.Act.TheOpen.{Act-F}
-use Rattle.script_check.specs.Places.{every_in, every_in_block, every_in_statement, finds_callee, finds_in, has_place, stand_from, variable_names}
+use Rattle.script_check.specs.Slots.{every_in, every_in_block, every_in_statement, finds_callee, finds_in, has_slot, stand_from, variable_names}
 use Rattle.serial_meaning.specs.Plan.{PlanView, functions_of}
 use Rattle.strand_meaning.proofs.FoundTargets.LeftStatements.{one-of, opened, opened-found}
 use Rattle.strand_moves.specs.declared.cursor.Branch.{Branch}
@@ -18,7 +18,7 @@ use Rattle.strand_moves.specs.declared.frame.Frame.{Frame}
 use Rattle.strand_moves.specs.declared.frame.Level.{Level}
 use Rattle.strand_moves.specs.declared.instance_parts.InstanceParts.{InstanceParts}
 use Rattle.strand_moves.specs.Cursors.{IsAfterStatement, block_in, block_of, branch_at, branch_of, entered_at, scope_at, scope_of}
-use Rattle.strand_moves.specs.Found.{ArePlaces, FindsStatement}
+use Rattle.strand_moves.specs.Found.{AreSlots, FindsStatement}
 use Rattle.strand_moves.specs.InstanceParts.{AreNamed, IsNamed, block_inside, body_in, body_of, statements_of}
 
 module _ (is calls : Name → Bool) where
@@ -82,9 +82,9 @@ module _ (is calls : Name → Bool) where
           scope-found (out-Act (out-Stmt st).act) (opened-found is calls st (out-Act (out-Stmt st).act) refl found)
 
 -- the statement after which a frame's cursor stands
-module _ (plan : PlanView) (places : List ℕ) (a : Frame) (all : ArePlaces places plan) (named : IsNamed plan a) where
+module _ (plan : PlanView) (slots : List ℕ) (a : Frame) (all : AreSlots slots plan) (named : IsNamed plan a) where
   abbrev has_own : Name → Bool
-  has_own = has_place places a.env.names
+  has_own = has_slot slots a.env.names
 
   abbrev has_callee : Name → Bool
   has_callee = finds_callee (functions_of plan)
@@ -92,32 +92,32 @@ module _ (plan : PlanView) (places : List ℕ) (a : Frame) (all : ArePlaces plac
   abbrev own_names : List (List ℕ)
   own_names = variable_names named.function
 
-  own : every_in_block (has_place places own_names) has_callee named.function.body ≡ true
+  own : every_in_block (has_slot slots own_names) has_callee named.function.body ≡ true
   own =
-      let found = one-of (finds_in places (functions_of plan)) (functions_of plan) a.function named.function all.found named.of_plan in
-      let body = every_in_block (has_place places own_names) has_callee named.function.body in
-      let value = every_in (has_place places own_names) named.function.result in
+      let found = one-of (finds_in slots (functions_of plan)) (functions_of plan) a.function named.function all.found named.of_plan in
+      let body = every_in_block (has_slot slots own_names) has_callee named.function.body in
+      let value = every_in (has_slot slots own_names) named.function.result in
       (and_parts body value (and_parts (stand_from 0 own_names named.function.params) (body && value) found).1).0
 
   body-found : every_in_block has_own has_callee (body_of plan a.function) ≡ true
   body-found =
       ap (λ (o : Option Function). every_in_block has_own has_callee (body_in o)) named.of_plan
-      ∙ ap (λ (ns : List (List ℕ)). every_in_block (has_place places ns) has_callee named.function.body) named.names
+      ∙ ap (λ (ns : List (List ℕ)). every_in_block (has_slot slots ns) has_callee named.function.body) named.names
       ∙ own
 
   -- a statement of these blocks
-  pub at-found : (es : List Entered) (n : ℕ) (st : Stmt) → slice_get (block_of (statements_of plan a) es) n ≡ Some st → FindsStatement plan places a.env st
+  pub at-found : (es : List Entered) (n : ℕ) (st : Stmt) → slice_get (block_of (statements_of plan a) es) n ≡ Some st → FindsStatement plan slots a.env st
   at-found es n st there =
       one-of (every_in_statement has_own has_callee) (block_of (statements_of plan a) es) n st
       (block-found has_own has_callee (statements_of plan a) es (inside-found has_own has_callee (body_of plan a.function) (reverse a.levels.items) body-found)) there
 
-  pub statement-found : (st : Stmt) → IsAfterStatement (statements_of plan a) a.cursor st → FindsStatement plan places a.env st
+  pub statement-found : (st : Stmt) → IsAfterStatement (statements_of plan a) a.cursor st → FindsStatement plan slots a.env st
   statement-found st after = at-found a.cursor.entered.items (a.cursor.next - 1) st after.there
 
 -- the same of an instance's innermost frame
-pub next-found : (plan : PlanView) (places : List ℕ) (i : InstanceParts) → ArePlaces places plan → AreNamed plan i → (st : Stmt) → IsAfterStatement (statements_of plan i.top) i.top.cursor st → FindsStatement plan places i.top.env st
-next-found plan places i all named st after = statement-found plan places i.top all (All-head (IsNamed plan) i.top i.below.items named.each) st after
+pub next-found : (plan : PlanView) (slots : List ℕ) (i : InstanceParts) → AreSlots slots plan → AreNamed plan i → (st : Stmt) → IsAfterStatement (statements_of plan i.top) i.top.cursor st → FindsStatement plan slots i.top.env st
+next-found plan slots i all named st after = statement-found plan slots i.top all (All-head (IsNamed plan) i.top i.below.items named.each) st after
 
 -- and one of the blocks in which it stands
-pub there-found : (plan : PlanView) (places : List ℕ) (i : InstanceParts) → ArePlaces places plan → AreNamed plan i → (es : List Entered) (n : ℕ) (st : Stmt) → slice_get (block_of (statements_of plan i.top) es) n ≡ Some st → FindsStatement plan places i.top.env st
-there-found plan places i all named es n st there = at-found plan places i.top all (All-head (IsNamed plan) i.top i.below.items named.each) es n st there
+pub there-found : (plan : PlanView) (slots : List ℕ) (i : InstanceParts) → AreSlots slots plan → AreNamed plan i → (es : List Entered) (n : ℕ) (st : Stmt) → slice_get (block_of (statements_of plan i.top) es) n ≡ Some st → FindsStatement plan slots i.top.env st
+there-found plan slots i all named es n st there = at-found plan slots i.top all (All-head (IsNamed plan) i.top i.below.items named.each) es n st there

@@ -9,10 +9,11 @@ use Rattle.script_grammar.specs.declared.tree.Stmt.{Stmt, out-Stmt}
 use Rattle.script_grammar.specs.declared.tree.Act.{Act, out-Act}
 use Rattle.script_grammar.specs.declared.tree.Act.TheOpen as act
 use Rattle.script_grammar.specs.declared.tree.Act.TheOpen.{Act-F}
-use Rattle.serial_meaning.specs.Exec.{with_slot}
+use Rattle.serial_meaning.specs.Exec.{with_content}
 use Rattle.serial_meaning.specs.Plan.{PlanView}
 use Rattle.serial_meaning.specs.Values.{value_of, is_true}
-use Rattle.serial_meaning.specs.declared.environment.Slot.TheVariants.{Scalar}
+use Rattle.serial_meaning.specs.declared.environment.Content.TheVariants.{Scalar}
+use Rattle.serial_meaning.specs.declared.event.Event.{Event}
 use Rattle.serial_meaning.specs.declared.value.Value.{Value}
 use Rattle.serial_meaning.specs.declared.value.Value.TheVariants.{Int}
 use Rattle.strand_values.specs.Environments.{EnvironmentView, with_variables}
@@ -20,21 +21,23 @@ use Rattle.strand_moves.specs.declared.cursor.Branch.{Branch}
 use Rattle.strand_moves.specs.declared.cursor.Branch.TheVariants as branch
 use Rattle.strand_moves.specs.declared.cursor.Cursor.{Cursor}
 use Rattle.strand_moves.specs.declared.cursor.Entered.{Entered}
+use Rattle.strand_moves.specs.declared.effects.Effects.TheVariants as effect
+use Rattle.strand_moves.specs.declared.effects.MoveResult.TheVariants as move_result
 use Rattle.strand_moves.specs.declared.instance_parts.InstanceParts.{InstanceParts}
-use Rattle.strand_moves.specs.Acts.{Stays}
+use Rattle.strand_moves.specs.Acts.{Acts, Costs, Stays}
 use Rattle.strand_moves.specs.Cursors.{IsAround, IsInLoop, IsStillIn, block_in, block_of, branch_at, branch_of, entered_at, left_around, statements_left}
-use Rattle.strand_moves.specs.InstanceParts.{IsInstance, machine_of, path_of, present_of, statements_of}
-use Rattle.strand_moves.specs.Moves.{acted}
-use Rattle.strand_moves.specs.Quick.{GivesValue, IsQuiet}
-use Rattle.strand_moves.specs.Rows.{GoesOnInBlock, IsMoveInBlock, IsQuietMove, StaysInBlock, Then}
+use Rattle.strand_moves.specs.InstanceParts.{IsInstance, KeepsNames, machine_of, path_of, present_of, statements_of}
+use Rattle.strand_moves.specs.Moves.{acted, run_of}
+use Rattle.strand_moves.specs.FastPath.{Draws, GivesValue, IsSilent, StaysThere, emitted}
+use Rattle.strand_moves.specs.StraightRuns.{GoesOnInBlock, IsMoveInBlock, IsSilentMove, IsSentInBlock, More, StaysInBlock, Still}
 use Rattle.strand_moves.proofs.Cursors.CursorLemmas.{block_of-more, left_around-more, passes, rest-next, rest_of}
-use Rattle.strand_moves.proofs.Cursors.Passing.{text-same}
+use Rattle.strand_moves.proofs.Cursors.Passing.{straight_run-over, straight_run-sent, text-same}
 use Rattle.strand_moves.proofs.OpenScopes.Keeping.{here-is, same-path, stays-instance}
 use Rattle.strand_moves.proofs.Statements.Assigning.{number-acts}
 use Rattle.strand_moves.proofs.Statements.Equations.{after_statement, let-is-set, paid-move, turn, went}
 use Rattle.strand_moves.proofs.Statements.Going.{moves-on}
 use Rattle.strand_moves.proofs.Statements.Naming.{names-stay, top-named}
-use Rattle.strand_moves.proofs.Statements.QuickLemmas.{passed-on, quick-went, with_cursor}
+use Rattle.strand_moves.proofs.Statements.FastPathLemmas.{passed-on, fast_path-went, with_cursor}
 
 -- the last block that was entered, and those around it
 last-entered : (es : List Entered) (n : ℕ) (d : Entered) → n + 1 ≡ length es → es ≡ take n es ++ get_or es n d ∷ []
@@ -110,7 +113,7 @@ module _ (plan : PlanView) (i : InstanceParts) (sound : IsInstance plan i) (n : 
 
   -- a loop that goes round in place
   pub goes-round : (e : Expr) → IsInLoop text i.top.cursor e → length (block_of text i.top.cursor.entered.items) ≤ i.top.cursor.next → (v : Value) → value_of e i.top.env.variables ≡ Ok v → is_true v ≡ true →
-      cursor.entered.items ≡ i.top.cursor.entered.items → cursor.next ≡ 0 → IsQuietMove plan i (with_cursor plan i n cursor)
+      cursor.entered.items ≡ i.top.cursor.entered.items → cursor.next ≡ 0 → IsSilentMove plan i (with_cursor plan i n cursor)
   goes-round e h ended v known holds same first =
       let m = machine_of plan i in
       let block = block_of text i.top.cursor.entered.items in
@@ -132,11 +135,11 @@ module _ (plan : PlanView) (i : InstanceParts) (sound : IsInstance plan i) (n : 
       }
 
   -- a statement that gives a variable a plain number
-  module _ (st : Stmt) (x : Name) (e : Expr) (k : ℤ) (env : EnvironmentView) (known : value_of e i.top.env.variables ≡ Ok (Int k)) (set : env ≡ with_variables i.top.env (with_slot i.top.env.variables x.bytes (Scalar (Int k)))) where
+  module _ (st : Stmt) (x : Name) (e : Expr) (k : ℤ) (env : EnvironmentView) (known : value_of e i.top.env.variables ≡ Ok (Int k)) (set : env ≡ with_variables i.top.env (with_content i.top.env.variables x.bytes (Scalar (Int k)))) where
     abbrev given : InstanceParts
     given = record i { steps = n; top = record i.top { cursor = cursor; env = env } }
 
-    gives : GivesValue (out-Act (out-Stmt st).act) x e → IsQuiet st (with_cursor plan i n cursor) given true
+    gives : GivesValue (out-Act (out-Stmt st).act) x e → IsSilent st (with_cursor plan i n cursor) given true
     gives (inl is) = λ p after.
         let paid = with_cursor plan i n cursor in
         ap (λ (a : Act-F Act Stmt). acted p (present_of paid) (machine_of p paid) st a) is ∙ let-is-set p (present_of paid) (machine_of p paid) st x (right.Value e) ∙ number-acts p paid env st x e k known set
@@ -145,31 +148,61 @@ module _ (plan : PlanView) (i : InstanceParts) (sound : IsInstance plan i) (n : 
         ap (λ (a : Act-F Act Stmt). acted p (present_of paid) (machine_of p paid) st a) is ∙ number-acts p paid env st x e k known set
 
     pub gives-number : GivesValue (out-Act (out-Stmt st).act) x e → slice_get (block_of text i.top.cursor.entered.items) i.top.cursor.next ≡ Some st → cursor.entered.items ≡ i.top.cursor.entered.items → cursor.next ≡ i.top.cursor.next + 1 →
-        IsQuietMove plan i given
+        IsSilentMove plan i given
     gives-number is there same next =
         let passed = passes text i.top.cursor cursor st there same next in
         let stays : Stays i given = record { trail = refl; scopes = refl; leaving = refl } in
         record {
-          moves = quick-went plan i st cursor n (here-is plan i sound) passed less given (gives is);
+          moves = fast_path-went plan i st cursor n (here-is plan i sound) passed less given (gives is);
           path = same-path i given stays;
           sound = stays-instance plan i given sound (passed-on plan i st _ sound passed.first) stays (top-named plan i given refl refl refl (names-stay env i.top.env _ set)) (omega (arith, less));
         }
 
+  -- a draw
+  module _ {S : Type 0} (after : Event → S → S) (sent : S) (st : Stmt) (x : Name) (is : Draws (out-Act (out-Stmt st).act) x) where
+    abbrev paid : InstanceParts
+    paid = with_cursor plan i n cursor
+
+    drawn-acts : (new : InstanceParts) (e : Event) → ((at : ℕ) → Acts plan st (act.Set x (right.Draw at)) paid new (emitted (Ok e))) → Draws (out-Act (out-Stmt st).act) x →
+        acted plan (present_of paid) (machine_of plan paid) st (out-Act (out-Stmt st).act) ≡ run_of (move_result.Went (effect.Emitted e)) (machine_of plan new)
+    drawn-acts new e acts (at, inl let-is) = ap (λ (a : Act-F Act Stmt). acted plan (present_of paid) (machine_of plan paid) st a) let-is ∙ let-is-set plan (present_of paid) (machine_of plan paid) st x (right.Draw at) ∙ acts at
+    drawn-acts new e acts (at, inr set-is) = ap (λ (a : Act-F Act Stmt). acted plan (present_of paid) (machine_of plan paid) st a) set-is ∙ acts at
+
+    pub draws-on : slice_get (block_of text i.top.cursor.entered.items) i.top.cursor.next ≡ Some st → cursor.entered.items ≡ i.top.cursor.entered.items → cursor.next ≡ i.top.cursor.next + 1 →
+        (new : InstanceParts) (heard : S) (e : Event) → heard ≡ after e sent → ((at : ℕ) → Acts plan st (act.Set x (right.Draw at)) paid new (emitted (Ok e))) → KeepsNames plan paid new → Stays paid new → Costs paid new →
+        StaysThere paid new → new.top.cursor ≡ cursor → IsSentInBlock after plan i sent new heard true
+    draws-on there same next new heard e took acts named stays few alike at =
+        let passed = passes text i.top.cursor cursor st there same next in
+        let on = straight_run-sent after plan i sent i sent (Still i sent refl refl) sound st cursor n passed less paid refl new heard e took (drawn-acts new e acts is) named stays few in
+        let blocks : StaysInBlock i new = record {
+          below = alike.below;
+          function = alike.function;
+          levels = alike.levels;
+          entered = ap (λ (c : Cursor). c.entered.items) at ∙ same;
+          few = omega (arith, alike.steps, less);
+        } in
+        (record { straight_run = on.straight_run; path = on.path; sound = on.sound; stays = blocks }, omega (arith, alike.steps, less))
+
 -- moves in a block, one after another
-pub in-block : (plan : PlanView) (first i new : InstanceParts) → GoesOnInBlock plan first i → IsQuietMove plan i new → StaysInBlock i new → GoesOnInBlock plan first new
-in-block plan first i new h m s =
-    record {
-      row = Then i new h.row m;
-      path = m.path ∙ h.path;
-      sound = m.sound;
-      stays = record {
-        below = s.below ∙ h.stays.below;
-        function = s.function ∙ h.stays.function;
-        levels = s.levels ∙ h.stays.levels;
-        entered = s.entered ∙ h.stays.entered;
-        few = omega (arith, s.few, h.stays.few);
-      };
-    }
+module _ {S : Type 0} (after : Event → S → S) (plan : PlanView) (first : InstanceParts) (start : S) (i : InstanceParts) (sent : S) (h : GoesOnInBlock after plan first start i sent) where
+  pub over-block : (new : InstanceParts) (heard : S) → GoesOnInBlock after plan i sent new heard → GoesOnInBlock after plan first start new heard
+  over-block new heard m =
+      record {
+        straight_run = straight_run-over after plan first start i sent h.straight_run new heard m.straight_run;
+        path = m.path ∙ h.path;
+        sound = m.sound;
+        stays = record {
+          below = m.stays.below ∙ h.stays.below;
+          function = m.stays.function ∙ h.stays.function;
+          levels = m.stays.levels ∙ h.stays.levels;
+          entered = m.stays.entered ∙ h.stays.entered;
+          few = omega (arith, m.stays.few, h.stays.few);
+        };
+      }
+
+  -- one that showed nothing
+  pub in-block : (new : InstanceParts) → IsSilentMove plan i new → StaysInBlock i new → GoesOnInBlock after plan first start new sent
+  in-block new m s = over-block new sent (record { straight_run = More i new sent (Still i sent refl refl) m.moves m.path m.sound; path = m.path; sound = m.sound; stays = s })
 
 pub stands-in-block : (i : InstanceParts) → StaysInBlock i i
 stands-in-block i = record { below = refl; function = refl; levels = refl; entered = refl; few = omega arith }
@@ -180,6 +213,10 @@ did-move plan old new went e h = subst (IsMoveInBlock plan old new) e h
 
 pub did-not-move : (plan : PlanView) (old new : InstanceParts) (went : Bool) → went ≡ false → IsMoveInBlock plan old new went → new ≡ old
 did-not-move plan old new went e h = subst (IsMoveInBlock plan old new) e h
+
+module _ {S : Type 0} (after : Event → S → S) (plan : PlanView) (old : InstanceParts) (from : S) (new : InstanceParts) (to : S) (went : Bool) where
+  pub did-send : went ≡ true → IsSentInBlock after plan old from new to went → IsSentInBlock after plan old from new to true
+  did-send e h = subst (IsSentInBlock after plan old from new to) e h
 
 -- the same loop and the same block there
 module _ (plan : PlanView) (old new : InstanceParts) where

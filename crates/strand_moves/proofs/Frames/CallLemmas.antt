@@ -21,10 +21,10 @@ use Rattle.strand_moves.specs.declared.frame.Frame.{Frame}
 use Rattle.strand_moves.specs.declared.frame.Level.{Level}
 use Rattle.script_grammar.specs.declared.tree.Stmt.{Stmt}
 use Rattle.strand_moves.specs.declared.instance_parts.InstanceParts.{InstanceParts}
-use Rattle.strand_values.specs.declared.halt.Halt as values
-use Rattle.strand_values.specs.declared.halt.Halt.TheVariants as halt
+use Rattle.strand_values.specs.declared.evaluation_error.EvaluationError as values
+use Rattle.strand_values.specs.declared.evaluation_error.EvaluationError.TheVariants as error
 use Rattle.strand_moves.specs.Acts.{IsCallee, StaysUnlessMemory, Stays}
-use Rattle.strand_moves.specs.Quick.{quiet}
+use Rattle.strand_moves.specs.FastPath.{silent}
 use Rattle.strand_moves.specs.InstanceParts.{frame_of, body_in, body_of, levels_of, machine_of, scopes_of}
 use Rattle.strand_moves.proofs.Statements.Equations.{callee}
 
@@ -122,7 +122,7 @@ module _ (names : List (List ℕ)) (params : List Param) where
   called-fault args old kind h = fault-by (values_of args old) kind h
 
 -- what a call that shows nothing leaves
-pub stands-quiet : (old new : InstanceParts) (r : Result (Unit {0}) values.Halt) → Stays old new → StaysUnlessMemory old new (quiet r)
-stands-quiet old new (Ok u) s = s
-stands-quiet old new (Err (halt.Fault kind)) s = s
-stands-quiet old new (Err halt.Memory) s = tt
+pub stands-silent : (old new : InstanceParts) (r : Result (Unit {0}) values.EvaluationError) → Stays old new → StaysUnlessMemory old new (silent r)
+stands-silent old new (Ok u) s = s
+stands-silent old new (Err (error.Fault kind)) s = s
+stands-silent old new (Err error.Memory) s = tt

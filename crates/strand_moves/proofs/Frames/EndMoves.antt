@@ -6,8 +6,8 @@ use Rattle.serial_meaning.specs.Plan.{PlanView}
 use Rattle.serial_meaning.specs.declared.event.Event.{Event}
 use Rattle.serial_meaning.specs.declared.event.FaultKind.{FaultKind}
 use Rattle.strand_meaning.specs.Machine.{end_move, move, move_at, return_move}
-use Rattle.strand_values.specs.declared.halt.Halt as values
-use Rattle.strand_values.specs.declared.halt.Halt.TheVariants as halt
+use Rattle.strand_values.specs.declared.evaluation_error.EvaluationError as values
+use Rattle.strand_values.specs.declared.evaluation_error.EvaluationError.TheVariants as error
 use Rattle.strand_moves.specs.declared.frame.Level.{Level}
 use Rattle.strand_moves.specs.declared.instance_parts.InstanceParts.{InstanceParts}
 use Rattle.strand_moves.specs.declared.effects.Effects.TheVariants as effect
@@ -15,8 +15,8 @@ use Rattle.strand_moves.specs.declared.effects.MoveResult.TheVariants as move_re
 use Rattle.strand_moves.specs.Acts.{StaysUnlessMemory, Stays}
 use Rattle.strand_moves.specs.Cursors.{statements_left}
 use Rattle.strand_moves.specs.Moves.{Makes, present_pedigree, run_of}
-use Rattle.strand_moves.specs.Quick.{EndsFrame, GivesBackIfAny, IsSentMove, IsWent, MakesEnd, Shortens, quiet}
-use Rattle.strand_moves.specs.Rows.{Here, QuietRow, Then}
+use Rattle.strand_moves.specs.FastPath.{EndsFrame, GivesBackIfAny, IsSentMove, IsWent, MakesEnd, Shortens, silent}
+use Rattle.strand_moves.specs.StraightRuns.{Here, SilentRun, Then}
 use Rattle.strand_moves.specs.InstanceParts.{IsInstance, KeepsNames, body_of, levels_of, machine_of, open_scopes, path_of, present_of, statements_of}
 use Rattle.strand_moves.proofs.OpenScopes.Keeping.{same-path, stays-instance}
 
@@ -37,12 +37,12 @@ module _ {S : Type 0} (after : Event → S → S) (plan : PlanView) (old new : I
   did-not-end did e h = subst (EndsFrame after plan old from new to) e h
 
 pub gives-nothing : (plan : PlanView) (i : InstanceParts) → IsInstance plan i → GivesBackIfAny plan i i
-gives-nothing plan i sound = record { row = Here i refl; path = refl; sound = sound; steps = refl; frames = omega arith }
+gives-nothing plan i sound = record { straight_run = Here i refl; path = refl; sound = sound; steps = refl; frames = omega arith }
 
--- one row of quiet moves after another
-more-quiet : (plan : PlanView) (first between new : InstanceParts) → QuietRow plan first between → QuietRow plan between new → QuietRow plan first new
-more-quiet plan first between new h (Here _ e) = subst (QuietRow plan first) (sym e) h
-more-quiet plan first between new h (Then before _ k m) = Then before new (more-quiet plan first between before h k) m
+-- one straight run of silent moves after another
+more-silent : (plan : PlanView) (first between new : InstanceParts) → SilentRun plan first between → SilentRun plan between new → SilentRun plan first new
+more-silent plan first between new h (Here _ e) = subst (SilentRun plan first) (sym e) h
+more-silent plan first between new h (Then before _ k m) = Then before new (more-silent plan first between before h k) m
 
 pub ends-twice : {S : Type 0} (after : Event → S → S) (plan : PlanView) (old between new : InstanceParts) (from to : S) → MakesEnd after plan old from between to → GivesBackIfAny plan between new → MakesEnd after plan old from new to
 ends-twice after plan old between new from to h g =
@@ -51,7 +51,7 @@ ends-twice after plan old between new from to h g =
       first = h.first;
       path_between = h.path_between;
       sound_between = h.sound_between;
-      row = more-quiet plan h.between between new h.row g.row;
+      straight_run = more-silent plan h.between between new h.straight_run g.straight_run;
       path = g.path ∙ h.path;
       sound = g.sound;
       shorter = let before = h.shorter in omega (arith, before, g.steps, g.frames);
@@ -68,33 +68,33 @@ module _ (plan : PlanView) (i : InstanceParts) (h : IsInstance plan i) (on : i.l
 
   -- its value went to the frame below, or nothing changed
   module _ (new : InstanceParts) (kept : KeepsNames plan i new) (less : new.rank + new.steps ≤ i.rank + i.steps) where
-    pub given-back : (done : Result (Unit {0}) values.Halt) (went : Bool) → IsWent done went → i.top.returning ≡ true →
-        Makes (return_move plan (path_of i) (machine_of plan i) true) (present_pedigree (present_of i) (machine_of plan i)) (machine_of plan new) (quiet done) →
-        ((kind : FaultKind) → done ≡ Err (halt.Fault kind) → new ≡ i) → StaysUnlessMemory i new (quiet done) → new.steps ≡ i.steps → OnOk done (length new.below.items < length i.below.items) → GivesBackIfAny plan i new
+    pub given-back : (done : Result (Unit {0}) values.EvaluationError) (went : Bool) → IsWent done went → i.top.returning ≡ true →
+        Makes (return_move plan (path_of i) (machine_of plan i) true) (present_pedigree (present_of i) (machine_of plan i)) (machine_of plan new) (silent done) →
+        ((kind : FaultKind) → done ≡ Err (error.Fault kind) → new ≡ i) → StaysUnlessMemory i new (silent done) → new.steps ≡ i.steps → OnOk done (length new.below.items < length i.below.items) → GivesBackIfAny plan i new
     given-back (Ok u) went w returning makes same stays steps fewer =
         let path = same-path i new stays in
         let sound = stays-instance plan i new h on stays kept less in
-        record { row = Then i new (Here i refl) (record { moves = ends-by true returning ∙ makes; path = path; sound = sound }); path = path; sound = sound; steps = steps; frames = omega (arith, fewer) }
-    given-back (Err (halt.Fault kind)) went w returning makes same stays steps fewer = subst (GivesBackIfAny plan i) (sym (same kind refl)) (gives-nothing plan i h)
-    given-back (Err halt.Memory) went w returning makes same stays steps fewer = absurd w
+        record { straight_run = Then i new (Here i refl) (record { moves = ends-by true returning ∙ makes; path = path; sound = sound }); path = path; sound = sound; steps = steps; frames = omega (arith, fewer) }
+    given-back (Err (error.Fault kind)) went w returning makes same stays steps fewer = subst (GivesBackIfAny plan i) (sym (same kind refl)) (gives-nothing plan i h)
+    given-back (Err error.Memory) went w returning makes same stays steps fewer = absurd w
 
   module _ {S : Type 0} (after : Event → S → S) (from to : S) (new : InstanceParts) (kept : KeepsNames plan i new) (less : new.rank + new.steps ≤ i.rank + i.steps) where
     ends : Stays i new → IsSentMove after plan i from new to → Shortens i new → EndsFrame after plan i from new to true
     ends stays sent shorter =
         let path = same-path i new stays in
         let sound = stays-instance plan i new h on stays kept less in
-        record { between = new; first = sent; path_between = path; sound_between = sound; row = Here new refl; path = path; sound = sound; shorter = shorter }
+        record { between = new; first = sent; path_between = path; sound_between = sound; straight_run = Here new refl; path = path; sound = sound; shorter = shorter }
 
     -- its value went to the frame below
-    pub gave-back : {E : Type 0} (done : Result (Unit {0}) values.Halt) (went : Result Bool E) → IfOk went (IsWent done) → i.top.returning ≡ true →
-        Makes (return_move plan (path_of i) (machine_of plan i) true) (present_pedigree (present_of i) (machine_of plan i)) (machine_of plan new) (quiet done) →
-        ((kind : FaultKind) → done ≡ Err (halt.Fault kind) → new ≡ i) → StaysUnlessMemory i new (quiet done) → new.steps ≡ i.steps → OnOk done (length new.below.items < length i.below.items) → to ≡ from →
+    pub gave-back : {E : Type 0} (done : Result (Unit {0}) values.EvaluationError) (went : Result Bool E) → IfOk went (IsWent done) → i.top.returning ≡ true →
+        Makes (return_move plan (path_of i) (machine_of plan i) true) (present_pedigree (present_of i) (machine_of plan i)) (machine_of plan new) (silent done) →
+        ((kind : FaultKind) → done ≡ Err (error.Fault kind) → new ≡ i) → StaysUnlessMemory i new (silent done) → new.steps ≡ i.steps → OnOk done (length new.below.items < length i.below.items) → to ≡ from →
         IfOk went (EndsFrame after plan i from new to)
     gave-back done (Err e) w returning makes same stays steps fewer still = tt
     gave-back (Ok u) (Ok went) w returning makes same stays steps fewer still =
         subst (EndsFrame after plan i from new to) (sym w) (ends stays (inl (ends-by true returning ∙ makes, still)) (omega (arith, steps, fewer)))
-    gave-back (Err (halt.Fault kind)) (Ok went) w returning makes same stays steps fewer still = subst (EndsFrame after plan i from new to) (sym w) (same kind refl, still)
-    gave-back (Err halt.Memory) (Ok went) w returning makes same stays steps fewer still = absurd w
+    gave-back (Err (error.Fault kind)) (Ok went) w returning makes same stays steps fewer still = subst (EndsFrame after plan i from new to) (sym w) (same kind refl, still)
+    gave-back (Err error.Memory) (Ok went) w returning makes same stays steps fewer still = absurd w
 
     -- its return was paid
     module _ (off : i.top.returning ≡ false) (is : IsReturning i new) (paid : new.steps + 1 ≡ i.steps) where

@@ -3,7 +3,7 @@ use Rattle.std.proofs.Common.{◌≡◌, ℕ, zero, suc, ◌<◌, true, Bool, �
 use Rattle.std.proofs.lemmas.Bool.{and_parts}
 use Rattle.std.proofs.lemmas.List.{get_or_default, map-append, reverse-append}
 use Rattle.std.proofs.lemmas.List.Elements.{All-cons, All-get_or, All-head, All-pop, All-push, All-same, All-set, All-tail}
-use Rattle.script_check.specs.Places.{every_in, every_in_block, every_in_target, finds_callee, finds_in, has_place, stand_from, table_of_places, variable_names}
+use Rattle.script_check.specs.Slots.{every_in, every_in_block, every_in_target, finds_callee, finds_in, has_slot, stand_from, table_of_slots, variable_names}
 use Rattle.script_grammar.specs.declared.tree.Function.{Function}
 use Rattle.script_grammar.specs.declared.tree.Name.{Name}
 use Rattle.serial_meaning.specs.Functions.{function_at}
@@ -12,7 +12,7 @@ use Rattle.strand_meaning.specs.Found.{FindsTargetIn, variables_in}
 use Rattle.strand_values.specs.Environments.{FindsExpression}
 use Rattle.strand_moves.specs.declared.frame.Frame.{Frame}
 use Rattle.strand_moves.specs.declared.instance_parts.InstanceParts.{InstanceParts}
-use Rattle.strand_moves.specs.Found.{ArePlaces, FindsTarget}
+use Rattle.strand_moves.specs.Found.{AreSlots, FindsTarget}
 use Rattle.strand_moves.specs.InstanceParts.{AreNamed, IsNamed, IsNamedIn, KeepsNames, TargetsAreNamed}
 use Rattle.strand_meaning.proofs.FoundTargets.LeftStatements.{one-of}
 use Rattle.strand_moves.proofs.Statements.Naming.{same-named}
@@ -21,17 +21,17 @@ use Rattle.strand_moves.proofs.Statements.Naming.{same-named}
 
 module _ (plan : PlanView) where
   abbrev table : List ℕ
-  table = table_of_places (functions_of plan)
+  table = table_of_slots (functions_of plan)
 
   -- a target that is found is named
-  pub target-named : (places : List ℕ) (caller : Frame) (target : Option Name) → ArePlaces places plan → FindsTarget places caller.env target → IsNamedIn plan caller target
-  target-named places caller target all h = subst (λ (t : List ℕ). FindsTarget t caller.env target) all.table h
+  pub target-named : (slots : List ℕ) (caller : Frame) (target : Option Name) → AreSlots slots plan → FindsTarget slots caller.env target → IsNamedIn plan caller target
+  target-named slots caller target all h = subst (λ (t : List ℕ). FindsTarget t caller.env target) all.table h
 
   -- what is found in a function is found in its frames
   pub target-found : (a : Frame) (target : Option Name) → IsNamed plan a → FindsTargetIn plan target a.function → FindsTarget table a.env target
   target-found a target is h =
       let names : variables_in (function_at (functions_of plan) a.function) ≡ a.env.names = ap variables_in is.of_plan ∙ sym is.names in
-      subst (λ (ns : List (List ℕ)). every_in_target (has_place table ns) target ≡ true) names h
+      subst (λ (ns : List (List ℕ)). every_in_target (has_slot table ns) target ≡ true) names h
 
 -- what targets are told of a frame
 abbrev tie : Frame → Option Name × List (List ℕ)
@@ -44,7 +44,7 @@ ties-same plan target (x ∷ xs) [] e h = absurd (cc)
 ties-same plan target (x ∷ xs) (y ∷ ys) e h =
     let first : tie x ≡ tie y = cc in
     let rest : map tie xs ≡ map tie ys = cc in (
-      subst (λ (ns : List (List ℕ)). every_in_target (has_place (table plan) ns) target ≡ true) (ap (λ (t : Option Name × List (List ℕ)). t.1) first) h.0,
+      subst (λ (ns : List (List ℕ)). every_in_target (has_slot (table plan) ns) target ≡ true) (ap (λ (t : Option Name × List (List ℕ)). t.1) first) h.0,
       ties-same plan y.target xs ys rest (subst (λ (t : Option Name). TargetsAreNamed plan t xs) (ap (λ (t : Option Name × List (List ℕ)). t.0) first) h.1),
     )
 
@@ -138,24 +138,24 @@ module _ (plan : PlanView) (number : ℕ) (f : Function) (there : function_at (f
   pub own-names-there : None ≡ option_map variable_names (function_at (functions_of plan) number) → ⊥
   own-names-there h = let no = h ∙ ap (option_map variable_names) there in absurd (cc)
 
-  module _ (places : List ℕ) (all : ArePlaces places plan) where
+  module _ (slots : List ℕ) (all : AreSlots slots plan) where
     abbrev body : Bool
-    body = every_in_block (has_place places (variable_names f)) (finds_callee (functions_of plan)) f.body
+    body = every_in_block (has_slot slots (variable_names f)) (finds_callee (functions_of plan)) f.body
 
     abbrev text : Bool
-    text = body && every_in (has_place places (variable_names f)) f.result
+    text = body && every_in (has_slot slots (variable_names f)) f.result
 
     parts : (stand_from 0 (variable_names f) f.params ≡ true) × (text ≡ true)
-    parts = and_parts (stand_from 0 (variable_names f) f.params) text (one-of (finds_in places (functions_of plan)) (functions_of plan) number f all.found there)
+    parts = and_parts (stand_from 0 (variable_names f) f.params) text (one-of (finds_in slots (functions_of plan)) (functions_of plan) number f all.found there)
 
     pub params-stand : stand_from 0 (variable_names f) f.params ≡ true
     params-stand = parts.0
 
-    result-named : every_in (has_place places (variable_names f)) f.result ≡ true
-    result-named = (and_parts body (every_in (has_place places (variable_names f)) f.result) parts.1).1
+    result-named : every_in (has_slot slots (variable_names f)) f.result ≡ true
+    result-named = (and_parts body (every_in (has_slot slots (variable_names f)) f.result) parts.1).1
 
-    pub result-found : (a : Frame) → a.env.names ≡ variable_names f → FindsExpression places a.env f.result
-    result-found a names = ap (λ (ns : List (List ℕ)). every_in (has_place places ns) f.result) names ∙ result-named
+    pub result-found : (a : Frame) → a.env.names ≡ variable_names f → FindsExpression slots a.env f.result
+    result-found a names = ap (λ (ns : List (List ℕ)). every_in (has_slot slots ns) f.result) names ∙ result-named
 
 -- a frame of a function of a plan
 pub names-of : (plan : PlanView) (a : Frame) → IsNamed plan a → (f : Function) → function_at (functions_of plan) a.function ≡ Some f → a.env.names ≡ variable_names f

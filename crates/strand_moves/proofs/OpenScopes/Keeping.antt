@@ -10,8 +10,8 @@ use Rattle.serial_meaning.specs.declared.event.Fault.{Fault}
 use Rattle.serial_meaning.specs.declared.event.FaultKind.{FaultKind}
 use Rattle.strand_meaning.specs.Machine.{here_of, inside_of, present}
 use Rattle.strand_values.specs.Environments.{EnvironmentView}
-use Rattle.strand_values.specs.declared.halt.Halt as values
-use Rattle.strand_values.specs.declared.halt.Halt.TheVariants as halt
+use Rattle.strand_values.specs.declared.evaluation_error.EvaluationError as values
+use Rattle.strand_values.specs.declared.evaluation_error.EvaluationError.TheVariants as error
 use Rattle.strand_moves.specs.declared.frame.Frame.{Frame}
 use Rattle.strand_moves.specs.declared.frame.Level.{Level}
 use Rattle.strand_moves.specs.declared.instance_parts.InstanceParts.{InstanceParts}
@@ -101,23 +101,23 @@ module _ (plan : PlanView) (old new : InstanceParts) (h : IsInstance plan old) (
         named = kept h.named;
       }
 
-  pub keeps-stays : (result : Result MoveResult values.Halt) → KeepsInstance plan old new result
+  pub keeps-stays : (result : Result MoveResult values.EvaluationError) → KeepsInstance plan old new result
   keeps-stays (Ok move_result) = record { instance = stays-instance; path = same-path old new s }
-  keeps-stays (Err (halt.Fault kind)) = (record { instance = stays-instance; path = same-path old new s }, s.trail)
-  keeps-stays (Err halt.Memory) = tt
+  keeps-stays (Err (error.Fault kind)) = (record { instance = stays-instance; path = same-path old new s }, s.trail)
+  keeps-stays (Err error.Memory) = tt
 
 -- the same where there may have been no memory
-pub keeps-where : (plan : PlanView) (old new : InstanceParts) → IsInstance plan old → old.leaving ≡ false → KeepsNames plan old new → new.rank + new.steps ≤ old.rank + old.steps → (result : Result MoveResult values.Halt) → StaysUnlessMemory old new result → KeepsInstance plan old new result
+pub keeps-where : (plan : PlanView) (old new : InstanceParts) → IsInstance plan old → old.leaving ≡ false → KeepsNames plan old new → new.rank + new.steps ≤ old.rank + old.steps → (result : Result MoveResult values.EvaluationError) → StaysUnlessMemory old new result → KeepsInstance plan old new result
 keeps-where plan old new h on kept less (Ok move_result) s = keeps-stays plan old new h on s kept less (Ok move_result)
-keeps-where plan old new h on kept less (Err (halt.Fault kind)) s = keeps-stays plan old new h on s kept less (Err (halt.Fault kind))
-keeps-where plan old new h on kept less (Err halt.Memory) s = tt
+keeps-where plan old new h on kept less (Err (error.Fault kind)) s = keeps-stays plan old new h on s kept less (Err (error.Fault kind))
+keeps-where plan old new h on kept less (Err error.Memory) s = tt
 
-pub stands-still : (old new : InstanceParts) → Stays old new → (result : Result MoveResult values.Halt) → StaysUnlessMemory old new result
+pub stands-still : (old new : InstanceParts) → Stays old new → (result : Result MoveResult values.EvaluationError) → StaysUnlessMemory old new result
 stands-still old new s (Ok move_result) = s
-stands-still old new s (Err (halt.Fault kind)) = s
-stands-still old new s (Err halt.Memory) = tt
+stands-still old new s (Err (error.Fault kind)) = s
+stands-still old new s (Err error.Memory) = tt
 
-pub stands-same : (old : InstanceParts) (result : Result MoveResult values.Halt) → StaysUnlessMemory old old result
+pub stands-same : (old : InstanceParts) (result : Result MoveResult values.EvaluationError) → StaysUnlessMemory old old result
 stands-same old result = stands-still old old (record { trail = refl; scopes = refl; leaving = refl }) result
 
 -- after the step of a statement
@@ -134,13 +134,13 @@ module _ (plan : PlanView) (old paid : InstanceParts) (n : ℕ) (h : IsInstance 
   paid-kept : (new : InstanceParts) → KeepsNames plan paid new → KeepsNames plan old new
   paid-kept new kept h = let P : InstanceParts → Type 0 = λ x. KeepsNames plan x new in subst P is-paid kept (top-named plan old (record old { steps = n }) refl refl refl refl h)
 
-  pub keeps-paid : (new : InstanceParts) → KeepsNames plan paid new → Stays paid new → Costs paid new → (result : Result MoveResult values.Halt) → KeepsInstance plan old new result
+  pub keeps-paid : (new : InstanceParts) → KeepsNames plan paid new → Stays paid new → Costs paid new → (result : Result MoveResult values.EvaluationError) → KeepsInstance plan old new result
   keeps-paid new kept s c result = keeps-stays plan old new h on (paid-stays new s) (paid-kept new kept) (paid-costs new c) result
 
-  pub keeps-unless : (new : InstanceParts) → KeepsNames plan paid new → Costs paid new → (result : Result MoveResult values.Halt) → StaysUnlessMemory paid new result → KeepsInstance plan old new result
+  pub keeps-unless : (new : InstanceParts) → KeepsNames plan paid new → Costs paid new → (result : Result MoveResult values.EvaluationError) → StaysUnlessMemory paid new result → KeepsInstance plan old new result
   keeps-unless new kept c (Ok move_result) s = keeps-paid new kept s c (Ok move_result)
-  keeps-unless new kept c (Err (halt.Fault kind)) s = keeps-paid new kept s c (Err (halt.Fault kind))
-  keeps-unless new kept c (Err halt.Memory) s = tt
+  keeps-unless new kept c (Err (error.Fault kind)) s = keeps-paid new kept s c (Err (error.Fault kind))
+  keeps-unless new kept c (Err error.Memory) s = tt
 
   into-instance : (new : InstanceParts) → KeepsNames plan old new → GoesIn plan (record old { steps = n }) new → IsInstance plan new
   into-instance new kept g =
@@ -158,16 +158,16 @@ module _ (plan : PlanView) (old paid : InstanceParts) (n : ℕ) (h : IsInstance 
         named = kept h.named;
       }
 
-  keeps-into-at : (new : InstanceParts) → KeepsNames plan old new → (result : Result MoveResult values.Halt) → IfOk result (λ _. GoesIn plan (record old { steps = n }) new) → ((kind : FaultKind) → result ≡ Err (halt.Fault kind) → new ≡ record old { steps = n }) → KeepsInstance plan old new result
+  keeps-into-at : (new : InstanceParts) → KeepsNames plan old new → (result : Result MoveResult values.EvaluationError) → IfOk result (λ _. GoesIn plan (record old { steps = n }) new) → ((kind : FaultKind) → result ≡ Err (error.Fault kind) → new ≡ record old { steps = n }) → KeepsInstance plan old new result
   keeps-into-at new kept (Ok move_result) g same = record { instance = into-instance new kept g; path = ap (λ (ls : List Level). path_around ls new.trail.path) g.scopes }
-  keeps-into-at new kept (Err (halt.Fault kind)) g same =
+  keeps-into-at new kept (Err (error.Fault kind)) g same =
       let s : Stays old new = subst (λ (x : InstanceParts). Stays old x) (sym (same kind refl)) (record { trail = refl; scopes = refl; leaving = refl }) in
       let rank = ap (λ (x : InstanceParts). x.rank) (same kind refl) in
       let steps = ap (λ (x : InstanceParts). x.steps) (same kind refl) in
-      keeps-stays plan old new h on s kept (omega (arith, rank, steps, less)) (Err (halt.Fault kind))
-  keeps-into-at new kept (Err halt.Memory) g same = tt
+      keeps-stays plan old new h on s kept (omega (arith, rank, steps, less)) (Err (error.Fault kind))
+  keeps-into-at new kept (Err error.Memory) g same = tt
 
-  pub keeps-into : (new : InstanceParts) → KeepsNames plan paid new → (result : Result MoveResult values.Halt) → IfOk result (λ _. GoesIn plan paid new) → ((kind : FaultKind) → result ≡ Err (halt.Fault kind) → new ≡ paid) → KeepsInstance plan old new result
+  pub keeps-into : (new : InstanceParts) → KeepsNames plan paid new → (result : Result MoveResult values.EvaluationError) → IfOk result (λ _. GoesIn plan paid new) → ((kind : FaultKind) → result ≡ Err (error.Fault kind) → new ≡ paid) → KeepsInstance plan old new result
   keeps-into new kept result g same =
       let P : InstanceParts → Type 0 = λ x. IfOk result (λ _. GoesIn plan x new) in
       keeps-into-at new (paid-kept new kept) result (subst P is-paid g) (λ kind e. same kind e ∙ is-paid)

@@ -15,21 +15,21 @@ use Rattle.script_grammar.specs.declared.tree.Act.{Act, out-Act}
 use Rattle.script_grammar.specs.declared.tree.Act.TheOpen as act
 use Rattle.script_grammar.specs.declared.tree.Act.TheOpen.{Act-F}
 use Rattle.serial_meaning.specs.Runs.{Run}
-use Rattle.serial_meaning.specs.Values.{Env, value_of, values_of, slot_of, items_of, as_integer, is_true, at_index}
+use Rattle.serial_meaning.specs.Values.{Env, value_of, values_of, content_of, items_of, as_integer, is_true, at_index}
 use Rattle.serial_meaning.specs.Functions.{function_number, function_at}
 use Rattle.serial_meaning.specs.Plan.{PlanView, functions_of, drawn}
-use Rattle.serial_meaning.specs.Exec.{with_slot, does, bound, set_item, zeros, count_of, paid_from}
-use Rattle.serial_meaning.specs.Open.{filler}
+use Rattle.serial_meaning.specs.Exec.{with_content, does, bound, set_item, zeros, count_of, paid_from}
+use Rattle.serial_meaning.specs.Open.{placeholder}
 use Rattle.serial_meaning.specs.declared.value.Value.{Value}
 use Rattle.serial_meaning.specs.declared.value.Value.TheVariants.{Int, Id}
-use Rattle.serial_meaning.specs.declared.environment.Slot.TheVariants.{Scalar, Array}
+use Rattle.serial_meaning.specs.declared.environment.Content.TheVariants.{Scalar, Array}
 use Rattle.serial_meaning.specs.declared.event.FaultKind.{FaultKind}
 use Rattle.serial_meaning.specs.declared.event.FaultKind.TheVariants.{Index, Depth, Calls, Budget}
 use Rattle.serial_meaning.specs.declared.event.Fault.{Fault}
 use Rattle.serial_meaning.specs.declared.event.Event.TheVariants as event
 use Rattle.serial_meaning.specs.declared.origin.Origin.{Origin}
 use Rattle.serial_meaning.specs.declared.origin.Origin.TheVariants as origin
-use Rattle.strand_meaning.specs.Machine.{Spawned, Effect, Emitted, Handed, Opens, handing, here_of, inside, child_destination, Frame, Machine, Reached, Stands, state_of, with_left, with_scalar, machine_inside, reached, statement_move, sync_effects}
+use Rattle.strand_meaning.specs.Machine.{Spawned, Effect, Emitted, Starts, Opens, parallel, here_of, inside, child_destination, Frame, Machine, Reached, Stands, state_of, with_left, with_scalar, machine_inside, reached, statement_move, sync_effects}
 use Rattle.strand_moves.specs.Moves.{acted, call_to, spawn_to}
 
 abbrev pub with_env : Machine → Env → Machine
@@ -50,7 +50,7 @@ after_statement m n left = record m { steps = n; top = record m.top { left = lef
 
 module _ (plan : PlanView) (here : List ℕ) (m : Machine) (st : Stmt) (left : List Stmt) where
   by_act : (n : ℕ) (a : Act-F Act Stmt) →
-      (let r = does (handing plan (child_destination (length m.below) a)) plan here inside (length m.below) st a (record (state_of m) { steps = n }) in
+      (let r = does (parallel plan (child_destination (length m.below) a)) plan here inside (length m.below) st a (record (state_of m) { steps = n }) in
       let run : Run Effect Fault Reached = record { items = r.items; ending = reached plan (with_left m left) (machine_inside plan st a left m) r.ending } in run)
       ≡ acted plan here (after_statement m n left) st a
   unfolding acted
@@ -80,7 +80,7 @@ module _ (plan : PlanView) (path : List ℕ) (m : Machine) (st : Stmt) (left : L
   paid-move n h =
       let a = out-Act (out-Stmt st).act in
       ap (λ (k : ℕ).
-      let r = paid_from (handing plan (child_destination (length m.below) a)) plan (here_of path m) k (state_of m) (λ s. does (handing plan (child_destination (length m.below) a)) plan (here_of path m) inside (length m.below) st a s) in
+      let r = paid_from (parallel plan (child_destination (length m.below) a)) plan (here_of path m) k (state_of m) (λ s. does (parallel plan (child_destination (length m.below) a)) plan (here_of path m) inside (length m.below) st a s) in
       let run : Run Effect Fault Reached = record { items = r.items; ending = reached plan (with_left m left) (machine_inside plan st a left m) r.ending } in run) h
       ∙ by_act plan (here_of path m) m st left n a
 
@@ -102,7 +102,7 @@ module _ (plan : PlanView) (path : List ℕ) (m : Machine) (st : Stmt) where
   let-is-set x (right.Call at c) = refl
   let-is-set x (right.Spawn at c) = refl
 
-  pub set-value : (x : Name) (e : Expr) (v : Value) (env : Env) → value_of e m.top.env ≡ Ok v → env ≡ with_slot m.top.env x.bytes (Scalar v) →
+  pub set-value : (x : Name) (e : Expr) (v : Value) (env : Env) → value_of e m.top.env ≡ Ok v → env ≡ with_content m.top.env x.bytes (Scalar v) →
       acted plan path m st (act.Set x (right.Value e)) ≡ went [] (with_env m env)
   unfolding acted
   set-value x e v env h k = rw (h, k) refl
@@ -112,17 +112,17 @@ module _ (plan : PlanView) (path : List ℕ) (m : Machine) (st : Stmt) where
   unfolding acted
   set-value-fault x e kind h = rw h refl
 
-  pub set-draw : (x : Name) (at n : ℕ) (env : Env) → n ≡ drawn plan (path ++ m.rank ∷ []) → env ≡ with_slot m.top.env x.bytes (Scalar (Int (cast_signed w64 n))) →
+  pub set-draw : (x : Name) (at n : ℕ) (env : Env) → n ≡ drawn plan (path ++ m.rank ∷ []) → env ≡ with_content m.top.env x.bytes (Scalar (Int (cast_signed w64 n))) →
       acted plan path m st (act.Set x (right.Draw at)) ≡ went (Emitted (event.Draw (path ++ m.rank ∷ []) n) ∷ []) (record (with_env m env) { rank = m.rank + 1 })
   unfolding acted
   set-draw x at n env h k = rw (k, h) refl
 
-  pub set-new : (x : Name) (at : ℕ) (env : Env) → env ≡ with_slot m.top.env x.bytes (Scalar (Id (path ++ m.rank ∷ []))) →
+  pub set-new : (x : Name) (at : ℕ) (env : Env) → env ≡ with_content m.top.env x.bytes (Scalar (Id (path ++ m.rank ∷ []))) →
       acted plan path m st (act.Set x (right.New at)) ≡ went (Emitted (event.New (path ++ m.rank ∷ [])) ∷ []) (record (with_env m env) { rank = m.rank + 1 })
   unfolding acted
   set-new x at env k = rw k refl
 
-  pub array : (x : Name) (n : Number) (env : Env) → env ≡ with_slot m.top.env x.bytes (Array (zeros (count_of n.value))) → acted plan path m st (act.Array x n) ≡ went [] (with_env m env)
+  pub array : (x : Name) (n : Number) (env : Env) → env ≡ with_content m.top.env x.bytes (Array (zeros (count_of n.value))) → acted plan path m st (act.Array x n) ≡ went [] (with_env m env)
   unfolding acted
   array x n env h = rw h refl
 
@@ -135,8 +135,8 @@ module _ (plan : PlanView) (path : List ℕ) (m : Machine) (st : Stmt) where
   unfolding acted
   print e v h = rw h refl
 
-  pub store : (x : Name) (i e : Expr) (k v : Value) (old : ℤ) (env : Env) → value_of i m.top.env ≡ Ok k → at_index (items_of (slot_of m.top.env x.bytes)) (as_integer k) ≡ Some old → value_of e m.top.env ≡ Ok v →
-      env ≡ with_slot m.top.env x.bytes (Array (set_item (items_of (slot_of m.top.env x.bytes)) (as_integer k) v)) → acted plan path m st (act.Store x i e) ≡ went [] (with_env m env)
+  pub store : (x : Name) (i e : Expr) (k v : Value) (old : ℤ) (env : Env) → value_of i m.top.env ≡ Ok k → at_index (items_of (content_of m.top.env x.bytes)) (as_integer k) ≡ Some old → value_of e m.top.env ≡ Ok v →
+      env ≡ with_content m.top.env x.bytes (Array (set_item (items_of (content_of m.top.env x.bytes)) (as_integer k) v)) → acted plan path m st (act.Store x i e) ≡ went [] (with_env m env)
   unfolding acted
   store x i e k v old env f g h j = rw (f, g, h, j) refl
 
@@ -144,12 +144,12 @@ module _ (plan : PlanView) (path : List ℕ) (m : Machine) (st : Stmt) where
   unfolding acted
   store-index-fault x i e kind f = rw f refl
 
-  pub store-fault : (x : Name) (i e : Expr) (k : Value) → value_of i m.top.env ≡ Ok k → at_index (items_of (slot_of m.top.env x.bytes)) (as_integer k) ≡ None →
+  pub store-fault : (x : Name) (i e : Expr) (k : Value) → value_of i m.top.env ≡ Ok k → at_index (items_of (content_of m.top.env x.bytes)) (as_integer k) ≡ None →
       acted plan path m st (act.Store x i e) ≡ faults Index (path ++ m.rank ∷ [])
   unfolding acted
   store-fault x i e k f g = rw (f, g) refl
 
-  pub store-value-fault : (x : Name) (i e : Expr) (k : Value) (old : ℤ) (kind : FaultKind) → value_of i m.top.env ≡ Ok k → at_index (items_of (slot_of m.top.env x.bytes)) (as_integer k) ≡ Some old → value_of e m.top.env ≡ Err kind →
+  pub store-value-fault : (x : Name) (i e : Expr) (k : Value) (old : ℤ) (kind : FaultKind) → value_of i m.top.env ≡ Ok k → at_index (items_of (content_of m.top.env x.bytes)) (as_integer k) ≡ Some old → value_of e m.top.env ≡ Err kind →
       acted plan path m st (act.Store x i e) ≡ faults kind (path ++ m.rank ∷ [])
   unfolding acted
   store-value-fault x i e k old kind f g h = rw (f, g, h) refl
@@ -198,8 +198,8 @@ module _ (plan : PlanView) (path : List ℕ) (m : Machine) (st : Stmt) where
   child c vs = origin.Instance (function_number (functions_of plan) c.name.bytes) vs (path ++ m.rank ∷ [])
 
   pub spawn : (target : Option Name) (c : CallText) (vs : List Value) (env : Env) → values_of c.args m.top.env ≡ Ok vs → nat_lt (length path + 1) plan.limits.depth ≡ true →
-      env ≡ with_scalar target (filler plan (child c vs)) m.top.env →
-      acted plan path m st (spawn_to target c) ≡ went (Emitted (event.Spawn (path ++ m.rank ∷ [])) ∷ Handed (child c vs) (Spawned (length m.below) target) ∷ []) (record m { rank = m.rank + 1; top = record m.top { env = env; spawned = true } })
+      env ≡ with_scalar target (placeholder plan (child c vs)) m.top.env →
+      acted plan path m st (spawn_to target c) ≡ went (Emitted (event.Spawn (path ++ m.rank ∷ [])) ∷ Starts (child c vs) (Spawned (length m.below) target) ∷ []) (record m { rank = m.rank + 1; top = record m.top { env = env; spawned = true } })
   unfolding acted
   spawn None c vs env h k j = rw (h, k, j) refl
   spawn (Some x) c vs env h k j = rw (h, k, j) refl

@@ -10,11 +10,11 @@ use Rattle.script_grammar.specs.declared.tree.Right.TheVariants as right
 use Rattle.script_grammar.specs.declared.tree.Stmt.{Stmt, out-Stmt}
 use Rattle.script_grammar.specs.declared.tree.Act.{out-Act}
 use Rattle.script_grammar.specs.declared.tree.Act.TheOpen as act
-use Rattle.script_check.specs.Places.{every_in, every_in_all, every_in_block, every_in_right, every_in_statement, every_in_target}
+use Rattle.script_check.specs.Slots.{every_in, every_in_all, every_in_block, every_in_right, every_in_statement, every_in_target}
 use Rattle.serial_meaning.specs.Plan.{PlanView}
 use Rattle.strand_moves.specs.declared.instance_parts.InstanceParts.{InstanceParts}
 use Rattle.strand_moves.specs.Found.{EveryInSpawn, FindsStatement}
-use Rattle.strand_moves.specs.Quick.{GivesValue}
+use Rattle.strand_moves.specs.FastPath.{Draws, GivesValue}
 use Rattle.strand_meaning.proofs.FoundTargets.LeftStatements.{opened-found}
 
 module _ (is calls : Name → Bool) where
@@ -38,6 +38,10 @@ module _ (is calls : Name → Bool) where
     pub in_given : (x : Name) (e : Expr) → GivesValue (out-Act (out-Stmt st).act) x e → (is x ≡ true) × (every_in is e ≡ true)
     in_given x e (inl let-is) = in_let x (right.Value e) let-is
     in_given x e (inr set-is) = in_set x (right.Value e) set-is
+
+    pub in_drawn : (x : Name) → Draws (out-Act (out-Stmt st).act) x → is x ≡ true
+    in_drawn x (at, inl let-is) = (in_let x (right.Draw at) let-is).0
+    in_drawn x (at, inr set-is) = (in_set x (right.Draw at) set-is).0
 
     pub in_array : (x : Name) (n : Number) → out-Act (out-Stmt st).act ≡ act.Array x n → is x ≡ true
     in_array x n e = opened-found is calls st (act.Array x n) e h
@@ -81,5 +85,5 @@ module _ (is calls : Name → Bool) where
       every-set e = let call = in_spawned r at c same (in_set x r e).1 in record { target = (in_set x r e).0; called = call.0; args = call.1 }
 
 -- after the step of the statement
-pub paid-finds : (plan : PlanView) (places : List ℕ) (i paid : InstanceParts) (n : ℕ) → paid ≡ record i { steps = n } → (st : Stmt) → FindsStatement plan places i.top.env st → FindsStatement plan places paid.top.env st
-paid-finds plan places i paid n same st h = subst (λ (x : InstanceParts). FindsStatement plan places x.top.env st) (sym same) h
+pub paid-finds : (plan : PlanView) (slots : List ℕ) (i paid : InstanceParts) (n : ℕ) → paid ≡ record i { steps = n } → (st : Stmt) → FindsStatement plan slots i.top.env st → FindsStatement plan slots paid.top.env st
+paid-finds plan slots i paid n same st h = subst (λ (x : InstanceParts). FindsStatement plan slots x.top.env st) (sym same) h

@@ -17,7 +17,7 @@ use Rattle.serial_meaning.specs.declared.event.FaultKind.TheVariants.{Index, Dep
 use Rattle.serial_meaning.specs.declared.event.Event.TheVariants as event
 use Rattle.serial_meaning.specs.declared.origin.Origin.{Origin}
 use Rattle.serial_meaning.specs.declared.origin.Origin.TheVariants as origin
-use Rattle.strand_meaning.specs.Machine.{Looped, Emitted, Handed, Loops, Machine, loop_effects}
+use Rattle.strand_meaning.specs.Machine.{Looped, Emitted, Starts, Loops, Machine, loop_effects}
 use Rattle.strand_moves.specs.Acts.{loop_begins}
 use Rattle.strand_moves.specs.Moves.{acted}
 use Rattle.strand_moves.proofs.Statements.Equations.{went, faults}
@@ -96,5 +96,5 @@ module _ (plan : PlanView) (path : List ℕ) (m : Machine) (st : Stmt) (var : Na
     some-count (suc k) h = refl
 
     pub pfor-some : 0 < n → loop_begins plan path n target m.top.env m.steps ≡ Ok tt →
-        acted plan path m st (act.Pfor var lo hi target c) ≡ went (Emitted (event.Loop (path ++ m.rank ∷ [])) ∷ Handed range_child (Looped target) ∷ Loops ∷ []) looped_on
+        acted plan path m st (act.Pfor var lo hi target c) ≡ went (Emitted (event.Loop (path ++ m.rank ∷ [])) ∷ Starts range_child (Looped target) ∷ Loops ∷ []) looped_on
     pfor-some z = by_count false (some-count (n - 0) (omega arith))

@@ -8,7 +8,7 @@ use Rattle.serial_meaning.specs.Values.{Env}
 use Rattle.strand_values.specs.Environments.{EnvironmentView, with_variables}
 use Rattle.strand_moves.specs.declared.frame.Frame.{Frame}
 use Rattle.strand_moves.specs.declared.instance_parts.InstanceParts.{InstanceParts}
-use Rattle.strand_moves.specs.Quick.{StaysThere}
+use Rattle.strand_moves.specs.FastPath.{StaysThere}
 use Rattle.strand_moves.specs.InstanceParts.{IsNamed, KeepsNames, TargetsAreNamed}
 
 -- what is left of an environment of which variables were changed

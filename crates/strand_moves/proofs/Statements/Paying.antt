@@ -12,7 +12,7 @@ use Rattle.serial_meaning.specs.Plan.{PlanView}
 use Rattle.serial_meaning.specs.declared.event.Fault.{Fault}
 use Rattle.serial_meaning.specs.declared.event.FaultKind.TheVariants.{Budget}
 use Rattle.strand_meaning.specs.Machine.{Effect, Machine, Reached, here_of, statement_move}
-use Rattle.strand_values.specs.declared.halt.Halt as values
+use Rattle.strand_values.specs.declared.evaluation_error.EvaluationError as values
 use Rattle.strand_moves.specs.declared.instance_parts.InstanceParts.{InstanceParts}
 use Rattle.strand_moves.specs.declared.effects.MoveResult.{MoveResult}
 use Rattle.strand_moves.specs.Acts.{Acts}
@@ -21,7 +21,7 @@ use Rattle.strand_moves.specs.InstanceParts.{machine_of, path_of, present_of, st
 use Rattle.strand_moves.specs.Moves.{acted, Makes, present_pedigree}
 use Rattle.strand_moves.proofs.Statements.Equations.{after_statement, faults, paid-move, unpaid-move}
 
-pub shows-same : (run other : Run Effect Fault Reached) (strand : List ℕ) (m : Machine) (result : Result MoveResult values.Halt) → run ≡ other → Makes other strand m result → Makes run strand m result
+pub shows-same : (run other : Run Effect Fault Reached) (strand : List ℕ) (m : Machine) (result : Result MoveResult values.EvaluationError) → run ≡ other → Makes other strand m result → Makes run strand m result
 shows-same run other strand m result e h = let P : Run Effect Fault Reached → Type 0 = λ r. Makes r strand m result in subst P (sym e) h
 
 -- an act by its variant
@@ -39,7 +39,7 @@ module _ (plan : PlanView) (path : List ℕ) (m : Machine) (st : Stmt) (x : Name
   spawn-at = refl
 
 module _ (plan : PlanView) (i paid : InstanceParts) (n : ℕ) (is-paid : paid ≡ record i { steps = n }) (less : n + 1 ≡ i.steps) where
-  pub statement-paid : here_of (path_of i) (machine_of plan i) ≡ present_of i → (st : Stmt) (a : Act-F Act Stmt) (new : InstanceParts) (result : Result MoveResult values.Halt) → out-Act (out-Stmt st).act ≡ a → Acts plan st a paid new result →
+  pub statement-paid : here_of (path_of i) (machine_of plan i) ≡ present_of i → (st : Stmt) (a : Act-F Act Stmt) (new : InstanceParts) (result : Result MoveResult values.EvaluationError) → out-Act (out-Stmt st).act ≡ a → Acts plan st a paid new result →
       Makes (statement_move plan (path_of i) (machine_of plan i) st (machine_of plan i).top.left) (present_pedigree (present_of i) (machine_of plan i)) (machine_of plan new) result
   statement-paid here st a new result e h =
       let m = machine_of plan i in

@@ -13,15 +13,15 @@ begin_child-requires-clause-unanswered c = λ n h. subst (λ (x : SpawnNode). x.
 
 pub returns : goal.returns
 returns c =
-    on-ok c.hand_out.result
+    on-ok c.switch_to_child.result
     (λ h. record {
       begun = c.in_ok-begun.begun;
       nodes = c.in_ok-begun.ensures.nodes;
-      workers = change-at c.args.w _ c.args.state.now.workers.items c.index_mut.result.now c.hand_out.new.self c.index_mut.ensures.value c.requires.worker h;
+      workers = change-at c.args.w _ c.args.state.now.workers.items c.index_mut.result.now c.switch_to_child.new.self c.index_mut.ensures.value c.requires.worker h;
       begun_is = c.in_ok-begun.ensures.number;
       plan = refl;
       given = refl;
       root = refl;
       runs = refl;
     })
-    c.hand_out.ensures
+    c.switch_to_child.ensures

@@ -1,6 +1,6 @@
 use Rattle.std.proofs.Common.{◌≡◌, ◌∙◌, ◌++◌, ◌∷◌, [], ap, rules}
 use Rattle.std.specs.Arc.{arc_value}
-use Rattle.strand_machine.specs.Family.{tags}
+use Rattle.strand_machine.specs.Links.{tags}
 use Rattle.serial_runner.proofs.FaultWalking.{children_are_known, fault_walk_ends, faults_by_child, faults_by_wait, then_has_answers, then_waits}
 use Rattle.serial_runner.proofs.fault_walk.walk_on.Goals as goal
 

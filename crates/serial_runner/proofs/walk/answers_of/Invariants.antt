@@ -1,6 +1,6 @@
 use Rattle.std.proofs.Common.{◌≡◌, false, take}
 use Rattle.std.specs.Arc.{arc_value}
-use Rattle.strand_machine.specs.Family.{tags}
+use Rattle.strand_machine.specs.Links.{tags}
 use Rattle.strand_machine.specs.Stops.{answer_tags, any_cut}
 use Rattle.serial_runner.proofs.walk.answers_of.Given as goal
 

@@ -1,7 +1,7 @@
 use Rattle.std.proofs.Common.{◌≡◌, ◌∙◌, ◌++◌, ◌∷◌, [], List, sym, ap, subst, true}
 use Rattle.std.specs.Arc.{arc_value}
 use Rattle.serial_meaning.specs.declared.origin.Origin.{Origin}
-use Rattle.strand_machine.specs.Family.{tags}
+use Rattle.strand_machine.specs.Links.{tags}
 use Rattle.strand_machine.specs.AwaitedChildren.{awaited}
 use Rattle.strand_machine.specs.Stops.{answer_tags, any_cut, WentOn}
 use Rattle.strand_machine.specs.Tasks.{TaskView}
@@ -16,7 +16,7 @@ returns-then-is_over c =
     let s = c.in_ok-stop.ensures.stop in
     let k = c.in_ok-task-in-Spawn.ensures in
     over_by_child _ _ _ _ c.requires.walk s.observed_stop s.is_observed c.in-Spawn.child c.in-Spawn.rest (sym s.stops ∙ c.in-Spawn.is) c.requires.below c.observation_goes_on.ensures _ _ (sym c.is_over.ensures ∙ c.if-is_over.true) s.sees
-    (ap (λ z. z.2) k.0 ∙ made (λ _. c.hand_out-handed.new.observed ≡ with_child c.args.at.now c.in-Spawn.child.task.origin _) _ _ k.1 c.hand_out-handed.ensures.observed)
+    (ap (λ z. z.2) k.0 ∙ made (λ _. c.await_child-unmerged.new.observed ≡ with_child c.args.at.now c.in-Spawn.child.task.origin _) _ _ k.1 c.await_child-unmerged.ensures.observed)
 
 pub returns-else-is_over : goal.returns-else-is_over
 returns-else-is_over c =
@@ -25,8 +25,8 @@ returns-else-is_over c =
     let child = c.in-Spawn.child.task.origin in
     subst (λ (task : TaskView). WalksOn (arc_value c.args.plan.now) (origin_of c.args.walk) c.args.at.now c.args.walk (Continues (record { task = task; awaited = c.in_ok-task-in-Spawn.awaited; observed = c.in_ok-task-in-Spawn.observed }))) (sym (ap (λ z. z.0) k.0))
     (walks_by_child _ _ _ _ c.requires.walk s.observed_stop s.is_observed c.in-Spawn.child c.in-Spawn.rest (sym s.stops ∙ c.in-Spawn.is) c.observation_goes_on.ensures _ _ _
-    (ap (λ z. z.1) k.0 ∙ made (λ _. c.hand_out-handed.new.awaited ≡ c.in_ok-stop.awaited ++ child ∷ []) _ _ k.1 c.hand_out-handed.ensures.awaited ∙ ap (λ (l : List Origin). l ++ child ∷ []) c.in_ok-stop.ensures.awaited) s.sees
-    (ap (λ z. z.2) k.0 ∙ made (λ _. c.hand_out-handed.new.observed ≡ with_child c.args.at.now child _) _ _ k.1 c.hand_out-handed.ensures.observed))
+    (ap (λ z. z.1) k.0 ∙ made (λ _. c.await_child-unmerged.new.awaited ≡ c.in_ok-stop.awaited ++ child ∷ []) _ _ k.1 c.await_child-unmerged.ensures.awaited ∙ ap (λ (l : List Origin). l ++ child ∷ []) c.in_ok-stop.ensures.awaited) s.sees
+    (ap (λ z. z.2) k.0 ∙ made (λ _. c.await_child-unmerged.new.observed ≡ with_child c.args.at.now child _) _ _ k.1 c.await_child-unmerged.ensures.observed))
 
 pub returns-then-is_over-2 : goal.returns-then-is_over-2
 returns-then-is_over-2 c =
@@ -45,7 +45,7 @@ pub resume_with-requires-clause-tags : goal.resume_with-requires-clause-tags
 resume_with-requires-clause-tags c =
     let s = c.in_ok-stop.ensures.stop in
     let k = c.in_ok-rest-in-Wait.ensures in
-    subst (λ (v : TaskView). answer_tags c.in_ok-rest-in-Wait.answers ≡ tags v.task.plan (awaited v.task.trace.handed)) (sym (ap (λ z. z.0) k.0))
+    subst (λ (v : TaskView). answer_tags c.in_ok-rest-in-Wait.answers ≡ tags v.task.plan (awaited v.task.trace.unmerged)) (sym (ap (λ z. z.0) k.0))
     (it_has_answers _ _ _ _ c.requires.walk s.observed_stop s.is_observed c.in-Wait.rest (sym s.stops ∙ c.in-Wait.is) c.in_ok-rest-in-Wait.answers
     (made (λ answers. answer_tags answers ≡ tags (arc_value c.args.plan.now) c.as_slice.result.now) _ _ k.1 c.answers_of-answers.ensures.tags ∙ ap (tags (arc_value c.args.plan.now)) (c.as_slice.ensures ∙ c.in_ok-stop.ensures.awaited)))
 

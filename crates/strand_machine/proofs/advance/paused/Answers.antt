@@ -29,7 +29,7 @@ keep_end-requires-clause-can g c =
 
 pub keep_end-requires-clause-known : goal.keep_end-requires-clause-known
 keep_end-requires-clause-known g c =
-    subst (λ (p : Parts _). IsByFaultOf p.state.family.plan (ended_by p.state.trace.fault c.in-Ends.outcome)) (sym c.deref_mut.ensures.value)
+    subst (λ (p : Parts _). IsByFaultOf p.state.links.plan (ended_by p.state.trace.fault c.in-Ends.outcome)) (sym c.deref_mut.ensures.value)
     (knows-at c.args.parts.value c.args.passed c.in-Ends.outcome c.in-Ends.is c.requires.known)
 
 pub invariant_of-result-in-Ends : goal.invariant_of-result-in-Ends
@@ -39,4 +39,4 @@ pub returns-in-Ends : goal.returns-in-Ends
 returns-in-Ends g c =
     let k = c.keep_end.ensures in
     let left = c.keep_end.new.parts in
-    subst (λ (p : Parts _). PausesAs (made p c.args.passed) (paused-in.Ended (view_of left.state left.remaining))) c.deref_mut.ensures.value (keeps-end c.deref_mut.result.now c.keep_end.new.parts c.args.passed c.in-Ends.outcome c.in-Ends.is k.remaining k.family k.prefix)
+    subst (λ (p : Parts _). PausesAs (made p c.args.passed) (paused-in.Ended (view_of left.state left.remaining))) c.deref_mut.ensures.value (keeps-end c.deref_mut.result.now c.keep_end.new.parts c.args.passed c.in-Ends.outcome c.in-Ends.is k.remaining k.links k.prefix)

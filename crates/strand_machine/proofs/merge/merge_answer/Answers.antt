@@ -38,4 +38,4 @@ returns-in-Ok-clause-rest g c =
     let a = c.answer.inside in
     let p : AwaitedChild = awaited_child a.origin c.args.after in
     ok-of c.merge_value.result _
-    (record { state = refl; handed = merging-alone p (record { items = a.out; ending = result_of_outcome a.outcome }) c.args.parts.now.state.trace c.merge_events.new.trace (c.in-Ok.ensures.trace p refl) })
+    (record { state = refl; unmerged = merging-alone p (record { items = a.out; ending = result_of_outcome a.outcome }) c.args.parts.now.state.trace c.merge_events.new.trace (c.in-Ok.ensures.trace p refl) })

@@ -2,7 +2,7 @@ use Rattle.std.proofs.Common.{◌≡◌, ◌++◌, ◌∷◌, [], List, length, 
 use Rattle.std.proofs.lemmas.List.{reverse-append, reverse-reverse, length-reverse, nil_from_length}
 use Rattle.std.specs.Vec.Iter.{into_iter_items}
 use Rattle.serial_meaning.specs.Answer.{AnswerView}
-use Rattle.strand_machine.specs.Family.{origins}
+use Rattle.strand_machine.specs.Links.{origins}
 use Rattle.strand_machine.specs.Merge.{TakesAnswers, RemainingFindsAll, merge_of}
 use Rattle.strand_machine.specs.AwaitedChildren.{awaited_child, awaited_children}
 use Rattle.strand_machine.specs.Stops.{answer_tags}
@@ -22,21 +22,21 @@ loop-part-init g c =
       same = sym (length-reverse c.reverse.new.self.items) ∙ ap length back ∙ c.requires.many ∙ ap length (sym parts);
       takes = λ after h. subst (λ (xs : List AnswerView). TakesAnswers (awaited_children (origins (answer_tags xs)) c.args.after.items) xs before after) back
           (subst (λ (bs : List (AfterChild _)). TakesAnswers (awaited_children (origins (answer_tags (reverse c.reverse.new.self.items))) bs) (reverse c.reverse.new.self.items) before after) parts h);
-      rest = record { state = refl; handed = c.requires.handed };
+      rest = record { state = refl; unmerged = c.requires.unmerged };
       of_plan = c.requires.of_plan;
       found =
-          subst (λ (bs : List (AfterChild _)). RemainingFindsAll c.args.parts.now.state.family.plan bs (remaining_of c.args.parts.now.state.family.plan c.args.parts.now.remaining)) (sym parts) c.requires.found;
+          subst (λ (bs : List (AfterChild _)). RemainingFindsAll c.args.parts.now.state.links.plan bs (remaining_of c.args.parts.now.state.links.plan c.args.parts.now.remaining)) (sym parts) c.requires.found;
     }
 
-pub merge_answer-requires-clause-handed : goal.merge_answer-requires-clause-handed
-merge_answer-requires-clause-handed g c = c.loop-part.invariant.rest.handed
+pub merge_answer-requires-clause-unmerged : goal.merge_answer-requires-clause-unmerged
+merge_answer-requires-clause-unmerged g c = c.loop-part.invariant.rest.unmerged
 
 pub merge_answer-requires-clause-of_plan : goal.merge_answer-requires-clause-of_plan
 merge_answer-requires-clause-of_plan g c = c.loop-part.invariant.of_plan
 
 pub merge_answer-requires-clause-found : goal.merge_answer-requires-clause-found
 merge_answer-requires-clause-found g c =
-    let all = subst (λ (bs : List (AfterChild _)). RemainingFindsAll c.loop-part.parts.state.family.plan bs (remaining_of c.loop-part.parts.state.family.plan c.loop-part.parts.remaining)) c.in-Some.ensures.steps.0 c.loop-part.invariant.found in
+    let all = subst (λ (bs : List (AfterChild _)). RemainingFindsAll c.loop-part.parts.state.links.plan bs (remaining_of c.loop-part.parts.state.links.plan c.loop-part.parts.remaining)) c.in-Some.ensures.steps.0 c.loop-part.invariant.found in
     all.0
 
 pub unreachable-requires : goal.unreachable-requires
@@ -52,7 +52,7 @@ loop-part-preserved g c =
     let parts = c.in-Some.ensures.steps in
     let shorter = ap length parts.0 in
     let popped : c.loop-part.left.items ≡ c.pop.new.self.items ++ c.in-Some-pop.answer ∷ [] = c.in-Some-pop.ensures.items in
-    let all = subst (λ (bs : List (AfterChild _)). RemainingFindsAll c.loop-part.parts.state.family.plan bs (remaining_of c.loop-part.parts.state.family.plan c.loop-part.parts.remaining)) parts.0 was.found in
+    let all = subst (λ (bs : List (AfterChild _)). RemainingFindsAll c.loop-part.parts.state.links.plan bs (remaining_of c.loop-part.parts.state.links.plan c.loop-part.parts.remaining)) parts.0 was.found in
     let front : reverse c.loop-part.left.items ≡ c.in-Some-pop.answer ∷ reverse c.pop.new.self.items = ap reverse popped ∙ reverse-append c.pop.new.self.items (c.in-Some-pop.answer ∷ []) in
     record {
       parts = omega (arith, was.parts, parts.1, shorter);

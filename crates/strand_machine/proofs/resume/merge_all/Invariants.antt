@@ -1,6 +1,6 @@
 use Rattle.std.proofs.Common.{◌≡◌, length, reverse}
 use Rattle.std.specs.Vec.Iter.{into_iter_items, into_iter_len}
-use Rattle.strand_machine.specs.Family.{origins}
+use Rattle.strand_machine.specs.Links.{origins}
 use Rattle.strand_machine.specs.Merge.{KeepsRest, Merge, TakesAnswers, RemainingFindsAll, IsRemainingOfPlan, merge_of}
 use Rattle.strand_machine.specs.AwaitedChildren.{awaited_children}
 use Rattle.strand_machine.specs.Stops.{answer_tags}
@@ -18,6 +18,6 @@ invariant-loop-part g l =
       takes : (after : Merge) → TakesAnswers (awaited_children (origins (answer_tags rest)) (into_iter_items l.part-iterator)) rest (merge_of l.parts l.merging) after →
           TakesAnswers (awaited_children (origins all) l.fn.after.items) l.fn.answers (merge_of l.initial.parts l.initial.merging) after;
       rest : KeepsRest l.initial.parts l.parts;
-      of_plan : IsRemainingOfPlan l.parts.state.family.plan l.parts.remaining;
-      found : RemainingFindsAll l.parts.state.family.plan (into_iter_items l.part-iterator) (remaining_of l.parts.state.family.plan l.parts.remaining);
+      of_plan : IsRemainingOfPlan l.parts.state.links.plan l.parts.remaining;
+      found : RemainingFindsAll l.parts.state.links.plan (into_iter_items l.part-iterator) (remaining_of l.parts.state.links.plan l.parts.remaining);
     }

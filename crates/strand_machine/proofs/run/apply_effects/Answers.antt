@@ -1,31 +1,28 @@
-use Rattle.std.proofs.Common.{◌≡◌, ◌∙◌, IfOk, ap, refl, subst, sym}
+use Rattle.std.proofs.Common.{◌≡◌, ◌∙◌, ap, refl, sym}
 use Rattle.strand_meaning.specs.Task.{stops_at, child_in}
 use Rattle.strand_moves.specs.Moves.{effects_of}
-use Rattle.strand_moves.specs.declared.effects.Effects.{Effects}
 use Rattle.strand_moves.specs.declared.effects.Effects.TheVariants as effect
 use Rattle.strand_moves.specs.declared.effects.LoopedChild.{LoopedChild}
 use Rattle.strand_moves.specs.declared.effects.SpawnedChild.{SpawnedChild}
-use Rattle.strand_machine.specs.Effects.{HasSoundEffects, task_after_effects}
-use Rattle.strand_machine.specs.Made.{made}
-use Rattle.strand_machine.specs.Stops.{KeepsFamilyInStep, step_of}
-use Rattle.strand_machine.specs.Tasks.{view_of, fresh, with_child}
+use Rattle.strand_machine.specs.Effects.{task_after_effects}
+use Rattle.strand_machine.specs.Made.{IsSpawn, made}
+use Rattle.strand_machine.specs.Stops.{KeepsLinksInStep, step_of}
+use Rattle.strand_machine.specs.Tasks.{view_of}
 use Rattle.strand_machine.specs.declared.destination.Destination.TheVariants as destination
 use Rattle.strand_machine.specs.declared.stop.MoveOrStop.{MoveOrStop}
-use Rattle.strand_machine.specs.declared.stop.MoveOrStop.TheVariants as step
-use Rattle.strand_machine.specs.declared.stop.Stop.TheVariants as stop
 use Rattle.strand_machine.specs.declared.remaining.Stage.TheVariants as stage
 use Rattle.strand_machine.specs.declared.remaining.Remaining.TheVariants as remaining
 use Rattle.strand_machine.proofs.Moves.Making.{made-ok}
-use Rattle.strand_machine.proofs.Moves.Moving.{quiet-sound, quiet-step, emitted-sound, emitted-step, synced-sound, synced-step, looped-known, looped-trail, looped-sound, looped-step, passes-keep, spawns-keep, with_trace}
+use Rattle.strand_machine.proofs.Moves.Moving.{silent-sound, silent-step, emitted-sound, emitted-step, synced-sound, synced-step, spawned-known, spawned-trail, spawned-sound, spawned-step, looped-known, looped-trail, looped-sound, looped-step, passes-keep, spawns-keep, with_trace}
 use Rattle.strand_machine.proofs.run.apply_effects.Goals as goal
 
 -- nothing, or where a scope begins or has ended
 
 pub pass-requires : goal.pass-requires
-pass-requires g c = quiet-sound c.args.parts.now.state c.args.instance c.args.effects c.in-Nothing.is c.requires
+pass-requires g c = silent-sound c.args.parts.now.state c.args.instance c.args.effects c.in-Nothing.is c.requires
 
 pub returns-in-Nothing-clause-step : goal.returns-in-Nothing-clause-step
-returns-in-Nothing-clause-step g c = quiet-step c.args.parts.now.state c.args.instance c.args.effects _ c.in-Nothing.is c.pass.ensures.made
+returns-in-Nothing-clause-step g c = silent-step c.args.parts.now.state c.args.instance c.args.effects _ c.in-Nothing.is c.pass.ensures.made
 
 pub returns-in-Nothing-clause-keeps : goal.returns-in-Nothing-clause-keeps
 returns-in-Nothing-clause-keeps g c =
@@ -62,16 +59,40 @@ returns-in-Synced-clause-keeps g c =
 
 -- a child
 
-pub show_spawn-requires : goal.show_spawn-requires
-show_spawn-requires g c =
-    let is = c.in-Spawned.is ∙ ap (λ (o : SpawnedChild). effect.Spawned c.in-Spawned.event o) (sym c.unboxed-spawned.ensures) in subst (HasSoundEffects c.args.parts.now.state c.args.instance) is c.requires
+pub begin_spawned-requires-clause-known : goal.begin_spawned-requires-clause-known
+begin_spawned-requires-clause-known g c =
+    spawned-known c.args.parts.now.state c.args.instance c.args.effects c.in-Spawned.event c.unboxed.result (c.in-Spawned.is ∙ ap (λ (o : SpawnedChild). effect.Spawned c.in-Spawned.event o) (sym c.unboxed.ensures)) c.requires
+
+pub begin_spawned-requires-clause-trail : goal.begin_spawned-requires-clause-trail
+begin_spawned-requires-clause-trail g c =
+    spawned-trail c.args.parts.now.state c.args.instance c.args.effects c.in-Spawned.event c.unboxed.result (c.in-Spawned.is ∙ ap (λ (o : SpawnedChild). effect.Spawned c.in-Spawned.event o) (sym c.unboxed.ensures)) c.requires
+
+pub begin_spawned-requires-clause-sound : goal.begin_spawned-requires-clause-sound
+begin_spawned-requires-clause-sound g c =
+    spawned-sound c.args.parts.now.state c.args.instance c.args.effects c.in-Spawned.event c.unboxed.result c.emit-in-Spawned.new.self (c.in-Spawned.is ∙ ap (λ (o : SpawnedChild). effect.Spawned c.in-Spawned.event o) (sym c.unboxed.ensures)) c.in_ok-emit-in-Spawned.ensures c.requires
 
 pub returns-in-Spawned-clause-step : goal.returns-in-Spawned-clause-step
 returns-in-Spawned-clause-step g c =
     let b = c.args.parts.now.state in
     let i = c.args.instance in
-    let is = c.in-Spawned.is ∙ ap (λ (o : SpawnedChild). effect.Spawned c.in-Spawned.event o) (sym c.unboxed-spawned.ensures) in
-    subst (λ (s : Effects). IfOk c.show_spawn.result (λ passed. step_of (made c.show_spawn.new.parts passed) ≡ stops_at (child_in (effects_of s)) (task_after_effects b i s))) (sym is) c.show_spawn.ensures.step
+    let o = c.unboxed.result in
+    let p = c.emit-in-Spawned.new.self in
+    let is = c.in-Spawned.is ∙ ap (λ (o : SpawnedChild). effect.Spawned c.in-Spawned.event o) (sym c.unboxed.ensures) in
+    made-ok c.begin_spawned.new.parts c.begin_spawned.result
+    (IsSpawn (with_trace b p) o.child.origin (destination.Spawned o.height o.target) (remaining.Runs (stage.Running i)))
+    (λ (r : MoveOrStop _). step_of r ≡ stops_at (child_in (effects_of c.args.effects)) (task_after_effects b i c.args.effects))
+    (λ r h. spawned-step b i c.args.effects c.in-Spawned.event o p r is c.in_ok-emit-in-Spawned.ensures h) c.begin_spawned.ensures.made
+
+pub returns-in-Spawned-clause-keeps : goal.returns-in-Spawned-clause-keeps
+returns-in-Spawned-clause-keeps g c =
+    let b = c.args.parts.now.state in
+    let w = remaining.Runs (stage.Running c.args.instance) in
+    let o = c.unboxed.result in
+    let p = c.emit-in-Spawned.new.self in
+    let at = destination.Spawned o.height o.target in
+    made-ok c.begin_spawned.new.parts c.begin_spawned.result
+    (IsSpawn (with_trace b p) o.child.origin at w)
+    (KeepsLinksInStep (view_of b w)) (λ r h. spawns-keep b p w w o.child.origin at r refl h) c.begin_spawned.ensures.made
 
 -- a loop
 
@@ -94,7 +115,7 @@ returns-clause-step g c =
     let o = c.unboxed-child.result in
     let p = c.emit-in-Looped.new.self in
     made-ok c.spawn.new.parts c.spawn.result
-    (λ (r : MoveOrStop _). r ≡ step.Stops (stop.Spawn (fresh b.family.plan o.child.origin) (view_of (with_child (with_trace b p) o.child.origin (destination.Looped o.target)) (remaining.Runs (stage.AtLoop i)))))
+    (IsSpawn (with_trace b p) o.child.origin (destination.Looped o.target) (remaining.Runs (stage.AtLoop i)))
     (λ (r : MoveOrStop _). step_of r ≡ stops_at (child_in (effects_of c.args.effects)) (task_after_effects b i c.args.effects))
     (λ r h. looped-step b i c.args.effects c.in-Looped.event o p r (c.in-Looped.is ∙ ap (λ (o : LoopedChild). effect.Looped c.in-Looped.event o) (sym c.unboxed-child.ensures)) c.in_ok-emit-in-Looped.ensures h) c.spawn.ensures.made
 
@@ -106,5 +127,5 @@ returns-clause-keeps g c =
     let p = c.emit-in-Looped.new.self in
     let at = destination.Looped o.target in
     made-ok c.spawn.new.parts c.spawn.result
-    (λ (r : MoveOrStop _). r ≡ step.Stops (stop.Spawn (fresh b.family.plan o.child.origin) (view_of (with_child (with_trace b p) o.child.origin at) (remaining.Runs (stage.AtLoop i)))))
-    (KeepsFamilyInStep (view_of b (remaining.Runs (stage.Running i)))) (λ r h. spawns-keep b p (remaining.Runs (stage.Running i)) (remaining.Runs (stage.AtLoop i)) o.child.origin at r refl h) c.spawn.ensures.made
+    (IsSpawn (with_trace b p) o.child.origin at (remaining.Runs (stage.AtLoop i)))
+    (KeepsLinksInStep (view_of b (remaining.Runs (stage.Running i)))) (λ r h. spawns-keep b p (remaining.Runs (stage.Running i)) (remaining.Runs (stage.AtLoop i)) o.child.origin at r refl h) c.spawn.ensures.made

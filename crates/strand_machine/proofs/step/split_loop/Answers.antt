@@ -2,10 +2,9 @@ use Rattle.std.proofs.Common.{◌≡◌, ◌-◌, refl, sym, ap, ◌∙◌}
 use Rattle.serial_meaning.specs.declared.origin.Origin.{Origin}
 use Rattle.serial_meaning.specs.declared.answer.Outcome.TheVariants as outcome
 use Rattle.strand_family.specs.Origins.{loop_part}
+use Rattle.strand_machine.specs.Made.{IsSpawn}
 use Rattle.strand_machine.specs.Stops.{IsStep}
-use Rattle.strand_machine.specs.Tasks.{view_of, with_child, fresh}
-use Rattle.strand_machine.specs.declared.stop.MoveOrStop.TheVariants as step
-use Rattle.strand_machine.specs.declared.stop.Stop.TheVariants as stop
+use Rattle.strand_machine.specs.Tasks.{view_of}
 use Rattle.strand_machine.specs.declared.destination.Destination.TheVariants as destination
 use Rattle.strand_machine.specs.declared.remaining.Left.{Left}
 use Rattle.strand_machine.specs.declared.remaining.Remaining.TheVariants as remaining
@@ -22,7 +21,7 @@ spawn-requires-clause-known g c =
     let upper : Left = record { range = p.1; trail = l.trail } in
     let parts = halves l.range c.split.result p c.in-Some.is c.split.ensures.halves in
     let two = many (l.range.hi - l.range.lo) c.split.result p c.in-Some.is c.split.ensures.too_few in
-    let child : c.in_ok-origin.origin ≡ loop_part b.family.origin p.0 = c.in_ok-origin.ensures ∙ ap (λ (o : Origin). loop_part o p.0) c.origin.ensures in
+    let child : c.in_ok-origin.origin ≡ loop_part b.links.origin p.0 = c.in_ok-origin.ensures ∙ ap (λ (o : Origin). loop_part o p.0) c.origin.ensures in
     (spawn-sound c.steps_are_sound.ensures b (remaining.Splits l) (remaining.Splits upper) c.in_ok-origin.origin destination.Half c.requires
     (split-many b l upper p.0 c.in_ok-origin.origin two parts.0 parts.1 child) c.requires.of_plan).0
 
@@ -30,8 +29,8 @@ pub spawn-requires-clause-trail : goal.spawn-requires-clause-trail
 spawn-requires-clause-trail g c =
     let b = c.args.parts.now.state in
     let p = c.in-Some.halves in
-    let child : c.in_ok-origin.origin ≡ loop_part b.family.origin p.0 = c.in_ok-origin.ensures ∙ ap (λ (o : Origin). loop_part o p.0) c.origin.ensures in
-    part-trail b.family.plan b.family.origin c.in_ok-origin.origin p.0 c.args.left.trail c.in_ok-shared.shared child c.in_ok-shared.ensures c.requires.of_plan
+    let child : c.in_ok-origin.origin ≡ loop_part b.links.origin p.0 = c.in_ok-origin.ensures ∙ ap (λ (o : Origin). loop_part o p.0) c.origin.ensures in
+    part-trail b.links.plan b.links.origin c.in_ok-origin.origin p.0 c.args.left.trail c.in_ok-shared.shared child c.in_ok-shared.ensures c.requires.of_plan
 
 pub spawn-requires-clause-sound : goal.spawn-requires-clause-sound
 spawn-requires-clause-sound g c =
@@ -41,7 +40,7 @@ spawn-requires-clause-sound g c =
     let upper : Left = record { range = p.1; trail = l.trail } in
     let parts = halves l.range c.split.result p c.in-Some.is c.split.ensures.halves in
     let two = many (l.range.hi - l.range.lo) c.split.result p c.in-Some.is c.split.ensures.too_few in
-    let child : c.in_ok-origin.origin ≡ loop_part b.family.origin p.0 = c.in_ok-origin.ensures ∙ ap (λ (o : Origin). loop_part o p.0) c.origin.ensures in
+    let child : c.in_ok-origin.origin ≡ loop_part b.links.origin p.0 = c.in_ok-origin.ensures ∙ ap (λ (o : Origin). loop_part o p.0) c.origin.ensures in
     (spawn-sound c.steps_are_sound.ensures b (remaining.Splits l) (remaining.Splits upper) c.in_ok-origin.origin destination.Half c.requires
     (split-many b l upper p.0 c.in_ok-origin.origin two parts.0 parts.1 child) c.requires.of_plan).1
 
@@ -53,9 +52,9 @@ returns-in-Some-clause-step g c =
     let upper : Left = record { range = p.1; trail = l.trail } in
     let parts = halves l.range c.split.result p c.in-Some.is c.split.ensures.halves in
     let two = many (l.range.hi - l.range.lo) c.split.result p c.in-Some.is c.split.ensures.too_few in
-    let child : c.in_ok-origin.origin ≡ loop_part b.family.origin p.0 = c.in_ok-origin.ensures ∙ ap (λ (o : Origin). loop_part o p.0) c.origin.ensures in
+    let child : c.in_ok-origin.origin ≡ loop_part b.links.origin p.0 = c.in_ok-origin.ensures ∙ ap (λ (o : Origin). loop_part o p.0) c.origin.ensures in
     made-ok c.spawn.new.parts c.spawn.result
-    (λ s. s ≡ step.Stops (stop.Spawn (fresh b.family.plan c.in_ok-origin.origin) (view_of (with_child b c.in_ok-origin.origin destination.Half) (remaining.Splits upper)))) (IsStep (view_of b (remaining.Splits l)))
+    (IsSpawn b c.in_ok-origin.origin destination.Half (remaining.Splits upper)) (IsStep (view_of b (remaining.Splits l)))
     (λ s h. spawn-is b (remaining.Splits l) (remaining.Splits upper) c.in_ok-origin.origin destination.Half s c.requires.of_plan (split-many b l upper p.0 c.in_ok-origin.origin two parts.0 parts.1 child) h)
     c.spawn.ensures.made
 

@@ -1,5 +1,5 @@
 use Rattle.std.proofs.Common.{ap}
-use Rattle.serial_meaning.specs.declared.environment.Slot.TheVariants.{Scalar}
+use Rattle.serial_meaning.specs.declared.environment.Content.TheVariants.{Scalar}
 use Rattle.strand_values.specs.Environments.{EnvironmentView}
 use Rattle.strand_moves.specs.declared.frame.Frame.{Frame}
 use Rattle.strand_moves.proofs.Frames.ReplacedLemmas.{replaces}

@@ -1,6 +1,6 @@
 use Rattle.script_grammar.specs.declared.tree.Act.TheOpen as act
 use Rattle.script_grammar.specs.declared.tree.Act.TheVariants as variant
-use Rattle.strand_moves.proofs.HandedChildren.Spawning.{does-let, does-set, does-spawn}
+use Rattle.strand_moves.proofs.SpawnedChildren.Spawning.{does-let, does-set, does-spawn}
 use Rattle.strand_moves.proofs.Statements.FoundParts.{every-let, every-set, every-spawn}
 use Rattle.strand_moves.proofs.Statements.Paying.{act-is}
 use Rattle.strand_moves.proofs.children.spawn_in.Goals as goal

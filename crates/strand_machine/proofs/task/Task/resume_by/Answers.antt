@@ -1,5 +1,5 @@
 use Rattle.std.proofs.Common.{◌≡◌, sym, ap, ◌∙◌, subst}
-use Rattle.strand_machine.specs.Family.{tags}
+use Rattle.strand_machine.specs.Links.{tags}
 use Rattle.strand_machine.specs.Merge.{HasTakenAnswers}
 use Rattle.strand_machine.specs.AwaitedChildren.{awaited}
 use Rattle.strand_machine.specs.Stops.{WentOn, answer_tags}
@@ -9,19 +9,19 @@ use Rattle.strand_machine.proofs.NextStops.Advancing.{waits-sound}
 use Rattle.strand_machine.proofs.TakenAnswers.Taking.{answered-sound}
 use Rattle.strand_machine.proofs.task.Task.resume_by.Goals as goal
 
-pub go_on-requires-clause-sound : goal.go_on-requires-clause-sound
-go_on-requires-clause-sound g c =
+pub resume_parts-requires-clause-sound : goal.resume_parts-requires-clause-sound
+resume_parts-requires-clause-sound g c =
     let p = c.self.inside.parts.value in
     subst (λ (q : Parts _). HasTakenAnswers q.state q.remaining) (sym c.deref_mut.ensures.value)
     (answered-sound p.state p.remaining (waits-sound p.state p.remaining c.args.self c.self.view_is c.requires.waits c.self.invariant))
 
-pub go_on-requires-clause-tags : goal.go_on-requires-clause-tags
-go_on-requires-clause-tags g c =
+pub resume_parts-requires-clause-tags : goal.resume_parts-requires-clause-tags
+resume_parts-requires-clause-tags g c =
     let same = ap (λ (q : Parts _). view_of q.state q.remaining) c.deref_mut.ensures.value ∙ c.self.view_is in
-    subst (λ (t : TaskView). answer_tags c.args.answers ≡ tags t.task.plan (awaited t.task.trace.handed)) (sym same) c.requires.tags
+    subst (λ (t : TaskView). answer_tags c.args.answers ≡ tags t.task.plan (awaited t.task.trace.unmerged)) (sym same) c.requires.tags
 
 pub returns-clause-went : goal.returns-clause-went
 returns-clause-went g c =
     let same = ap (λ (q : Parts _). view_of q.state q.remaining) c.deref_mut.ensures.value ∙ c.self.view_is in
-    let after = c.go_on.new.parts in
+    let after = c.resume_parts.new.parts in
     subst (λ (t : TaskView). WentOn c.args.answers t (view_of after.state after.remaining)) same c.in_ok-left.ensures.went

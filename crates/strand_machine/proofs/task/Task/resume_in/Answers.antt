@@ -5,8 +5,8 @@ use Rattle.strand_machine.proofs.NextStops.Advancing.{waits-sound}
 use Rattle.strand_machine.proofs.Moves.Making.{resumed-so}
 use Rattle.strand_machine.proofs.task.Task.resume_in.Goals as goal
 
-pub look_on-requires-clause-sound : goal.look_on-requires-clause-sound
-look_on-requires-clause-sound g c =
+pub poll-requires-clause-sound : goal.poll-requires-clause-sound
+poll-requires-clause-sound g c =
     let p = c.self.inside.parts.value in
     subst (λ (q : Parts _). IsSound q.state q.remaining) (sym c.deref_mut.ensures.value) (waits-sound p.state p.remaining c.args.self c.self.view_is c.requires.waits c.self.invariant)
 

@@ -6,13 +6,13 @@ use Rattle.strand_machine.proofs.NextStops.Advancing.{is-sound}
 use Rattle.strand_machine.proofs.NextStops.Pausing.{knows-end, pauses}
 use Rattle.strand_machine.proofs.task.Task.run.Goals as goal
 
-pub run_on-requires : goal.run_on-requires
-run_on-requires g c =
+pub run_in_place-requires : goal.run_in_place-requires
+run_in_place-requires g c =
     let p = c.self.inside.parts.value in
     subst (λ (q : Parts _). IsSound q.state q.remaining) (sym c.deref_mut.ensures.value) (is-sound p.state p.remaining c.args.self c.self.view_is c.requires c.self.invariant)
 
 pub paused-requires-clause-known : goal.paused-requires-clause-known
-paused-requires-clause-known g c = let p = c.deref_mut.result.now in knows-end (view_of p.state p.remaining) c.run_on.new.parts c.in_ok-passed.passed c.in_ok-passed.ensures.stop
+paused-requires-clause-known g c = let p = c.deref_mut.result.now in knows-end (view_of p.state p.remaining) c.run_in_place.new.parts c.in_ok-passed.passed c.in_ok-passed.ensures.stop
 
 pub returns : goal.returns
 returns g c =

@@ -1,5 +1,5 @@
 use Rattle.std.proofs.Common.{◌≡◌, ◌∙◌, ap, arith, length, sym}
-use Rattle.strand_machine.proofs.Moves.Handed.{awaited_parts}
+use Rattle.strand_machine.proofs.Moves.Starts.{awaited_parts}
 use Rattle.strand_machine.proofs.trace.Trace.awaited_count.Goals as goal
 
 pub returns : goal.returns

@@ -1,5 +1,5 @@
 use Rattle.std.proofs.Common.{◌≡◌, ◌∙◌, arith, length, sym}
-use Rattle.strand_machine.proofs.Moves.Handed.{alone}
+use Rattle.strand_machine.proofs.Moves.Starts.{alone}
 use Rattle.strand_machine.proofs.trace.Trace.awaits_none.Goals as goal
 
 pub returns : goal.returns

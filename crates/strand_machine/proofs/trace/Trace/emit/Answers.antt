@@ -1,5 +1,5 @@
 use Rattle.std.proofs.Common.{rules, ◌≡◌, ◌+◌, ◌-◌, ◌<◌, length, arith}
-use Rattle.strand_machine.proofs.Moves.Handed.{prefix-last}
+use Rattle.strand_machine.proofs.Moves.Starts.{prefix-last}
 use Rattle.strand_machine.proofs.trace.Trace.emit.Goals as goal
 
 pub returns-in_ok-push-in-Some : goal.returns-in_ok-push-in-Some

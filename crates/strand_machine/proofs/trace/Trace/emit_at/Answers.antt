@@ -1,6 +1,6 @@
 use Rattle.std.proofs.Common.{rules, ◌≡◌, ◌+◌, ◌-◌, ◌<◌, ◌++◌, ◌∷◌, [], length, arith}
 use Rattle.serial_meaning.specs.EventKinds.{event_at}
-use Rattle.strand_machine.proofs.Moves.Handed.{prefix-last}
+use Rattle.strand_machine.proofs.Moves.Starts.{prefix-last}
 use Rattle.strand_machine.proofs.trace.Trace.emit_at.Goals as goal
 
 pub returns-in_ok-push_at-in-Some : goal.returns-in_ok-push_at-in-Some

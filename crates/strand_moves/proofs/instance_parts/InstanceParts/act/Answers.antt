@@ -2,7 +2,7 @@ use Rattle.std.proofs.Common.{Option, ap, subst}
 use Rattle.std.specs.Option.{option_copied}
 use Rattle.script_grammar.specs.declared.tree.Stmt.{Stmt}
 use Rattle.strand_meaning.specs.Machine.{end_move, move, statement_move}
-use Rattle.strand_moves.specs.Rows.{HasPassedStatement, unpassed}
+use Rattle.strand_moves.specs.StraightRuns.{HasPassedStatement, unpassed}
 use Rattle.strand_moves.specs.InstanceParts.{machine_of, path_of, present_of}
 use Rattle.strand_moves.specs.Moves.{present_pedigree}
 use Rattle.strand_moves.proofs.Cursors.FoundStatements.{next-found}
@@ -39,11 +39,11 @@ returns-in-None-clause-moves c =
     shows-same (move plan (path_of i) (unpassed plan i (option_copied c.args.next))) (end_move plan (path_of i) m m.top.levels) (present_pedigree (present_of i) m) (machine_of plan c.end_block.new.self) c.end_block.result
     (end-moves plan i (option_copied c.args.next) is none) c.end_block.ensures.shows
 
-pub statement-requires-clause-places : goal.statement-requires-clause-places
-statement-requires-clause-places c = record { table = c.places.ensures.table; found = c.places.ensures.found }
+pub statement-requires-clause-slots : goal.statement-requires-clause-slots
+statement-requires-clause-slots c = record { table = c.slots.ensures.table; found = c.slots.ensures.found }
 
 pub statement-requires-clause-finds : goal.statement-requires-clause-finds
 statement-requires-clause-finds c =
     let i = c.args.self.now in
     let has = subst (λ (n : Option Stmt). HasPassedStatement c.args.plan.now i n) (ap option_copied c.in-Some.is) c.requires.passed in
-    next-found c.args.plan.now c.places.result.now i (record { table = c.places.ensures.table; found = c.places.ensures.found }) c.requires.sound.named c.in-Some.statement.now has.1
+    next-found c.args.plan.now c.slots.result.now i (record { table = c.slots.ensures.table; found = c.slots.ensures.found }) c.requires.sound.named c.in-Some.statement.now has.1

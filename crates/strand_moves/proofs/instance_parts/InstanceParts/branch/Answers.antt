@@ -9,14 +9,14 @@ use Rattle.strand_moves.proofs.Statements.Conditions.{holding-known, holding-fau
 use Rattle.strand_moves.proofs.Statements.Naming.{top-named}
 use Rattle.strand_moves.proofs.Cursors.Entering.{branch-into}
 use Rattle.strand_moves.proofs.Statements.Equations.{branch-fault}
-use Rattle.strand_moves.proofs.OpenScopes.Exits.{quiet-exit}
+use Rattle.strand_moves.proofs.OpenScopes.Exits.{silent-exit}
 use Rattle.strand_moves.proofs.instance_parts.InstanceParts.branch.Goals as goal
 
 pub returns-in_err-holds-clause-shows : goal.returns-in_err-holds-clause-shows
 returns-in_err-holds-clause-shows c = λ plan st first second after a.
     let i = c.args.self.now in
     let d = value_of c.args.e.now i.top.env.variables in
-    quiet-exit (acted plan (present_of i) (machine_of plan i) st (act.If c.args.e.now first second)) (present_pedigree (present_of i) (machine_of plan i)) _ c.from_residual.result c.in_err-holds.field-0.0
+    silent-exit (acted plan (present_of i) (machine_of plan i) st (act.If c.args.e.now first second)) (present_pedigree (present_of i) (machine_of plan i)) _ c.from_residual.result c.in_err-holds.field-0.0
     (holding d) c.from_residual.ensures.1 c.in_err-holds.ensures (λ kind h. branch-fault plan (present_of i) (machine_of plan i) st c.args.e.now first second kind (holding-fault d kind h))
 
 pub returns-clause-shows : goal.returns-clause-shows

@@ -1,11 +1,11 @@
-use Rattle.script_check.specs.Places.{finds_callee, has_place}
+use Rattle.script_check.specs.Slots.{finds_callee, has_slot}
 use Rattle.script_grammar.specs.declared.tree.Act.TheOpen as act
 use Rattle.script_grammar.specs.declared.tree.Right.TheVariants as right
 use Rattle.serial_meaning.specs.Plan.{functions_of}
 use Rattle.strand_moves.specs.InstanceParts.{machine_of, present_of}
 use Rattle.strand_moves.proofs.Statements.FoundParts.{in_called}
 use Rattle.strand_moves.proofs.Statements.Paying.{call-at}
-use Rattle.strand_moves.proofs.Statements.QuickLemmas.{called-alike, called-is}
+use Rattle.strand_moves.proofs.Statements.FastPathLemmas.{called-alike, called-is}
 use Rattle.strand_moves.proofs.instance_parts.InstanceParts.calling_right.Goals as goal
 
 pub returns-in-Call-clause-did : goal.returns-in-Call-clause-did
@@ -19,10 +19,10 @@ returns-in-Call-clause-did c = λ st.
     (called-is plan st a i c.call.new.self c.call.result c.went.result (c.call.ensures.shows st) c.call.ensures.same c.call.ensures.stays c.call.ensures.begins c.went.ensures))
 
 pub call-requires-clause-called : goal.call-requires-clause-called
-call-requires-clause-called c = (in_called (has_place c.args.places.now c.args.self.now.top.env.names) (finds_callee (functions_of c.args.plan.now)) c.args.r.now c.in-Call.field-0 c.in-Call.c c.in-Call.is c.requires.right).0
+call-requires-clause-called c = (in_called (has_slot c.args.slots.now c.args.self.now.top.env.names) (finds_callee (functions_of c.args.plan.now)) c.args.r.now c.in-Call.field-0 c.in-Call.c c.in-Call.is c.requires.right).0
 
 pub call-requires-clause-args : goal.call-requires-clause-args
-call-requires-clause-args c = (in_called (has_place c.args.places.now c.args.self.now.top.env.names) (finds_callee (functions_of c.args.plan.now)) c.args.r.now c.in-Call.field-0 c.in-Call.c c.in-Call.is c.requires.right).1
+call-requires-clause-args c = (in_called (has_slot c.args.slots.now c.args.self.now.top.env.names) (finds_callee (functions_of c.args.plan.now)) c.args.r.now c.in-Call.field-0 c.in-Call.c c.in-Call.is c.requires.right).1
 
 pub call-requires-clause-target : goal.call-requires-clause-target
 call-requires-clause-target c = c.requires.name

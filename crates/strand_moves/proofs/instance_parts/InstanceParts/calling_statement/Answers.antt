@@ -1,4 +1,4 @@
-use Rattle.script_check.specs.Places.{finds_callee, has_place}
+use Rattle.script_check.specs.Slots.{finds_callee, has_slot}
 use Rattle.std.proofs.Common.{ap, ◌∙◌, refl}
 use Rattle.script_grammar.specs.declared.tree.Act.{Act, out-Act}
 use Rattle.script_grammar.specs.declared.tree.Act.TheOpen as act
@@ -11,7 +11,7 @@ use Rattle.strand_moves.specs.Moves.{acted}
 use Rattle.strand_moves.proofs.Statements.Equations.{let-is-set}
 use Rattle.strand_moves.proofs.Statements.FoundParts.{in_call, in_let, in_set}
 use Rattle.strand_moves.proofs.Statements.Paying.{act-is}
-use Rattle.strand_moves.proofs.Statements.QuickLemmas.{called-alike, called-is}
+use Rattle.strand_moves.proofs.Statements.FastPathLemmas.{called-alike, called-is}
 use Rattle.strand_moves.proofs.instance_parts.InstanceParts.calling_statement.Goals as goal
 
 pub returns-in-Let-clause-did : goal.returns-in-Let-clause-did
@@ -46,37 +46,37 @@ pub calling_right-requires-clause-name : goal.calling_right-requires-clause-name
 calling_right-requires-clause-name c =
     let st = c.args.statement.now in
     let is = act-is (act.Let c.in-Let.x c.in-Let.r) st.act (variant.Let c.in-Let.x c.in-Let.r) c.in-Let.is (variant.rolls-Let c.in-Let.x c.in-Let.r) in
-    (in_let (has_place c.args.places.now c.args.self.now.top.env.names) (finds_callee (functions_of c.args.plan.now)) st c.requires.finds c.in-Let.x c.in-Let.r is).0
+    (in_let (has_slot c.args.slots.now c.args.self.now.top.env.names) (finds_callee (functions_of c.args.plan.now)) st c.requires.finds c.in-Let.x c.in-Let.r is).0
 
 pub calling_right-requires-clause-right : goal.calling_right-requires-clause-right
 calling_right-requires-clause-right c =
     let st = c.args.statement.now in
     let is = act-is (act.Let c.in-Let.x c.in-Let.r) st.act (variant.Let c.in-Let.x c.in-Let.r) c.in-Let.is (variant.rolls-Let c.in-Let.x c.in-Let.r) in
-    (in_let (has_place c.args.places.now c.args.self.now.top.env.names) (finds_callee (functions_of c.args.plan.now)) st c.requires.finds c.in-Let.x c.in-Let.r is).1
+    (in_let (has_slot c.args.slots.now c.args.self.now.top.env.names) (finds_callee (functions_of c.args.plan.now)) st c.requires.finds c.in-Let.x c.in-Let.r is).1
 
 pub calling_right-requires-in-Set-clause-name : goal.calling_right-requires-in-Set-clause-name
 calling_right-requires-in-Set-clause-name c =
     let st = c.args.statement.now in
     let is = act-is (act.Set c.in-Set.x c.in-Set.r) st.act (variant.Set c.in-Set.x c.in-Set.r) c.in-Set.is (variant.rolls-Set c.in-Set.x c.in-Set.r) in
-    (in_set (has_place c.args.places.now c.args.self.now.top.env.names) (finds_callee (functions_of c.args.plan.now)) st c.requires.finds c.in-Set.x c.in-Set.r is).0
+    (in_set (has_slot c.args.slots.now c.args.self.now.top.env.names) (finds_callee (functions_of c.args.plan.now)) st c.requires.finds c.in-Set.x c.in-Set.r is).0
 
 pub calling_right-requires-in-Set-clause-right : goal.calling_right-requires-in-Set-clause-right
 calling_right-requires-in-Set-clause-right c =
     let st = c.args.statement.now in
     let is = act-is (act.Set c.in-Set.x c.in-Set.r) st.act (variant.Set c.in-Set.x c.in-Set.r) c.in-Set.is (variant.rolls-Set c.in-Set.x c.in-Set.r) in
-    (in_set (has_place c.args.places.now c.args.self.now.top.env.names) (finds_callee (functions_of c.args.plan.now)) st c.requires.finds c.in-Set.x c.in-Set.r is).1
+    (in_set (has_slot c.args.slots.now c.args.self.now.top.env.names) (finds_callee (functions_of c.args.plan.now)) st c.requires.finds c.in-Set.x c.in-Set.r is).1
 
 pub call-requires-clause-called : goal.call-requires-clause-called
 call-requires-clause-called c =
     let st = c.args.statement.now in
     let is = act-is (act.Call c.in-Call.c) st.act (variant.Call c.in-Call.c) c.in-Call.is (variant.rolls-Call c.in-Call.c) in
-    (in_call (has_place c.args.places.now c.args.self.now.top.env.names) (finds_callee (functions_of c.args.plan.now)) st c.requires.finds c.in-Call.c is).0
+    (in_call (has_slot c.args.slots.now c.args.self.now.top.env.names) (finds_callee (functions_of c.args.plan.now)) st c.requires.finds c.in-Call.c is).0
 
 pub call-requires-clause-args : goal.call-requires-clause-args
 call-requires-clause-args c =
     let st = c.args.statement.now in
     let is = act-is (act.Call c.in-Call.c) st.act (variant.Call c.in-Call.c) c.in-Call.is (variant.rolls-Call c.in-Call.c) in
-    (in_call (has_place c.args.places.now c.args.self.now.top.env.names) (finds_callee (functions_of c.args.plan.now)) st c.requires.finds c.in-Call.c is).1
+    (in_call (has_slot c.args.slots.now c.args.self.now.top.env.names) (finds_callee (functions_of c.args.plan.now)) st c.requires.finds c.in-Call.c is).1
 
 pub call-requires-clause-target : goal.call-requires-clause-target
 call-requires-clause-target c = refl

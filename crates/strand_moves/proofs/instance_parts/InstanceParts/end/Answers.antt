@@ -10,7 +10,7 @@ use Rattle.strand_moves.proofs.Frames.Ending.{value-fault, value-returned}
 use Rattle.strand_moves.proofs.Frames.Names.{innermost-named}
 use Rattle.strand_moves.proofs.OpenScopes.Exits.{shows-exit}
 use Rattle.strand_moves.proofs.OpenScopes.Keeping.{stands-same}
-use Rattle.strand_moves.proofs.Statements.QuickLemmas.{quiet-child}
+use Rattle.strand_moves.proofs.Statements.FastPathLemmas.{silent-child}
 use Rattle.strand_moves.proofs.instance_parts.InstanceParts.end.Goals as goal
 
 pub result-requires : goal.result-requires
@@ -39,10 +39,10 @@ pub give_back-requires-clause-below : goal.give_back-requires-clause-below
 give_back-requires-clause-below c = let i = c.args.self.now in something-in i.below.items i.below.len i.below.ok.0 _ c.is_empty.ensures c.if-is_empty.false
 
 pub returns-clause-shows : goal.returns-clause-shows
-returns-clause-shows c = rw c.quiet.ensures c.give_back.ensures.shows
+returns-clause-shows c = rw c.silent.ensures c.give_back.ensures.shows
 
 pub returns-clause-child : goal.returns-clause-child
-returns-clause-child c = rw c.quiet.ensures (quiet-child c.args.plan.now c.give_back.result)
+returns-clause-child c = rw c.silent.ensures (silent-child c.args.plan.now c.give_back.result)
 
 pub returns-clause-stays : goal.returns-clause-stays
-returns-clause-stays c = rw c.quiet.ensures c.give_back.ensures.stays
+returns-clause-stays c = rw c.silent.ensures c.give_back.ensures.stays

@@ -9,11 +9,11 @@ use Rattle.strand_meaning.specs.Machine.{Machine}
 use Rattle.strand_moves.specs.Acts.{IsCallee}
 use Rattle.strand_moves.specs.InstanceParts.{IsNamedIn, machine_of, present_of}
 use Rattle.strand_moves.specs.Moves.{acted, call_to, present_pedigree}
-use Rattle.strand_moves.proofs.Frames.CallLemmas.{begun-stays, callee-function, callee-target, called-by, called-fault, is_below, is_not_below, calls-open, machine-begun, stands-quiet}
+use Rattle.strand_moves.proofs.Frames.CallLemmas.{begun-stays, callee-function, callee-target, called-by, called-fault, is_below, is_not_below, calls-open, machine-begun, stands-silent}
 use Rattle.strand_moves.proofs.Frames.Names.{named-begun, own-names, own-names-there, params-stand, target-named}
 use Rattle.strand_moves.proofs.Statements.Naming.{there-named}
 use Rattle.strand_moves.proofs.Statements.Equations.{call, callee, call-args-fault, calls-fault, went}
-use Rattle.strand_moves.proofs.OpenScopes.Exits.{quiet-exit}
+use Rattle.strand_moves.proofs.OpenScopes.Exits.{silent-exit}
 use Rattle.strand_moves.proofs.instance_parts.InstanceParts.enter.Goals as goal
 
 pub unreachable-requires : goal.unreachable-requires
@@ -23,7 +23,7 @@ pub called_with-requires-clause-params : goal.called_with-requires-clause-params
 called_with-requires-clause-params c =
     let plan = c.args.plan.now in
     let f = c.args.function.now in
-    rw (c.as_slice-params.ensures, own-names plan c.args.number f c.requires.there c.in-Some.names.now c.in-Some.ensures) (params-stand plan c.args.number f c.requires.there c.args.places.now c.requires.places)
+    rw (c.as_slice-params.ensures, own-names plan c.args.number f c.requires.there c.in-Some.names.now c.in-Some.ensures) (params-stand plan c.args.number f c.requires.there c.args.slots.now c.requires.slots)
 
 pub called_with-requires-clause-args : goal.called_with-requires-clause-args
 called_with-requires-clause-args c = rw c.as_slice-args.ensures c.requires.args
@@ -37,7 +37,7 @@ returns-in_err-env-clause-shows c = λ st.
     let text = c.args.call.now in
     let known = rw (c.as_slice-params.ensures, c.as_slice-args.ensures) at c.in_err-env.ensures in
     let names = c.in-Some.names.now in
-    quiet-exit (acted plan (present_of i) (machine_of plan i) st (call_to to text)) (present_pedigree (present_of i) (machine_of plan i)) _ c.from_residual.result c.in_err-env.field-0.0
+    silent-exit (acted plan (present_of i) (machine_of plan i) st (call_to to text)) (present_pedigree (present_of i) (machine_of plan i)) _ c.from_residual.result c.in_err-env.field-0.0
     (called_with names f.params text.args i.top.env.variables) c.from_residual.ensures.1 known
     (λ kind e. call-args-fault plan (present_of i) (machine_of plan i) st to text kind (called-fault names f.params text.args i.top.env.variables kind e))
 
@@ -76,7 +76,7 @@ returns-clause-stays c =
     begun-stays c.args.plan.now c.args.number c.in_ok-env.env (option_copied c.args.target) c.args.self.now c.open_call.new.self opened.top opened.below opened.trail opened.leaving
 
 pub returns-in_err-env-clause-stays : goal.returns-in_err-env-clause-stays
-returns-in_err-env-clause-stays c = let i = c.args.self.now in stands-quiet i i c.from_residual.result (record { trail = refl; scopes = refl; leaving = refl })
+returns-in_err-env-clause-stays c = let i = c.args.self.now in stands-silent i i c.from_residual.result (record { trail = refl; scopes = refl; leaving = refl })
 
 pub returns-clause-named : goal.returns-clause-named
 returns-clause-named c =
@@ -93,7 +93,7 @@ returns-clause-named c =
       of_plan = ap (λ (n : ℕ). function_at (functions_of plan) n) (callee-function plan c.args.number c.in_ok-env.env (option_copied c.args.target) c.open_call.new.self.top top) ∙ c.requires.there;
       names = ap (λ (e : EnvironmentView). e.names) (top.env ∙ known.1.1) ∙ own-names plan c.args.number f c.requires.there names c.in-Some.ensures;
     })
-    (subst (IsNamedIn plan i.top) (sym (callee-target plan c.args.number c.in_ok-env.env (option_copied c.args.target) c.open_call.new.self.top top)) (target-named plan c.args.places.now i.top (option_copied c.args.target) c.requires.places c.requires.target))
+    (subst (IsNamedIn plan i.top) (sym (callee-target plan c.args.number c.in_ok-env.env (option_copied c.args.target) c.open_call.new.self.top top)) (target-named plan c.args.slots.now i.top (option_copied c.args.target) c.requires.slots c.requires.target))
 
 pub returns-in_err-open_call-clause-named : goal.returns-in_err-open_call-clause-named
 returns-in_err-open_call-clause-named c = there-named c.args.plan.now c.args.self.now c.open_call.new.self c.in_err-open_call.ensures.err

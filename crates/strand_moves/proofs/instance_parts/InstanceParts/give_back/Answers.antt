@@ -8,10 +8,10 @@ use Rattle.strand_values.specs.Environments.{with_variables}
 use Rattle.strand_moves.specs.Acts.{result_of}
 use Rattle.strand_moves.specs.InstanceParts.{machine_of, path_of, present_of}
 use Rattle.strand_moves.specs.Moves.{present_pedigree}
-use Rattle.strand_moves.specs.Quick.{quiet}
+use Rattle.strand_moves.specs.FastPath.{silent}
 use Rattle.strand_moves.proofs.Frames.Ending.{ended-stays, value-fault, value-received}
 use Rattle.strand_moves.proofs.Frames.Names.{innermost-named, named-ended, value-named}
-use Rattle.strand_moves.proofs.OpenScopes.Exits.{quiet-exit}
+use Rattle.strand_moves.proofs.OpenScopes.Exits.{silent-exit}
 use Rattle.strand_moves.proofs.OpenScopes.Keeping.{stands-same}
 use Rattle.strand_moves.proofs.instance_parts.InstanceParts.give_back.Goals as goal
 
@@ -24,7 +24,7 @@ result-requires c = innermost-named c.args.plan.now c.args.self.now c.requires.n
 pub receive-requires : goal.receive-requires
 receive-requires c =
     let target = value-named c.args.plan.now c.args.self.now c.requires.named c.pop.new.self.items c.in-Some.caller c.in-Some.ensures.items in
-    rw (c.places.ensures.table, c.as_ref.ensures.value, c.replace-callee.ensures.value, c.replace-callee.ensures.after) target
+    rw (c.slots.ensures.table, c.as_ref.ensures.value, c.replace-callee.ensures.value, c.replace-callee.ensures.after) target
 
 pub returns-clause-shows : goal.returns-clause-shows
 returns-clause-shows c =
@@ -59,8 +59,8 @@ returns-in_err-value-clause-shows c =
     let i = c.args.self.now in
     let plan = c.args.plan.now in
     let m = machine_of plan i in
-    quiet-exit (return_move plan (path_of i) m true) (present_pedigree (present_of i) m) _ c.from_residual.result c.in_err-value.field-0.0 (result_of (function_at (functions_of plan) i.top.function) i.top.env.variables) c.from_residual.ensures.1
+    silent-exit (return_move plan (path_of i) m true) (present_pedigree (present_of i) m) _ c.from_residual.result c.in_err-value.field-0.0 (result_of (function_at (functions_of plan) i.top.function) i.top.env.variables) c.from_residual.ensures.1
     c.in_err-value.ensures (value-fault plan i c.requires.here)
 
 pub returns-in_err-value-clause-stays : goal.returns-in_err-value-clause-stays
-returns-in_err-value-clause-stays c = stands-same c.args.self.now (quiet c.from_residual.result)
+returns-in_err-value-clause-stays c = stands-same c.args.self.now (silent c.from_residual.result)

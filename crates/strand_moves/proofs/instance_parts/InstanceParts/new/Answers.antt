@@ -18,7 +18,7 @@ bound-requires c =
     let number = c.args.function in
     let f = c.index-functions-function.result in
     let there = slice_get_read (functions_of plan) (length (functions_of plan)) number f refl c.requires.there (rw c.functions.ensures.functions at c.index-functions-function.is) in
-    rw (c.as_slice.ensures, own-names plan number f there c.in-Some.names.now c.in-Some.ensures) (params-stand plan number f there c.places.result.now (record { table = c.places.ensures.table; found = c.places.ensures.found }))
+    rw (c.as_slice.ensures, own-names plan number f there c.in-Some.names.now c.in-Some.ensures) (params-stand plan number f there c.slots.result.now (record { table = c.slots.ensures.table; found = c.slots.ensures.found }))
 
 pub returns-in-Ok-clause-begins : goal.returns-in-Ok-clause-begins
 returns-in-Ok-clause-begins c =

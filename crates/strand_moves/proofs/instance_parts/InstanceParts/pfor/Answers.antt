@@ -6,7 +6,7 @@ use Rattle.strand_moves.specs.declared.instance_parts.InstanceParts.{InstancePar
 use Rattle.strand_moves.specs.Found.{FindsTarget}
 use Rattle.strand_moves.specs.InstanceParts.{machine_of, present_of}
 use Rattle.strand_moves.specs.Moves.{acted, present_pedigree}
-use Rattle.strand_moves.proofs.HandedChildren.ChildLemmas.{looped-none, looped-some}
+use Rattle.strand_moves.proofs.SpawnedChildren.ChildLemmas.{looped-none, looped-some}
 use Rattle.strand_moves.proofs.OpenScopes.Exits.{shows-exit, shows-fault}
 use Rattle.strand_moves.proofs.Statements.LoopEquations.{pfor-lo-fault, pfor-hi-fault, pfor-args-fault, pfor-fault}
 use Rattle.strand_moves.proofs.Statements.Naming.{top-named}
@@ -25,10 +25,10 @@ pub begin_loop-requires : goal.begin_loop-requires
 begin_loop-requires c = c.requires.finds.target
 
 pub pass_loop-requires-clause-target : goal.pass_loop-requires-clause-target
-pass_loop-requires-clause-target c = subst (λ (x : InstanceParts). FindsTarget c.args.places.now x.top.env c.args.target.now) (sym c.begin_loop.ensures.others) c.requires.finds.target
+pass_loop-requires-clause-target c = subst (λ (x : InstanceParts). FindsTarget c.args.slots.now x.top.env c.args.target.now) (sym c.begin_loop.ensures.others) c.requires.finds.target
 
-pub hand_loop-requires-clause-target : goal.hand_loop-requires-clause-target
-hand_loop-requires-clause-target c = subst (λ (x : InstanceParts). FindsTarget c.args.places.now x.top.env c.args.target.now) (sym c.begin_loop.ensures.others) c.requires.finds.target
+pub loop_effect-requires-clause-target : goal.loop_effect-requires-clause-target
+loop_effect-requires-clause-target c = subst (λ (x : InstanceParts). FindsTarget c.args.slots.now x.top.env c.args.target.now) (sym c.begin_loop.ensures.others) c.requires.finds.target
 
 pub returns-in_err-value-clause-shows : goal.returns-in_err-value-clause-shows
 returns-in_err-value-clause-shows c = λ st var.
@@ -92,8 +92,8 @@ returns-clause-shows c = λ st var.
     let called = c.callee-function.ensures in
     looped-some plan i st var c.args.lo.now c.args.hi.now c.args.target.now c.args.call.now c.in_ok-value.field-0 c.in_ok-value-2.field-0 c.in_ok-rest.rest c.iteration_count-count.result
     c.begin_loop.new.self.steps c.begin_loop.new.self c.in_ok-value.ensures c.in_ok-value-2.ensures known counted (sym c.begin_loop.ensures.result ∙ c.in_ok-begin_loop.was)
-    c.in_ok-begin_loop.ensures.ok c.begin_loop.ensures.others (omega arith) c.in_ok-hand_loop.field-0 c.hand_loop.new.self c.callee-function.result c.number-first.result c.in_ok-trail.path c.in_ok-trail.trail
-    called c.number-first.ensures (c.in_ok-trail.ensures.shared ∙ c.in_ok-trail.ensures.path) (rw (to_z-of_z w64 c.number-first.result first) at c.in_ok-hand_loop.ensures.effects) c.in_ok-hand_loop.ensures.passed
+    c.in_ok-begin_loop.ensures.ok c.begin_loop.ensures.others (omega arith) c.in_ok-loop_effect.field-0 c.loop_effect.new.self c.callee-function.result c.number-first.result c.in_ok-trail.path c.in_ok-trail.trail
+    called c.number-first.ensures (c.in_ok-trail.ensures.shared ∙ c.in_ok-trail.ensures.path) (rw (to_z-of_z w64 c.number-first.result first) at c.in_ok-loop_effect.ensures.effects) c.in_ok-loop_effect.ensures.passed
 
 pub returns-in_err-begin_loop-clause-named : goal.returns-in_err-begin_loop-clause-named
 returns-in_err-begin_loop-clause-named c = λ plan.
@@ -118,9 +118,9 @@ returns-in_err-pass_loop-clause-named c = λ plan h.
 pub returns-clause-named : goal.returns-clause-named
 returns-clause-named c = λ plan h.
     let others = c.begin_loop.ensures.others in
-    c.hand_loop.ensures.named plan (top-named plan c.args.self.now c.begin_loop.new.self (ap (λ (x : InstanceParts). x.below.items) others) (ap (λ (x : InstanceParts). x.top.function) others) (ap (λ (x : InstanceParts). x.top.target) others) (ap (λ (x : InstanceParts). x.top.env.names) others) h)
+    c.loop_effect.ensures.named plan (top-named plan c.args.self.now c.begin_loop.new.self (ap (λ (x : InstanceParts). x.below.items) others) (ap (λ (x : InstanceParts). x.top.function) others) (ap (λ (x : InstanceParts). x.top.target) others) (ap (λ (x : InstanceParts). x.top.env.names) others) h)
 
-pub returns-in_err-hand_loop-clause-named : goal.returns-in_err-hand_loop-clause-named
-returns-in_err-hand_loop-clause-named c = λ plan h.
+pub returns-in_err-loop_effect-clause-named : goal.returns-in_err-loop_effect-clause-named
+returns-in_err-loop_effect-clause-named c = λ plan h.
     let others = c.begin_loop.ensures.others in
-    c.hand_loop.ensures.named plan (top-named plan c.args.self.now c.begin_loop.new.self (ap (λ (x : InstanceParts). x.below.items) others) (ap (λ (x : InstanceParts). x.top.function) others) (ap (λ (x : InstanceParts). x.top.target) others) (ap (λ (x : InstanceParts). x.top.env.names) others) h)
+    c.loop_effect.ensures.named plan (top-named plan c.args.self.now c.begin_loop.new.self (ap (λ (x : InstanceParts). x.below.items) others) (ap (λ (x : InstanceParts). x.top.function) others) (ap (λ (x : InstanceParts). x.top.target) others) (ap (λ (x : InstanceParts). x.top.env.names) others) h)

@@ -1,6 +1,6 @@
 use Rattle.std.proofs.Common.{◌≡◌, ◌+◌, ◌-◌, refl, arith, rules, w64, SFits}
 use Rattle.std.proofs.lemmas.Int.{to_z-of_z}
-use Rattle.script_check.specs.Places.{has_place}
+use Rattle.script_check.specs.Slots.{has_slot}
 use Rattle.strand_moves.specs.declared.cursor.Cursor.{Cursor}
 use Rattle.strand_moves.proofs.Cursors.Loops.{gives-number}
 use Rattle.strand_moves.proofs.Statements.FoundParts.{in_given}
@@ -19,8 +19,8 @@ returns-in-Some-plain_in_place c = λ plan sound there.
 
 pub plain_in_place-requires : goal.plain_in_place-requires
 plain_in_place-requires c =
-    (in_given (has_place c.args.places.now c.args.self.now.top.env.names) c.requires.finds.0 c.args.statement.now c.requires.finds.1 c.in-Some.given.0.now c.in-Some.given.1.now c.in-Some.ensures).1
+    (in_given (has_slot c.args.slots.now c.args.self.now.top.env.names) c.requires.finds.0 c.args.statement.now c.requires.finds.1 c.in-Some.given.0.now c.in-Some.given.1.now c.in-Some.ensures).1
 
 pub set_number-requires : goal.set_number-requires
 set_number-requires c =
-    (in_given (has_place c.args.places.now c.args.self.now.top.env.names) c.requires.finds.0 c.args.statement.now c.requires.finds.1 c.in-Some.given.0.now c.in-Some.given.1.now c.in-Some.ensures).0
+    (in_given (has_slot c.args.slots.now c.args.self.now.top.env.names) c.requires.finds.0 c.args.statement.now c.requires.finds.1 c.in-Some.given.0.now c.in-Some.given.1.now c.in-Some.ensures).0

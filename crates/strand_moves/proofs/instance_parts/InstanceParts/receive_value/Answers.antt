@@ -19,7 +19,7 @@ set_answer-requires c =
     let i = c.args.self.now in
     let to = option_copied c.args.target in
     let found = found-innermost plan to i c.args.height c.requires.found (omega (arith, i.below.ok.0)) in
-    rw c.places.ensures.table (target-found plan i.top to (innermost-named plan i c.requires.sound.named) found)
+    rw c.slots.ensures.table (target-found plan i.top to (innermost-named plan i c.requires.sound.named) found)
 
 pub returns-then-height-len-clause-machine : goal.returns-then-height-len-clause-machine
 returns-then-height-len-clause-machine c = λ p.
@@ -45,7 +45,7 @@ set_answer-requires-then-height-len-2 c =
     let a = c.index_mut.result.now in
     let within : c.args.height < length i.below.items = omega (arith, i.below.ok.0) in
     let is = one-below-named plan i c.requires.sound.named c.args.height a within c.index_mut.ensures.value in
-    rw c.places-then-height-len-2.ensures.table (target-found plan a to is (found-below plan to i c.args.height c.requires.found a within c.index_mut.ensures.value))
+    rw c.slots-then-height-len-2.ensures.table (target-found plan a to is (found-below plan to i c.args.height c.requires.found a within c.index_mut.ensures.value))
 
 pub returns-then-height-len-2-clause-machine : goal.returns-then-height-len-2-clause-machine
 returns-then-height-len-2-clause-machine c = λ p.

@@ -12,7 +12,7 @@ pub fill-requires : goal.fill-requires
 fill-requires c =
     let plan = c.args.plan.now in
     let i = c.args.self.now in
-    rw c.places.ensures.table (target-found plan i.top (option_copied c.args.target) (innermost-named plan i c.requires.sound.named) c.requires.found)
+    rw c.slots.ensures.table (target-found plan i.top (option_copied c.args.target) (innermost-named plan i c.requires.sound.named) c.requires.found)
 
 pub returns-clause-machine : goal.returns-clause-machine
 returns-clause-machine c = λ p.

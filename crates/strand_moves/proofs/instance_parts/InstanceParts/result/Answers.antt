@@ -8,4 +8,4 @@ value-requires c =
     let plan = c.args.plan.now in
     let a = c.args.self.now.top in
     let there = sym c.function_in.ensures ∙ ap (λ o. option_copied o) c.in-Some.is in
-    result-found plan a.function c.in-Some.f.now there c.places.result.now (record { table = c.places.ensures.table; found = c.places.ensures.found }) a (names-of plan a c.requires c.in-Some.f.now there)
+    result-found plan a.function c.in-Some.f.now there c.slots.result.now (record { table = c.slots.ensures.table; found = c.slots.ensures.found }) a (names-of plan a c.requires c.in-Some.f.now there)

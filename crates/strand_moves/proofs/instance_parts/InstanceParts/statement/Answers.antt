@@ -1,4 +1,4 @@
-use Rattle.script_check.specs.Places.{finds_callee, has_place}
+use Rattle.script_check.specs.Slots.{finds_callee, has_slot}
 use Rattle.std.proofs.Common.{◌∙◌, [], ◌∷◌, ◌++◌, ap, arith, refl, sym}
 use Rattle.script_grammar.specs.declared.tree.Act.TheOpen as act
 use Rattle.serial_meaning.specs.declared.event.FaultKind.{FaultKind}
@@ -11,8 +11,7 @@ use Rattle.strand_moves.proofs.Statements.Equations.{faults, let-is-set}
 use Rattle.strand_moves.proofs.OpenScopes.Exits.{shows-fault}
 use Rattle.strand_moves.proofs.Statements.FoundParts.{every-spawn, in_array, in_call, in_if, in_let, in_pfor, in_print, in_set, in_store, in_while, paid-finds}
 use Rattle.strand_moves.proofs.Statements.Paying.{act-is, shows-same, statement-paid, statement-unpaid, paid-after}
-use Rattle.strand_moves.proofs.Statements.Handing.{handed-acts, handed-child}
-use Rattle.strand_moves.proofs.Statements.QuickLemmas.{emitted-child, quiet-child}
+use Rattle.strand_moves.proofs.Statements.FastPathLemmas.{emitted-child, silent-child}
 use Rattle.strand_moves.proofs.OpenScopes.Keeping.{here-is, keeps-into, keeps-paid, keeps-unless}
 use Rattle.strand_moves.proofs.instance_parts.InstanceParts.statement.Goals as goal
 
@@ -33,7 +32,7 @@ returns-in-Array-clause-shows c =
     let p = c.pay.new.self in
     let st = c.args.statement.now in
     let is = act-is (act.Array c.in-Array.x c.in-Array.n) st.act (variant.Array c.in-Array.x c.in-Array.n) c.in-Array.is (variant.rolls-Array c.in-Array.x c.in-Array.n) in
-    statement-paid plan c.args.self.now p p.steps c.in_ok-pay.ensures.ok c.in_ok-pay.ensures.paid (here-is plan c.args.self.now c.requires.instance) st (act.Array c.in-Array.x c.in-Array.n) c.array.new.self c.quiet.result is (rw c.quiet.ensures (c.array.ensures.shows plan st))
+    statement-paid plan c.args.self.now p p.steps c.in_ok-pay.ensures.ok c.in_ok-pay.ensures.paid (here-is plan c.args.self.now c.requires.instance) st (act.Array c.in-Array.x c.in-Array.n) c.array.new.self c.silent.result is (rw c.silent.ensures (c.array.ensures.shows plan st))
 
 pub returns-in-Set-clause-shows : goal.returns-in-Set-clause-shows
 returns-in-Set-clause-shows c =
@@ -49,7 +48,7 @@ returns-in-Store-clause-shows c =
     let p = c.pay.new.self in
     let st = c.args.statement.now in
     let is = act-is (act.Store c.in-Store.x c.in-Store.i c.in-Store.e) st.act (variant.Store c.in-Store.x c.in-Store.i c.in-Store.e) c.in-Store.is (variant.rolls-Store c.in-Store.x c.in-Store.i c.in-Store.e) in
-    statement-paid plan c.args.self.now p p.steps c.in_ok-pay.ensures.ok c.in_ok-pay.ensures.paid (here-is plan c.args.self.now c.requires.instance) st (act.Store c.in-Store.x c.in-Store.i c.in-Store.e) c.store.new.self c.quiet-in-Store.result is (rw c.quiet-in-Store.ensures (c.store.ensures.shows plan st))
+    statement-paid plan c.args.self.now p p.steps c.in_ok-pay.ensures.ok c.in_ok-pay.ensures.paid (here-is plan c.args.self.now c.requires.instance) st (act.Store c.in-Store.x c.in-Store.i c.in-Store.e) c.store.new.self c.silent-in-Store.result is (rw c.silent-in-Store.ensures (c.store.ensures.shows plan st))
 
 pub returns-in-Spawn-clause-shows : goal.returns-in-Spawn-clause-shows
 returns-in-Spawn-clause-shows c =
@@ -57,8 +56,8 @@ returns-in-Spawn-clause-shows c =
     let p = c.pay.new.self in
     let st = c.args.statement.now in
     let is = act-is (act.Spawn c.in-Spawn.c) st.act (variant.Spawn c.in-Spawn.c) c.in-Spawn.is (variant.rolls-Spawn c.in-Spawn.c) in
-    statement-paid plan c.args.self.now p p.steps c.in_ok-pay.ensures.ok c.in_ok-pay.ensures.paid (here-is plan c.args.self.now c.requires.instance) st (act.Spawn c.in-Spawn.c) c.spawn.new.self c.spawn_as_move.result is
-    (handed-acts plan st (act.Spawn c.in-Spawn.c) p c.spawn.new.self c.spawn.result c.spawn_as_move.result c.spawn_as_move.ensures (c.spawn.ensures.shows st))
+    statement-paid plan c.args.self.now p p.steps c.in_ok-pay.ensures.ok c.in_ok-pay.ensures.paid (here-is plan c.args.self.now c.requires.instance) st (act.Spawn c.in-Spawn.c) c.spawn_move.new.self c.spawn_move.result is
+    (c.spawn_move.ensures.shows st)
 
 pub returns-in-Call-clause-shows : goal.returns-in-Call-clause-shows
 returns-in-Call-clause-shows c =
@@ -66,7 +65,7 @@ returns-in-Call-clause-shows c =
     let p = c.pay.new.self in
     let st = c.args.statement.now in
     let is = act-is (act.Call c.in-Call.c) st.act (variant.Call c.in-Call.c) c.in-Call.is (variant.rolls-Call c.in-Call.c) in
-    statement-paid plan c.args.self.now p p.steps c.in_ok-pay.ensures.ok c.in_ok-pay.ensures.paid (here-is plan c.args.self.now c.requires.instance) st (act.Call c.in-Call.c) c.call.new.self c.quiet-in-Call.result is (rw c.quiet-in-Call.ensures (c.call.ensures.shows st))
+    statement-paid plan c.args.self.now p p.steps c.in_ok-pay.ensures.ok c.in_ok-pay.ensures.paid (here-is plan c.args.self.now c.requires.instance) st (act.Call c.in-Call.c) c.call.new.self c.silent-in-Call.result is (rw c.silent-in-Call.ensures (c.call.ensures.shows st))
 
 pub returns-in-Sync-clause-shows : goal.returns-in-Sync-clause-shows
 returns-in-Sync-clause-shows c =
@@ -94,8 +93,8 @@ returns-in-If-clause-shows c =
     let st = c.args.statement.now in
     let is = act-is (act.If c.in-If.e c.in-If.field-1 c.in-If.field-2) st.act (variant.If c.in-If.e c.in-If.field-1 c.in-If.field-2) c.in-If.is (variant.rolls-If c.in-If.e c.in-If.field-1 c.in-If.field-2) in
     let after = paid-after plan c.args.self.now p p.steps c.in_ok-pay.ensures.ok c.in_ok-pay.ensures.paid st c.requires.after in
-    statement-paid plan c.args.self.now p p.steps c.in_ok-pay.ensures.ok c.in_ok-pay.ensures.paid (here-is plan c.args.self.now c.requires.instance) st (act.If c.in-If.e c.in-If.field-1 c.in-If.field-2) c.branch-self.new.self c.quiet-in-If.result is
-    (rw c.quiet-in-If.ensures (c.branch-self.ensures.shows plan st c.in-If.field-1 c.in-If.field-2 after is))
+    statement-paid plan c.args.self.now p p.steps c.in_ok-pay.ensures.ok c.in_ok-pay.ensures.paid (here-is plan c.args.self.now c.requires.instance) st (act.If c.in-If.e c.in-If.field-1 c.in-If.field-2) c.branch-self.new.self c.silent-in-If.result is
+    (rw c.silent-in-If.ensures (c.branch-self.ensures.shows plan st c.in-If.field-1 c.in-If.field-2 after is))
 
 pub returns-in-While-clause-shows : goal.returns-in-While-clause-shows
 returns-in-While-clause-shows c =
@@ -104,8 +103,8 @@ returns-in-While-clause-shows c =
     let st = c.args.statement.now in
     let is = act-is (act.While c.in-While.e c.in-While.field-1) st.act (variant.While c.in-While.e c.in-While.field-1) c.in-While.is (variant.rolls-While c.in-While.e c.in-While.field-1) in
     let after = paid-after plan c.args.self.now p p.steps c.in_ok-pay.ensures.ok c.in_ok-pay.ensures.paid st c.requires.after in
-    statement-paid plan c.args.self.now p p.steps c.in_ok-pay.ensures.ok c.in_ok-pay.ensures.paid (here-is plan c.args.self.now c.requires.instance) st (act.While c.in-While.e c.in-While.field-1) c.while_test.new.self c.quiet-in-While.result is
-    (rw c.quiet-in-While.ensures (c.while_test.ensures.shows plan st c.in-While.field-1 after is))
+    statement-paid plan c.args.self.now p p.steps c.in_ok-pay.ensures.ok c.in_ok-pay.ensures.paid (here-is plan c.args.self.now c.requires.instance) st (act.While c.in-While.e c.in-While.field-1) c.while_test.new.self c.silent-in-While.result is
+    (rw c.silent-in-While.ensures (c.while_test.ensures.shows plan st c.in-While.field-1 after is))
 
 pub returns-in-Pfor-clause-shows : goal.returns-in-Pfor-clause-shows
 returns-in-Pfor-clause-shows c =
@@ -117,22 +116,22 @@ returns-in-Pfor-clause-shows c =
     (c.pfor.ensures.shows st c.in-Pfor.var)
 
 pub returns-in-Array-clause-child : goal.returns-in-Array-clause-child
-returns-in-Array-clause-child c = rw c.quiet.ensures (quiet-child c.args.plan.now c.array.result)
+returns-in-Array-clause-child c = rw c.silent.ensures (silent-child c.args.plan.now c.array.result)
 
 pub returns-in-Store-clause-child : goal.returns-in-Store-clause-child
-returns-in-Store-clause-child c = rw c.quiet-in-Store.ensures (quiet-child c.args.plan.now c.store.result)
+returns-in-Store-clause-child c = rw c.silent-in-Store.ensures (silent-child c.args.plan.now c.store.result)
 
 pub returns-in-Call-clause-child : goal.returns-in-Call-clause-child
-returns-in-Call-clause-child c = rw c.quiet-in-Call.ensures (quiet-child c.args.plan.now c.call.result)
+returns-in-Call-clause-child c = rw c.silent-in-Call.ensures (silent-child c.args.plan.now c.call.result)
 
 pub returns-in-Print-clause-child : goal.returns-in-Print-clause-child
 returns-in-Print-clause-child c = rw c.emitted.ensures (emitted-child c.args.plan.now c.print.result)
 
 pub returns-in-If-clause-child : goal.returns-in-If-clause-child
-returns-in-If-clause-child c = rw c.quiet-in-If.ensures (quiet-child c.args.plan.now c.branch-self.result)
+returns-in-If-clause-child c = rw c.silent-in-If.ensures (silent-child c.args.plan.now c.branch-self.result)
 
 pub returns-in-While-clause-child : goal.returns-in-While-clause-child
-returns-in-While-clause-child c = rw c.quiet-in-While.ensures (quiet-child c.args.plan.now c.while_test.result)
+returns-in-While-clause-child c = rw c.silent-in-While.ensures (silent-child c.args.plan.now c.while_test.result)
 
 pub returns-in-Let-clause-keeps : goal.returns-in-Let-clause-keeps
 returns-in-Let-clause-keeps c =
@@ -140,7 +139,7 @@ returns-in-Let-clause-keeps c =
 
 pub returns-in-Array-clause-keeps : goal.returns-in-Array-clause-keeps
 returns-in-Array-clause-keeps c =
-    keeps-paid c.args.plan.now c.args.self.now c.pay.new.self c.pay.new.self.steps c.requires.instance c.requires.goes_on c.in_ok-pay.ensures.ok c.in_ok-pay.ensures.paid c.array.new.self (c.array.ensures.named c.args.plan.now) c.array.ensures.stays c.array.ensures.few c.quiet.result
+    keeps-paid c.args.plan.now c.args.self.now c.pay.new.self c.pay.new.self.steps c.requires.instance c.requires.goes_on c.in_ok-pay.ensures.ok c.in_ok-pay.ensures.paid c.array.new.self (c.array.ensures.named c.args.plan.now) c.array.ensures.stays c.array.ensures.few c.silent.result
 
 pub returns-in-Set-clause-keeps : goal.returns-in-Set-clause-keeps
 returns-in-Set-clause-keeps c =
@@ -148,15 +147,15 @@ returns-in-Set-clause-keeps c =
 
 pub returns-in-Store-clause-keeps : goal.returns-in-Store-clause-keeps
 returns-in-Store-clause-keeps c =
-    keeps-paid c.args.plan.now c.args.self.now c.pay.new.self c.pay.new.self.steps c.requires.instance c.requires.goes_on c.in_ok-pay.ensures.ok c.in_ok-pay.ensures.paid c.store.new.self (c.store.ensures.named c.args.plan.now) c.store.ensures.stays c.store.ensures.few c.quiet-in-Store.result
+    keeps-paid c.args.plan.now c.args.self.now c.pay.new.self c.pay.new.self.steps c.requires.instance c.requires.goes_on c.in_ok-pay.ensures.ok c.in_ok-pay.ensures.paid c.store.new.self (c.store.ensures.named c.args.plan.now) c.store.ensures.stays c.store.ensures.few c.silent-in-Store.result
 
 pub returns-in-Spawn-clause-keeps : goal.returns-in-Spawn-clause-keeps
 returns-in-Spawn-clause-keeps c =
-    keeps-paid c.args.plan.now c.args.self.now c.pay.new.self c.pay.new.self.steps c.requires.instance c.requires.goes_on c.in_ok-pay.ensures.ok c.in_ok-pay.ensures.paid c.spawn.new.self (c.spawn.ensures.named c.args.plan.now) c.spawn.ensures.stays c.spawn.ensures.few c.spawn_as_move.result
+    keeps-paid c.args.plan.now c.args.self.now c.pay.new.self c.pay.new.self.steps c.requires.instance c.requires.goes_on c.in_ok-pay.ensures.ok c.in_ok-pay.ensures.paid c.spawn_move.new.self (c.spawn_move.ensures.named c.args.plan.now) c.spawn_move.ensures.stays c.spawn_move.ensures.few c.spawn_move.result
 
 pub returns-in-Call-clause-keeps : goal.returns-in-Call-clause-keeps
 returns-in-Call-clause-keeps c =
-    keeps-unless c.args.plan.now c.args.self.now c.pay.new.self c.pay.new.self.steps c.requires.instance c.requires.goes_on c.in_ok-pay.ensures.ok c.in_ok-pay.ensures.paid c.call.new.self c.call.ensures.named c.call.ensures.few c.quiet-in-Call.result (rw c.quiet-in-Call.ensures c.call.ensures.stays)
+    keeps-unless c.args.plan.now c.args.self.now c.pay.new.self c.pay.new.self.steps c.requires.instance c.requires.goes_on c.in_ok-pay.ensures.ok c.in_ok-pay.ensures.paid c.call.new.self c.call.ensures.named c.call.ensures.few c.silent-in-Call.result (rw c.silent-in-Call.ensures c.call.ensures.stays)
 
 pub returns-in-Sync-clause-keeps : goal.returns-in-Sync-clause-keeps
 returns-in-Sync-clause-keeps c =
@@ -168,11 +167,11 @@ returns-in-Print-clause-keeps c =
 
 pub returns-in-If-clause-keeps : goal.returns-in-If-clause-keeps
 returns-in-If-clause-keeps c =
-    keeps-paid c.args.plan.now c.args.self.now c.pay.new.self c.pay.new.self.steps c.requires.instance c.requires.goes_on c.in_ok-pay.ensures.ok c.in_ok-pay.ensures.paid c.branch-self.new.self (c.branch-self.ensures.named c.args.plan.now) c.branch-self.ensures.stays c.branch-self.ensures.few c.quiet-in-If.result
+    keeps-paid c.args.plan.now c.args.self.now c.pay.new.self c.pay.new.self.steps c.requires.instance c.requires.goes_on c.in_ok-pay.ensures.ok c.in_ok-pay.ensures.paid c.branch-self.new.self (c.branch-self.ensures.named c.args.plan.now) c.branch-self.ensures.stays c.branch-self.ensures.few c.silent-in-If.result
 
 pub returns-in-While-clause-keeps : goal.returns-in-While-clause-keeps
 returns-in-While-clause-keeps c =
-    keeps-paid c.args.plan.now c.args.self.now c.pay.new.self c.pay.new.self.steps c.requires.instance c.requires.goes_on c.in_ok-pay.ensures.ok c.in_ok-pay.ensures.paid c.while_test.new.self (c.while_test.ensures.named c.args.plan.now) c.while_test.ensures.stays c.while_test.ensures.few c.quiet-in-While.result
+    keeps-paid c.args.plan.now c.args.self.now c.pay.new.self c.pay.new.self.steps c.requires.instance c.requires.goes_on c.in_ok-pay.ensures.ok c.in_ok-pay.ensures.paid c.while_test.new.self (c.while_test.ensures.named c.args.plan.now) c.while_test.ensures.stays c.while_test.ensures.few c.silent-in-While.result
 
 pub returns-in-Pfor-clause-keeps : goal.returns-in-Pfor-clause-keeps
 returns-in-Pfor-clause-keeps c =
@@ -207,88 +206,85 @@ returns-in_err-pay-clause-shows c =
     shows-fault (statement_move plan (path_of i) m c.args.statement.now m.top.left) (present_pedigree (present_of i) m) _ c.from_residual.result c.in_err-pay.field-0.0 c.from_residual.ensures.1
     (statement-unpaid plan i c.args.statement.now m.top.left unpaid.1 (here-is plan i c.requires.instance) ∙ ap (λ (kind : FaultKind). faults kind (present_of i ++ i.rank ∷ [])) (sym unpaid.2))
 
-pub returns-in-Spawn-clause-child : goal.returns-in-Spawn-clause-child
-returns-in-Spawn-clause-child c = handed-child c.args.plan.now c.spawn.result c.spawn_as_move.result c.spawn_as_move.ensures c.spawn.ensures.child
-
 pub assign-requires-clause-name : goal.assign-requires-clause-name
 assign-requires-clause-name c =
     let p = c.pay.new.self in
     let st = c.args.statement.now in
     let is = act-is (act.Let c.in-Let.x c.in-Let.r) st.act (variant.Let c.in-Let.x c.in-Let.r) c.in-Let.is (variant.rolls-Let c.in-Let.x c.in-Let.r) in
-    let found = paid-finds c.args.plan.now c.args.places.now c.args.self.now p p.steps c.in_ok-pay.ensures.ok st c.requires.finds in
-    (in_let (has_place c.args.places.now p.top.env.names) (finds_callee (functions_of c.args.plan.now)) st found c.in-Let.x c.in-Let.r is).0
+    let found = paid-finds c.args.plan.now c.args.slots.now c.args.self.now p p.steps c.in_ok-pay.ensures.ok st c.requires.finds in
+    (in_let (has_slot c.args.slots.now p.top.env.names) (finds_callee (functions_of c.args.plan.now)) st found c.in-Let.x c.in-Let.r is).0
 
 pub assign-requires-clause-right : goal.assign-requires-clause-right
 assign-requires-clause-right c =
     let p = c.pay.new.self in
     let st = c.args.statement.now in
     let is = act-is (act.Let c.in-Let.x c.in-Let.r) st.act (variant.Let c.in-Let.x c.in-Let.r) c.in-Let.is (variant.rolls-Let c.in-Let.x c.in-Let.r) in
-    let found = paid-finds c.args.plan.now c.args.places.now c.args.self.now p p.steps c.in_ok-pay.ensures.ok st c.requires.finds in
-    (in_let (has_place c.args.places.now p.top.env.names) (finds_callee (functions_of c.args.plan.now)) st found c.in-Let.x c.in-Let.r is).1
+    let found = paid-finds c.args.plan.now c.args.slots.now c.args.self.now p p.steps c.in_ok-pay.ensures.ok st c.requires.finds in
+    (in_let (has_slot c.args.slots.now p.top.env.names) (finds_callee (functions_of c.args.plan.now)) st found c.in-Let.x c.in-Let.r is).1
 
 pub assign-requires-in-Set-clause-name : goal.assign-requires-in-Set-clause-name
 assign-requires-in-Set-clause-name c =
     let p = c.pay.new.self in
     let st = c.args.statement.now in
     let is = act-is (act.Set c.in-Set.x c.in-Set.r) st.act (variant.Set c.in-Set.x c.in-Set.r) c.in-Set.is (variant.rolls-Set c.in-Set.x c.in-Set.r) in
-    let found = paid-finds c.args.plan.now c.args.places.now c.args.self.now p p.steps c.in_ok-pay.ensures.ok st c.requires.finds in
-    (in_set (has_place c.args.places.now p.top.env.names) (finds_callee (functions_of c.args.plan.now)) st found c.in-Set.x c.in-Set.r is).0
+    let found = paid-finds c.args.plan.now c.args.slots.now c.args.self.now p p.steps c.in_ok-pay.ensures.ok st c.requires.finds in
+    (in_set (has_slot c.args.slots.now p.top.env.names) (finds_callee (functions_of c.args.plan.now)) st found c.in-Set.x c.in-Set.r is).0
 
 pub assign-requires-in-Set-clause-right : goal.assign-requires-in-Set-clause-right
 assign-requires-in-Set-clause-right c =
     let p = c.pay.new.self in
     let st = c.args.statement.now in
     let is = act-is (act.Set c.in-Set.x c.in-Set.r) st.act (variant.Set c.in-Set.x c.in-Set.r) c.in-Set.is (variant.rolls-Set c.in-Set.x c.in-Set.r) in
-    let found = paid-finds c.args.plan.now c.args.places.now c.args.self.now p p.steps c.in_ok-pay.ensures.ok st c.requires.finds in
-    (in_set (has_place c.args.places.now p.top.env.names) (finds_callee (functions_of c.args.plan.now)) st found c.in-Set.x c.in-Set.r is).1
+    let found = paid-finds c.args.plan.now c.args.slots.now c.args.self.now p p.steps c.in_ok-pay.ensures.ok st c.requires.finds in
+    (in_set (has_slot c.args.slots.now p.top.env.names) (finds_callee (functions_of c.args.plan.now)) st found c.in-Set.x c.in-Set.r is).1
 
 pub array-requires : goal.array-requires
 array-requires c =
     let p = c.pay.new.self in
     let st = c.args.statement.now in
     let is = act-is (act.Array c.in-Array.x c.in-Array.n) st.act (variant.Array c.in-Array.x c.in-Array.n) c.in-Array.is (variant.rolls-Array c.in-Array.x c.in-Array.n) in
-    let found = paid-finds c.args.plan.now c.args.places.now c.args.self.now p p.steps c.in_ok-pay.ensures.ok st c.requires.finds in
-    in_array (has_place c.args.places.now p.top.env.names) (finds_callee (functions_of c.args.plan.now)) st found c.in-Array.x c.in-Array.n is
+    let found = paid-finds c.args.plan.now c.args.slots.now c.args.self.now p p.steps c.in_ok-pay.ensures.ok st c.requires.finds in
+    in_array (has_slot c.args.slots.now p.top.env.names) (finds_callee (functions_of c.args.plan.now)) st found c.in-Array.x c.in-Array.n is
 
 pub store-requires-clause-name : goal.store-requires-clause-name
 store-requires-clause-name c =
     let p = c.pay.new.self in
     let st = c.args.statement.now in
     let is = act-is (act.Store c.in-Store.x c.in-Store.i c.in-Store.e) st.act (variant.Store c.in-Store.x c.in-Store.i c.in-Store.e) c.in-Store.is (variant.rolls-Store c.in-Store.x c.in-Store.i c.in-Store.e) in
-    let found = paid-finds c.args.plan.now c.args.places.now c.args.self.now p p.steps c.in_ok-pay.ensures.ok st c.requires.finds in
-    (in_store (has_place c.args.places.now p.top.env.names) (finds_callee (functions_of c.args.plan.now)) st found c.in-Store.x c.in-Store.i c.in-Store.e is).0
+    let found = paid-finds c.args.plan.now c.args.slots.now c.args.self.now p p.steps c.in_ok-pay.ensures.ok st c.requires.finds in
+    (in_store (has_slot c.args.slots.now p.top.env.names) (finds_callee (functions_of c.args.plan.now)) st found c.in-Store.x c.in-Store.i c.in-Store.e is).0
 
 pub store-requires-clause-index : goal.store-requires-clause-index
 store-requires-clause-index c =
     let p = c.pay.new.self in
     let st = c.args.statement.now in
     let is = act-is (act.Store c.in-Store.x c.in-Store.i c.in-Store.e) st.act (variant.Store c.in-Store.x c.in-Store.i c.in-Store.e) c.in-Store.is (variant.rolls-Store c.in-Store.x c.in-Store.i c.in-Store.e) in
-    let found = paid-finds c.args.plan.now c.args.places.now c.args.self.now p p.steps c.in_ok-pay.ensures.ok st c.requires.finds in
-    (in_store (has_place c.args.places.now p.top.env.names) (finds_callee (functions_of c.args.plan.now)) st found c.in-Store.x c.in-Store.i c.in-Store.e is).1.0
+    let found = paid-finds c.args.plan.now c.args.slots.now c.args.self.now p p.steps c.in_ok-pay.ensures.ok st c.requires.finds in
+    (in_store (has_slot c.args.slots.now p.top.env.names) (finds_callee (functions_of c.args.plan.now)) st found c.in-Store.x c.in-Store.i c.in-Store.e is).1.0
 
 pub store-requires-clause-value : goal.store-requires-clause-value
 store-requires-clause-value c =
     let p = c.pay.new.self in
     let st = c.args.statement.now in
     let is = act-is (act.Store c.in-Store.x c.in-Store.i c.in-Store.e) st.act (variant.Store c.in-Store.x c.in-Store.i c.in-Store.e) c.in-Store.is (variant.rolls-Store c.in-Store.x c.in-Store.i c.in-Store.e) in
-    let found = paid-finds c.args.plan.now c.args.places.now c.args.self.now p p.steps c.in_ok-pay.ensures.ok st c.requires.finds in
-    (in_store (has_place c.args.places.now p.top.env.names) (finds_callee (functions_of c.args.plan.now)) st found c.in-Store.x c.in-Store.i c.in-Store.e is).1.1
+    let found = paid-finds c.args.plan.now c.args.slots.now c.args.self.now p p.steps c.in_ok-pay.ensures.ok st c.requires.finds in
+    (in_store (has_slot c.args.slots.now p.top.env.names) (finds_callee (functions_of c.args.plan.now)) st found c.in-Store.x c.in-Store.i c.in-Store.e is).1.1
 
 pub call-requires-clause-called : goal.call-requires-clause-called
 call-requires-clause-called c =
     let p = c.pay.new.self in
     let st = c.args.statement.now in
     let is = act-is (act.Call c.in-Call.c) st.act (variant.Call c.in-Call.c) c.in-Call.is (variant.rolls-Call c.in-Call.c) in
-    let found = paid-finds c.args.plan.now c.args.places.now c.args.self.now p p.steps c.in_ok-pay.ensures.ok st c.requires.finds in
-    (in_call (has_place c.args.places.now p.top.env.names) (finds_callee (functions_of c.args.plan.now)) st found c.in-Call.c is).0
+    let found = paid-finds c.args.plan.now c.args.slots.now c.args.self.now p p.steps c.in_ok-pay.ensures.ok st c.requires.finds in
+    (in_call (has_slot c.args.slots.now p.top.env.names) (finds_callee (functions_of c.args.plan.now)) st found c.in-Call.c is).0
 
 pub call-requires-clause-args : goal.call-requires-clause-args
 call-requires-clause-args c =
     let p = c.pay.new.self in
     let st = c.args.statement.now in
     let is = act-is (act.Call c.in-Call.c) st.act (variant.Call c.in-Call.c) c.in-Call.is (variant.rolls-Call c.in-Call.c) in
-    let found = paid-finds c.args.plan.now c.args.places.now c.args.self.now p p.steps c.in_ok-pay.ensures.ok st c.requires.finds in
-    (in_call (has_place c.args.places.now p.top.env.names) (finds_callee (functions_of c.args.plan.now)) st found c.in-Call.c is).1
+    let found = paid-finds c.args.plan.now c.args.slots.now c.args.self.now p p.steps c.in_ok-pay.ensures.ok st c.requires.finds in
+    (in_call (has_slot c.args.slots.now p.top.env.names) (finds_callee (functions_of c.args.plan.now)) st found c.in-Call.c is).1
 
 pub call-requires-clause-target : goal.call-requires-clause-target
 call-requires-clause-target c = refl
@@ -298,38 +294,38 @@ print-requires-clause-finds c =
     let p = c.pay.new.self in
     let st = c.args.statement.now in
     let is = act-is (act.Print c.in-Print.e) st.act (variant.Print c.in-Print.e) c.in-Print.is (variant.rolls-Print c.in-Print.e) in
-    let found = paid-finds c.args.plan.now c.args.places.now c.args.self.now p p.steps c.in_ok-pay.ensures.ok st c.requires.finds in
-    in_print (has_place c.args.places.now p.top.env.names) (finds_callee (functions_of c.args.plan.now)) st found c.in-Print.e is
+    let found = paid-finds c.args.plan.now c.args.slots.now c.args.self.now p p.steps c.in_ok-pay.ensures.ok st c.requires.finds in
+    in_print (has_slot c.args.slots.now p.top.env.names) (finds_callee (functions_of c.args.plan.now)) st found c.in-Print.e is
 
 pub branch-self-requires : goal.branch-self-requires
 branch-self-requires c =
     let p = c.pay.new.self in
     let st = c.args.statement.now in
     let is = act-is (act.If c.in-If.e c.in-If.field-1 c.in-If.field-2) st.act (variant.If c.in-If.e c.in-If.field-1 c.in-If.field-2) c.in-If.is (variant.rolls-If c.in-If.e c.in-If.field-1 c.in-If.field-2) in
-    let found = paid-finds c.args.plan.now c.args.places.now c.args.self.now p p.steps c.in_ok-pay.ensures.ok st c.requires.finds in
-    in_if (has_place c.args.places.now p.top.env.names) (finds_callee (functions_of c.args.plan.now)) st found c.in-If.e c.in-If.field-1 c.in-If.field-2 is
+    let found = paid-finds c.args.plan.now c.args.slots.now c.args.self.now p p.steps c.in_ok-pay.ensures.ok st c.requires.finds in
+    in_if (has_slot c.args.slots.now p.top.env.names) (finds_callee (functions_of c.args.plan.now)) st found c.in-If.e c.in-If.field-1 c.in-If.field-2 is
 
 pub while_test-requires : goal.while_test-requires
 while_test-requires c =
     let p = c.pay.new.self in
     let st = c.args.statement.now in
     let is = act-is (act.While c.in-While.e c.in-While.field-1) st.act (variant.While c.in-While.e c.in-While.field-1) c.in-While.is (variant.rolls-While c.in-While.e c.in-While.field-1) in
-    let found = paid-finds c.args.plan.now c.args.places.now c.args.self.now p p.steps c.in_ok-pay.ensures.ok st c.requires.finds in
-    in_while (has_place c.args.places.now p.top.env.names) (finds_callee (functions_of c.args.plan.now)) st found c.in-While.e c.in-While.field-1 is
+    let found = paid-finds c.args.plan.now c.args.slots.now c.args.self.now p p.steps c.in_ok-pay.ensures.ok st c.requires.finds in
+    in_while (has_slot c.args.slots.now p.top.env.names) (finds_callee (functions_of c.args.plan.now)) st found c.in-While.e c.in-While.field-1 is
 
-pub spawn-requires-clause-finds : goal.spawn-requires-clause-finds
-spawn-requires-clause-finds c =
+pub spawn_move-requires-clause-finds : goal.spawn_move-requires-clause-finds
+spawn_move-requires-clause-finds c =
     let p = c.pay.new.self in
     let st = c.args.statement.now in
     let is = act-is (act.Spawn c.in-Spawn.c) st.act (variant.Spawn c.in-Spawn.c) c.in-Spawn.is (variant.rolls-Spawn c.in-Spawn.c) in
-    let found = paid-finds c.args.plan.now c.args.places.now c.args.self.now p p.steps c.in_ok-pay.ensures.ok st c.requires.finds in
-    every-spawn (has_place c.args.places.now p.top.env.names) (finds_callee (functions_of c.args.plan.now)) st found c.in-Spawn.c is
+    let found = paid-finds c.args.plan.now c.args.slots.now c.args.self.now p p.steps c.in_ok-pay.ensures.ok st c.requires.finds in
+    every-spawn (has_slot c.args.slots.now p.top.env.names) (finds_callee (functions_of c.args.plan.now)) st found c.in-Spawn.c is
 
 pub pfor-requires-clause-finds : goal.pfor-requires-clause-finds
 pfor-requires-clause-finds c =
     let p = c.pay.new.self in
     let st = c.args.statement.now in
     let is = act-is (act.Pfor c.in-Pfor.var c.in-Pfor.lo c.in-Pfor.hi c.in-Pfor.target c.in-Pfor.call) st.act (variant.Pfor c.in-Pfor.var c.in-Pfor.lo c.in-Pfor.hi c.in-Pfor.target c.in-Pfor.call) c.in-Pfor.is (variant.rolls-Pfor c.in-Pfor.var c.in-Pfor.lo c.in-Pfor.hi c.in-Pfor.target c.in-Pfor.call) in
-    let found = paid-finds c.args.plan.now c.args.places.now c.args.self.now p p.steps c.in_ok-pay.ensures.ok st c.requires.finds in
-    let parts = in_pfor (has_place c.args.places.now p.top.env.names) (finds_callee (functions_of c.args.plan.now)) st found c.in-Pfor.var c.in-Pfor.lo c.in-Pfor.hi c.in-Pfor.target c.in-Pfor.call is in
+    let found = paid-finds c.args.plan.now c.args.slots.now c.args.self.now p p.steps c.in_ok-pay.ensures.ok st c.requires.finds in
+    let parts = in_pfor (has_slot c.args.slots.now p.top.env.names) (finds_callee (functions_of c.args.plan.now)) st found c.in-Pfor.var c.in-Pfor.lo c.in-Pfor.hi c.in-Pfor.target c.in-Pfor.call is in
     record { first = parts.0; end = parts.1.0; target = parts.1.1.0; called = parts.1.1.1.0; args = parts.1.1.1.1 }

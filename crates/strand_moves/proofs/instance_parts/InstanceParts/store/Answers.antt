@@ -9,15 +9,15 @@ use Rattle.strand_values.specs.Gives.{integer_result}
 use Rattle.strand_moves.proofs.Statements.Conditions.{number-known, number-fault}
 use Rattle.strand_moves.proofs.Statements.Naming.{names-stay, top-named, variables-are}
 use Rattle.strand_moves.proofs.Statements.Equations.{store, store-fault, store-index-fault, store-value-fault}
-use Rattle.strand_moves.proofs.OpenScopes.Exits.{quiet-exit}
-use Rattle.strand_moves.proofs.HandedChildren.Items.{missing, there}
+use Rattle.strand_moves.proofs.OpenScopes.Exits.{silent-exit}
+use Rattle.strand_moves.proofs.SpawnedChildren.Items.{missing, there}
 use Rattle.strand_moves.proofs.instance_parts.InstanceParts.store.Goals as goal
 
 pub returns-in_err-index-clause-shows : goal.returns-in_err-index-clause-shows
 returns-in_err-index-clause-shows c = λ plan st.
     let i = c.args.self.now in
     let d = value_of c.args.i.now i.top.env.variables in
-    quiet-exit (acted plan (present_of i) (machine_of plan i) st (act.Store c.args.x.now c.args.i.now c.args.e.now)) (present_pedigree (present_of i) (machine_of plan i)) _ c.from_residual.result c.in_err-index.field-0.0
+    silent-exit (acted plan (present_of i) (machine_of plan i) st (act.Store c.args.x.now c.args.i.now c.args.e.now)) (present_pedigree (present_of i) (machine_of plan i)) _ c.from_residual.result c.in_err-index.field-0.0
     (integer_result d) c.from_residual.ensures.1 c.in_err-index.ensures (λ kind h. store-index-fault plan (present_of i) (machine_of plan i) st c.args.x.now c.args.i.now c.args.e.now kind (number-fault d kind h))
 
 pub returns-then-is_none-clause-shows : goal.returns-then-is_none-clause-shows
@@ -37,7 +37,7 @@ returns-in_err-value-clause-shows c = λ plan st.
     let known = number-known (value_of c.args.i.now i.top.env.variables) n c.in_ok-index.ensures in
     let at = rw (to_z-of_z w64 n fits, sym known.1.1) at c.item.ensures in
     let old = there c.item.result c.if-is_none.ensures in
-    quiet-exit (acted plan (present_of i) (machine_of plan i) st (act.Store c.args.x.now c.args.i.now c.args.e.now)) (present_pedigree (present_of i) (machine_of plan i)) _ c.from_residual-in_err-value.result
+    silent-exit (acted plan (present_of i) (machine_of plan i) st (act.Store c.args.x.now c.args.i.now c.args.e.now)) (present_pedigree (present_of i) (machine_of plan i)) _ c.from_residual-in_err-value.result
     c.in_err-value.field-0.0 (value_of c.args.e.now i.top.env.variables) c.from_residual-in_err-value.ensures.1 c.in_err-value.ensures
     (λ kind. store-value-fault plan (present_of i) (machine_of plan i) st c.args.x.now c.args.i.now c.args.e.now known.0 old.0 kind known.1.0 (sym at ∙ old.1))
 

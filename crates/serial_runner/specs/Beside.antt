@@ -1,7 +1,0 @@
--- What is kept while something else is made.
-use Rattle.std.specs.Prelude.{◌≡◌, Result, Ok, Err}
-
--- what was kept, and what was made; or why it could not be
-abbrev pub Beside : {A B E : Type 0} → A → Result B E → Result (A × B) E → Type 0
-Beside before made (Ok p) = (p.0 ≡ before) × (made ≡ Ok p.1)
-Beside before made (Err e) = made ≡ Err e
