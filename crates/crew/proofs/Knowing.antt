@@ -1,5 +1,5 @@
 -- What a hand knows of faults, once it knows one more.
-use Rattle.std.proofs.Common.{◌≡◌, ◌⊎◌, inl, inr, ℕ, ◌<◌, ◌≤◌, ◌+◌, List, [], ◌∷◌, ◌++◌, length, get_or, set, map, All, Contains, refl, sym, ap, ◌∙◌, subst, arith, append_assoc, append-nil, length-append, length-set}
+use Rattle.std.proofs.Common.{◌≡◌, ◌⊎◌, inl, inr, ℕ, ◌<◌, ◌≤◌, ◌+◌, List, [], ◌∷◌, ◌++◌, length, get_or, set, map, All, Contains, Result, Ok, Err, OnOk, OnErr, refl, sym, ap, ◌∙◌, subst, arith, append_assoc, append-nil, length-append, length-set}
 use Rattle.std.proofs.lemmas.Bool.{cases_lt, cases_eq}
 use Rattle.std.proofs.lemmas.Cmp.{nat_list_cmp_total}
 use Rattle.std.proofs.lemmas.List.{get_or_default, get_or_append_left, get_or_push, get_or-map, get_or-set_same, get_or-set_other, length-map, map-set}
@@ -13,7 +13,7 @@ use Rattle.serial_meaning.proofs.RisingPedigrees.Order.{before-before, not_befor
 use Rattle.serial_meaning.specs.Answer.{KnownView}
 use Rattle.serial_meaning.specs.Plan.{PlanView}
 use Rattle.serial_meaning.specs.declared.event.Fault.{Fault}
-use Rattle.crew.specs.Faults.{HasNoneOf, StandsFirst, IsLeastOf, HasOneUpTo, AreLeast, ReadsOn}
+use Rattle.crew.specs.Faults.{HasNoneOf, StandsFirst, IsLeastOf, HasOneUpTo, AreLeast, FaultsView, AreKnown, ReadsOn}
 
 -- What stands before a pedigree stands before all that don't stand before it.
 below : (x a b : List ℕ) → IsBefore x a → (IsBefore b a → ⊥) → IsBefore x b
@@ -34,6 +34,10 @@ plan_of k = k.plan
 -- A fault that stands before the least one stands before all.
 pub first-before_least : (plan : PlanView) (fault : Fault) (known : List KnownView) (k : KnownView) → IsLeastOf plan known k → IsBefore fault.at k.fault.at → StandsFirst plan fault known
 first-before_least plan fault known k is before i d lt same = below fault.at k.fault.at (get_or known i d).fault.at before (is.least i d lt same)
+
+-- and one that stands before all stands before the least one
+pub least-after_first : (plan : PlanView) (fault : Fault) (known : List KnownView) (k : KnownView) → IsLeastOf plan known k → StandsFirst plan fault known → IsBefore fault.at k.fault.at
+least-after_first plan fault known k is first = All-contains (λ (x : KnownView). x.plan ≡ plan → IsBefore fault.at x.fault.at) known k first is.one is.plan_is
 
 pub first-of_none : (plan : PlanView) (fault : Fault) (known : List KnownView) → HasNoneOf plan known → StandsFirst plan fault known
 first-of_none plan fault known none i d lt same = absurd (none i d lt same)
@@ -179,13 +183,39 @@ module _ {X : Type 0} (f : X → KnownView) (xs ys : List X) (i : ℕ) (plan : P
 
 -- Cells that were read
 
-pub reads_none : (known : List KnownView) (read : ℕ) → ReadsOn known read known read
-reads_none known read = record { more = []; known_is = sym (append-nil known); read_is = omega arith }
+pub reads_none : (f : FaultsView) → ReadsOn f f
+reads_none f = record { more = []; read_is = sym (append-nil f.read); known_is = sym (append-nil f.known) }
 
-pub reads_one : (was : List KnownView) (read : ℕ) (known : List KnownView) (read' : ℕ) (x : KnownView) (known' : List KnownView) (read'' : ℕ) → ReadsOn was read known read' →
-    known' ≡ known ++ x ∷ [] → read'' ≡ read' + 1 → ReadsOn was read known' read''
-reads_one was read known read' x known' read'' so_far is next = record {
-  more = so_far.more ++ x ∷ [];
-  known_is = is ∙ ap (λ (l : List KnownView). l ++ x ∷ []) so_far.known_is ∙ append_assoc was so_far.more (x ∷ []);
-  read_is = omega (arith, next, so_far.read_is, length-append so_far.more (x ∷ []));
+pub reads_one : (old new : FaultsView) (x : KnownView) → new.read ≡ old.read ++ x ∷ [] → new.known ≡ old.known ++ x ∷ [] → ReadsOn old new
+reads_one old new x read known = record { more = x ∷ []; read_is = read; known_is = known }
+
+pub reads_more : (first old new : FaultsView) → ReadsOn first old → ReadsOn old new → ReadsOn first new
+reads_more first old new so_far h = record {
+  more = so_far.more ++ h.more;
+  read_is = h.read_is ∙ ap (λ (l : List KnownView). l ++ h.more) so_far.read_is ∙ append_assoc first.read so_far.more h.more;
+  known_is = h.known_is ∙ ap (λ (l : List KnownView). l ++ h.more) so_far.known_is ∙ append_assoc first.known so_far.more h.more;
 }
+
+-- the faults of cells among all that are known
+
+pub none_known : (known : List KnownView) → AreKnown known []
+none_known known i d lt = absurd (omega (arith, lt))
+
+pub still_known : (known read : List KnownView) (x : KnownView) → AreKnown known read → AreKnown (known ++ x ∷ []) read
+still_known known read x are i d lt = Contains-append_left known (x ∷ []) (get_or read i d) (are i d lt)
+
+pub one_known : (known read : List KnownView) (x : KnownView) → AreKnown known read → AreKnown (known ++ x ∷ []) (read ++ x ∷ [])
+one_known known read x are = All-push (Contains (known ++ x ∷ [])) read x (still_known known read x are) (last-one known x)
+
+pub stands_first : (plan : PlanView) (fault : Fault) (known read : List KnownView) → AreKnown known read → StandsFirst plan fault known → StandsFirst plan fault read
+stands_first plan fault known read are first i d lt =
+    let there = are i d lt in All-contains (λ (k : KnownView). k.plan ≡ plan → IsBefore fault.at k.fault.at) known (get_or read i d) first there
+
+pub known_both : (known read known' read' : List KnownView) (x : KnownView) → AreKnown known read → known' ≡ known ++ x ∷ [] → read' ≡ read ++ x ∷ [] → AreKnown known' read'
+known_both known read known' read' x are more further =
+    subst (λ (l : List KnownView). AreKnown l read') (sym more) (subst (AreKnown (known ++ x ∷ [])) (sym further) (one_known known read x are))
+
+pub noted_known : {A E : Type 0} (r : Result A E) (known known' read : List KnownView) (x : KnownView) → OnOk r (known' ≡ known ++ x ∷ []) → OnErr r (known' ≡ known) → AreKnown known read →
+    AreKnown known' read
+noted_known (Ok a) known known' read x grows same are = subst (λ (l : List KnownView). AreKnown l read) (sym grows) (still_known known read x are)
+noted_known (Err e) known known' read x grows same are = subst (λ (l : List KnownView). AreKnown l read) (sym same) are

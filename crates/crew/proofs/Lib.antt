@@ -1,6 +1,7 @@
 pub mod Cutting
 pub mod Dealing
 pub mod Ending
+pub mod Keeping
 pub mod Knowing
 pub mod Looking
 pub mod Mains

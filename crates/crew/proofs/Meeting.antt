@@ -1,11 +1,18 @@
 -- How the hands of a crew meet.
-use Rattle.std.proofs.Common.{◌≡◌, ◌≤◌, ◌+◌, ◌-◌, ◌<◌, ℕ, zero, suc, List, [], ◌∷◌, ◌++◌, Some, length, map, take, drop, set, get_or, refl, sym, ap, ◌∙◌, ap₂, subst, append_assoc, append-nil, length-append, arith}
+use Rattle.std.proofs.Common.{◌≡◌, ◌≤◌, ◌+◌, ◌-◌, ◌<◌, ℕ, zero, suc, true, false, List, [], ◌∷◌, ◌++◌, Option, Some, length, map, take, drop, set, get_or, refl, sym, ap, ◌∙◌, ap₂, subst, append_assoc, append-nil, length-append, arith}
 use Rattle.std.proofs.lemmas.List.{map_more, map-append, drop_more, get_or_at, length-map, length-take, take_at, drop_at}
 use Rattle.std.proofs.lemmas.List.Edits.{map_over_more}
 use Rattle.steal_deck.specs.Ends.{DeckId, ThiefEnd, new_owner, new_thief}
 use Rattle.serial_meaning.specs.Plan.{PlanView}
-use Rattle.strand_machine.specs.Tasks.{TaskView}
-use Rattle.crew.specs.Crews.{AreIdle, AreNew, HaveMet, IsCrewOf, IsDealt, IsNewCrew, FirstIsDealt, first_begins, idle_hands, new_hand, root_task, thief_of, with_thief}
+use Rattle.std.specs.Prelude.{is_none}
+use Rattle.serial_meaning.specs.Answer.{AnswerTag}
+use Rattle.serial_meaning.specs.Eval.{main_origin}
+use Rattle.serial_meaning.specs.declared.origin.Origin.{Origin}
+use Rattle.meet_block.specs.Gives.{GiveView, give_of}
+use Rattle.meet_block.specs.Joined.{Joined, JoinView, joined_with}
+use Rattle.strand_machine.specs.Links.{AreJoinNames, tag}
+use Rattle.strand_machine.specs.Tasks.{TaskView, fresh}
+use Rattle.crew.specs.Crews.{AreIdle, AreNew, HaveMet, IsCrewOf, IsDealt, IsNewCrew, FirstIsDealt, first_begins, idle_hands, new_hand, thief_of, with_thief, AreNewRoots, IsNewRoot}
 use Rattle.crew.specs.Hands.{HandView}
 
 -- a hand while the crew meets: so many thieves of its deck were made, and it has those of these decks
@@ -193,12 +200,12 @@ some-are : (workers : ℕ) (hands : List HandView) → AreIdle workers hands →
 some-are workers hands are few e = omega (arith, few, as-many workers hands are, ap length e)
 
 pub begins : (plan : PlanView) (workers : ℕ) (idle now : List HandView) (d h : HandView) → AreIdle workers idle → now ≡ idle → 1 ≤ workers →
-    h ≡ record (get_or now 0 d) { current = Some (root_task plan) } → IsNewCrew plan workers (set now 0 h)
-begins plan workers idle now d h are same few is = (idle, are, by_hands idle same (some-are workers idle are few))
+    (root : JoinView AnswerTag) (task : TaskView) → IsNewRoot plan root task → h ≡ record (get_or now 0 d) { current = Some task } → IsNewCrew plan workers root (set now 0 h)
+begins plan workers idle now d h are same few root task new is = (task, new, (idle, are, by_hands idle same (some-are workers idle are few)))
   where
-    by_hands : (hs : List HandView) → now ≡ hs → (hs ≡ [] → ⊥) → set now 0 h ≡ first_begins (root_task plan) hs
+    by_hands : (hs : List HandView) → now ≡ hs → (hs ≡ [] → ⊥) → set now 0 h ≡ first_begins task hs
     by_hands [] e some = absurd (some refl)
-    by_hands (x ∷ xs) e some = ap₂ (λ (l : List HandView) y. set l 0 y) e (is ∙ ap (λ (l : List HandView). record (get_or l 0 d) { current = Some (root_task plan) }) e)
+    by_hands (x ∷ xs) e some = ap₂ (λ (l : List HandView) y. set l 0 y) e (is ∙ ap (λ (l : List HandView). record (get_or l 0 d) { current = Some task }) e)
 
 -- or is dealt the root tasks, when it has none
 
@@ -213,11 +220,45 @@ first-has-none workers hands d h (decks, n, are) few is = subst HasNone (sym (is
     by_decks (x ∷ xs) m = (refl, refl)
 
 pub is_dealt : (plans : List PlanView) (workers : ℕ) (tasks : List TaskView) (idle now : List HandView) (d h : HandView) → AreIdle workers idle → now ≡ idle → 1 ≤ workers →
-    tasks ≡ map root_task plans → IsDealt tasks (get_or now 0 d) h → IsCrewOf plans workers (set now 0 h)
-is_dealt plans workers tasks idle now d h are same few all is = (idle, are, by_hands idle same (some-are workers idle are few))
+    (roots : List (JoinView AnswerTag)) → AreNewRoots plans roots tasks → IsDealt tasks (get_or now 0 d) h → IsCrewOf plans workers roots (set now 0 h)
+is_dealt plans workers tasks idle now d h are same few roots new is = (tasks, new, (idle, are, by_hands idle same (some-are workers idle are few)))
   where
-    by_hands : (hs : List HandView) → now ≡ hs → (hs ≡ [] → ⊥) → FirstIsDealt (map root_task plans) hs (set now 0 h)
+    by_hands : (hs : List HandView) → now ≡ hs → (hs ≡ [] → ⊥) → FirstIsDealt tasks hs (set now 0 h)
     by_hands [] e some = absurd (some refl)
     by_hands (x ∷ xs) e some =
-        subst (λ (l : List HandView). FirstIsDealt (map root_task plans) (x ∷ xs) (set l 0 h)) (sym e)
-        (subst (λ (l : List HandView). IsDealt (map root_task plans) (get_or l 0 d) h) e (subst (λ (ts : List TaskView). IsDealt ts (get_or now 0 d) h) all is), refl)
+        subst (λ (l : List HandView). FirstIsDealt tasks (x ∷ xs) (set l 0 h)) (sym e)
+        (subst (λ (l : List HandView). IsDealt tasks (get_or l 0 d) h) e is, refl)
+
+-- The roots of plans
+
+roots-more : (plans : List PlanView) (roots : List (JoinView AnswerTag)) (tasks : List TaskView) (plan : PlanView) (root : JoinView AnswerTag) (task : TaskView) → AreNewRoots plans roots tasks → IsNewRoot plan root task →
+    AreNewRoots (plans ++ plan ∷ []) (roots ++ root ∷ []) (tasks ++ task ∷ [])
+roots-more [] [] [] plan root task are new = (new, tt)
+roots-more [] [] (t ∷ ts) plan root task are new = absurd are
+roots-more [] (r ∷ rs) tasks plan root task are new = absurd are
+roots-more (p ∷ ps) [] tasks plan root task are new = absurd are
+roots-more (p ∷ ps) (r ∷ rs) [] plan root task are new = absurd are
+roots-more (p ∷ ps) (r ∷ rs) (t ∷ ts) plan root task are new = (are.0, roots-more ps rs ts plan root task are.1 new)
+
+pub one-more-root : (plans next : List PlanView) (roots roots' : List (JoinView AnswerTag)) (tasks tasks' : List TaskView) (plan : PlanView) (root : JoinView AnswerTag) (task : TaskView) → AreNewRoots plans roots tasks → IsNewRoot plan root task →
+    next ≡ plans ++ plan ∷ [] → roots' ≡ roots ++ root ∷ [] → tasks' ≡ tasks ++ task ∷ [] → AreNewRoots next roots' tasks'
+one-more-root plans next roots roots' tasks tasks' plan root task are new n r t = rw (n, r, t) (roots-more plans roots tasks plan root task are new)
+
+-- The one child of a root's join is main, whose task has a give of that join.
+pub begins_root : (plan same : PlanView) (o : Origin) (before after : JoinView AnswerTag) (asked : AnswerTag) (give : GiveView AnswerTag) (task : TaskView) → same ≡ plan → o ≡ main_origin same → asked ≡ tag same o →
+    before.children ≡ joined_with [] [] true [] → is_none before.name ≡ false → give ≡ give_of asked before.name →
+    after.children ≡ joined_with (before.children.tags ++ asked ∷ []) (before.children.taken ++ false ∷ []) false before.children.loads → after.name ≡ before.name →
+    task ≡ fresh same o task.joins → AreJoinNames give.join task.joins → IsNewRoot plan after task
+begins_root plan same o before after asked give task of main named new whole is began kept begun joins =
+    let origin : o ≡ main_origin plan = main ∙ ap main_origin of in
+    let key : asked ≡ tag plan (main_origin plan) = named ∙ ap (λ (p : PlanView). tag p o) of ∙ ap (tag plan) origin in
+    record {
+      child = began ∙ ap (λ (j : Joined AnswerTag). joined_with (j.tags ++ asked ∷ []) (j.taken ++ false ∷ []) false j.loads) new
+          ∙ ap (λ (t : AnswerTag). joined_with (t ∷ []) (false ∷ []) false []) key;
+      named = ap is_none kept ∙ whole;
+      begun = begun ∙ ap (λ (p : PlanView). fresh p o task.joins) of ∙ ap (λ (r : Origin). fresh plan r task.joins) origin;
+      joins = subst (λ (name : Option ℕ). AreJoinNames name task.joins) (ap (λ (g : GiveView AnswerTag). g.join) is ∙ sym kept) joins;
+    }
+
+pub tag_given : (give : GiveView AnswerTag) (asked : AnswerTag) (name : Option ℕ) → give ≡ give_of asked name → give.tag ≡ asked
+tag_given give asked name is = ap (λ (g : GiveView AnswerTag). g.tag) is

@@ -1,7 +1,7 @@
 -- The one child of a root.
 use Rattle.std.proofs.Common.{◌≡◌, List, [], ◌∷◌, ◌++◌, Some, length, refl, sym, ap, ◌∙◌, subst, append_assoc, append-nil, arith}
 use Rattle.std.specs.Prelude.{slice_get}
-use Rattle.meet_block.specs.Joined.{Joined}
+use Rattle.meet_block.specs.Joined.{JoinView}
 use Rattle.serial_meaning.specs.Answer.{AnswerTag, AnswerView, IsAnswer, IsEval}
 use Rattle.serial_meaning.specs.Cuts.{MainIsNotCut}
 use Rattle.serial_meaning.specs.Eval.{main_origin}
@@ -9,7 +9,7 @@ use Rattle.serial_meaning.specs.Laws.{IsOriginOf, Main}
 use Rattle.serial_meaning.specs.Plan.{PlanView}
 use Rattle.serial_meaning.specs.Render.{IsWhole}
 use Rattle.serial_meaning.specs.declared.origin.Origin.{Origin}
-use Rattle.strand_machine.specs.Family.{tag}
+use Rattle.strand_machine.specs.Links.{tag}
 use Rattle.crew.specs.Crews.{AreRootAnswers, IsMainAlone}
 
 pub only_one : (tags : List AnswerTag) (t : AnswerTag) → IsMainAlone tags → slice_get tags 0 ≡ Some t → tags ≡ t ∷ []
@@ -30,14 +30,14 @@ root_is plan answered o e = let t : tag plan (main_origin plan) ≡ tag answered
 
 -- Answers of several roots, where those of the roots that are left make them whole
 
-pub one-more-answer : (all left left' : List (Joined AnswerTag)) (root : Joined AnswerTag) (answer : AnswerView) (answers rest : List AnswerView) →
-    ((more : List AnswerView) → AreRootAnswers left more → AreRootAnswers all (answers ++ more)) → left ≡ root ∷ left' → root.tags ≡ tag answer.plan answer.origin ∷ [] →
+pub one-more-answer : (all left left' : List (JoinView AnswerTag)) (root : JoinView AnswerTag) (answer : AnswerView) (answers rest : List AnswerView) →
+    ((more : List AnswerView) → AreRootAnswers left more → AreRootAnswers all (answers ++ more)) → left ≡ root ∷ left' → root.children.tags ≡ tag answer.plan answer.origin ∷ [] →
     IsEval answer.plan answer.origin answer.out answer.outcome → AreRootAnswers left' rest → AreRootAnswers all ((answers ++ answer ∷ []) ++ rest)
 one-more-answer all left left' root answer answers rest was next tagged meant are =
     subst (AreRootAnswers all) (sym (append_assoc answers (answer ∷ []) rest))
-    (was (answer ∷ rest) (subst (λ (rs : List (Joined AnswerTag)). AreRootAnswers rs (answer ∷ rest)) (sym next) (tagged, meant, are)))
+    (was (answer ∷ rest) (subst (λ (rs : List (JoinView AnswerTag)). AreRootAnswers rs (answer ∷ rest)) (sym next) (tagged, meant, are)))
 
-pub no-more-answers : (all left : List (Joined AnswerTag)) (answers : List AnswerView) → length left ≡ 0 →
+pub no-more-answers : (all left : List (JoinView AnswerTag)) (answers : List AnswerView) → length left ≡ 0 →
     ((more : List AnswerView) → AreRootAnswers left more → AreRootAnswers all (answers ++ more)) → AreRootAnswers all answers
 no-more-answers all [] answers none was = subst (AreRootAnswers all) (append-nil answers) (was [] refl)
 no-more-answers all (r ∷ rs) answers none was = absurd (omega (arith, none))

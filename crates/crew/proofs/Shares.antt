@@ -5,11 +5,11 @@ use denote.RattleType.{RattleType}
 use mir.Syntax.{Dict, given}
 use Rattle.once_cell.proofs.race.once_box.OnceBox.TheSendSync as cell_shared
 use Rattle.once_cell.specs.contracts.race.once_box.OnceBox as cell
-use Rattle.meet_block.proofs.known_list.KnownList.TheSendSync as known_list_shared
+use Rattle.contract_views.proofs.known_list.KnownList.TheSendSync as known_list_shared
 use Rattle.std.proofs.Crossing.{Arc-send, Arc-sync, Vec-send, Vec-sync, Deque-send}
 use Rattle.std.proofs.option.Option.TheSendSync as option_shared
 use Rattle.crossbeam_utils.proofs.cache_padded.CachePadded.TheSendSync as padded_shared
-use Rattle.script_grammar.proofs.items.Items.TheSendSync as items_shared
+use Rattle.contract_views.proofs.items.Items.TheSendSync as items_shared
 use Rattle.serial_meaning.proofs.CodeLemmas.Shares.{answer_sends, known_sends, known_syncs}
 use Rattle.serial_meaning.specs.contracts.answer.Answer as answer
 use Rattle.serial_meaning.specs.contracts.keep.All as all
@@ -22,23 +22,27 @@ use Rattle.std_alloc.specs.contracts.arc.Arc as arc
 use Rattle.std_heap.specs.contracts.Global as heap
 use Rattle.std_heap.specs.contracts.GlobalAllocator.TheImpl.{ghosts as heap_ghosts}
 use Rattle.steal_deck.proofs.deck.Deck.TheSendSync as deck_shared
+use Rattle.steal_deck.proofs.deck.Refused.TheSendSync as refused_shared
 use Rattle.steal_deck.proofs.thief.Thief.TheSendSync as thief_shared
+use Rattle.steal_deck.specs.contracts.deck.Refused as refused
 use Rattle.steal_deck.specs.contracts.thief.Thief as thief
 use Rattle.strand_machine.proofs.CodeLemmas.Shares.{task_sends}
-use Rattle.strand_machine.specs.contracts.task.Task as task
 use Rattle.crew.specs.contracts.answered.Answered as answered
 use Rattle.crew.specs.contracts.answered.Answered.TheInside as answered_inside
 use Rattle.crew.specs.contracts.any_hand.AnyHand as any_hand
+use Rattle.crew.specs.contracts.cells.Cells as cells
+use Rattle.crew.specs.contracts.cells.Cells.TheInside as cells_inside
+use Rattle.crew.specs.contracts.entry.Entry as entry
+use Rattle.crew.specs.contracts.entry.Entry.TheInside as entry_inside
 use Rattle.crew.specs.contracts.faults.Faults as faults
+use Rattle.crew.specs.contracts.faults.Faults.TheInside as faults_inside
 use Rattle.crew.specs.contracts.hand.Hand as hand
 use Rattle.crew.specs.contracts.hand.Hand.TheInside as hand_inside
-use Rattle.crew.specs.contracts.held.Held as held
+use Rattle.crew.specs.contracts.hand_state.HandState as hand_state
 use Rattle.crew.specs.contracts.known_faults.KnownFaults as known_faults
 use Rattle.crew.specs.contracts.known_faults.KnownFaults.TheInside as known_faults_inside
 use Rattle.crew.specs.contracts.overflow.Overflow as overflow
 use Rattle.crew.specs.contracts.overflow.Overflow.TheInside as overflow_inside
-use Rattle.crew.specs.contracts.overflow.Refused as refused
-use Rattle.crew.specs.contracts.overflow.Refused.TheInside as refused_inside
 use Rattle.crew.specs.contracts.stalled.Stalled as stalled
 use Rattle.crew.specs.contracts.stalled.Stalled.TheInside as stalled_inside
 
@@ -63,50 +67,59 @@ known_faults_inside_sends = declared_send known_faults_inside.the_type (Vec-send
 known_faults_sends : IsSend known_faults.the_row
 known_faults_sends = view_send known_faults_inside.the_row _ _ _ _ known_faults_inside_sends
 
+cells_inside_sends : IsSend (cells_inside.the_row known.the_row)
+cells_inside_sends =
+    declared_send (cells_inside.the_type known.the_row) (Arc-send _ (Vec-send _ cell_sends) (Vec-sync _ cell_syncs), (search sendable, (known_list_shared.the_send known.the_row, tt)))
+
+cells_sends : IsSend (cells.the_row known.the_row)
+cells_sends = view_send (cells_inside.the_row known.the_row) _ _ _ _ cells_inside_sends
+
+faults_inside_sends : IsSend faults_inside.the_row
+faults_inside_sends = declared_send faults_inside.the_type (cells_sends, (known_faults_sends, (search sendable, tt)))
+
 faults_sends : IsSend faults.the_row
-faults_sends = declared_send faults.the_type (Arc-send _ (Vec-send _ cell_sends) (Vec-sync _ cell_syncs), (search sendable, (known_faults_sends, (search sendable, tt))))
+faults_sends = view_send faults_inside.the_row _ _ _ _ faults_inside_sends
 
 module _ (K : RattleType) (keeps : Ghosts K.Denot) (dict : Dict) where
+  entry_inside_sends : IsSend (entry_inside.the_row K keeps)
+  entry_inside_sends = declared_send (entry_inside.the_type K keeps) (task_sends K keeps dict, (option_shared.the_send shared_known shared_sends, tt))
+
+  entry_sends : IsSend (entry.the_row K keeps)
+  entry_sends = view_send (entry_inside.the_row K keeps) _ _ _ _ entry_inside_sends
+
   stalled_inside_sends : IsSend (stalled_inside.the_row K keeps)
-  stalled_inside_sends = declared_send (stalled_inside.the_type K keeps) (task_sends K keeps dict, tt)
+  stalled_inside_sends = declared_send (stalled_inside.the_type K keeps) (entry_sends, tt)
 
   stalled_sends : IsSend (stalled.the_row K keeps)
   stalled_sends = view_send (stalled_inside.the_row K keeps) _ _ _ _ stalled_inside_sends
 
-  refused_inside_sends : IsSend (refused_inside.the_row K keeps)
-  refused_inside_sends = declared_send (refused_inside.the_type K keeps) (task_sends K keeps dict, tt)
-
-  refused_sends : IsSend (refused.the_row K keeps)
-  refused_sends = view_send (refused_inside.the_row K keeps) _ _ _ _ refused_inside_sends
-
   overflow_inside_sends : IsSend (overflow_inside.the_row K keeps)
   overflow_inside_sends = declared_send (overflow_inside.the_type K keeps) (
-    option_shared.the_send (refused.the_row K keeps) refused_sends,
-    (Vec-send (task.the_row K keeps) (task_sends K keeps dict), tt),
+    option_shared.the_send (refused.the_row (entry.the_row K keeps)) (refused_shared.the_send (entry.the_row K keeps) entry_sends),
+    (Vec-send (entry.the_row K keeps) entry_sends, tt),
   )
 
   overflow_sends : IsSend (overflow.the_row K keeps)
   overflow_sends = view_send (overflow_inside.the_row K keeps) _ _ _ _ overflow_inside_sends
 
-  answered_inside_sends : IsSend (answered_inside.the_row K keeps)
-  answered_inside_sends = declared_send (answered_inside.the_type K keeps) (known_list_shared.the_send (answer.the_row K keeps), tt)
+  answered_inside_sends : IsSend (answered_inside.the_row (answer.the_row K keeps))
+  answered_inside_sends = declared_send (answered_inside.the_type (answer.the_row K keeps)) (known_list_shared.the_send (answer.the_row K keeps), tt)
 
-  answered_sends : IsSend (answered.the_row K keeps)
-  answered_sends = view_send (answered_inside.the_row K keeps) _ _ _ _ answered_inside_sends
+  answered_sends : IsSend (answered.the_row (answer.the_row K keeps))
+  answered_sends = view_send (answered_inside.the_row (answer.the_row K keeps)) _ _ _ _ answered_inside_sends
 
-  held_sends : IsSend (held.the_row K keeps)
-  held_sends =
-      let tasks = task_sends K keeps dict in
-      declared_send (held.the_type K keeps) (
-        option_shared.the_send (task.the_row K keeps) tasks,
+  hand_state_sends : IsSend (hand_state.the_row K keeps)
+  hand_state_sends =
+      declared_send (hand_state.the_type K keeps) (
+        option_shared.the_send (entry.the_row K keeps) entry_sends,
         (
           overflow_sends,
           (
-            deck_shared.the_send (task.the_row K keeps) tasks,
+            deck_shared.the_send (entry.the_row K keeps) entry_sends,
             (
               Deque-send (stalled.the_row K keeps) stalled_sends,
               (
-                Vec-send (thief.the_row (task.the_row K keeps)) (thief_shared.the_send (task.the_row K keeps) tasks),
+                Vec-send (thief.the_row (entry.the_row K keeps)) (thief_shared.the_send (entry.the_row K keeps) entry_sends),
                 (option_shared.the_send _ (items_shared.the_send (answer.the_row K keeps) (answer_sends K keeps)), (faults_sends, (answered_sends, tt))),
               ),
             ),
@@ -115,7 +128,7 @@ module _ (K : RattleType) (keeps : Ghosts K.Denot) (dict : Dict) where
       )
 
   hand_inside_sends : IsSend (hand_inside.the_row K keeps)
-  hand_inside_sends = declared_send (hand_inside.the_type K keeps) (padded_shared.the_send (held.the_row K keeps) held_sends, tt)
+  hand_inside_sends = declared_send (hand_inside.the_type K keeps) (padded_shared.the_send (hand_state.the_row K keeps) hand_state_sends, tt)
 
   hand_sends : IsSend (hand.the_row K keeps)
   hand_sends = view_send (hand_inside.the_row K keeps) _ _ _ _ hand_inside_sends

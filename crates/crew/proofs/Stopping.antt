@@ -15,7 +15,7 @@ use Rattle.serial_meaning.specs.declared.answer.Outcome.TheVariants as outcome
 use Rattle.strand_meaning.specs.Machine.{Effect, Reached, Stands, Gives, move}
 use Rattle.strand_meaning.specs.Trace.{AwaitedChild}
 use Rattle.strand_meaning.specs.Task.{Stage, Running, AtSync, AtLoop, Ended, Remaining, Splits, Runs, Finished, Task, own_instance, MoveOrStop, Passes, Stops, Stop, Spawn, Wait, End, IsNext, Now, Later, stage_after, child_in, stops_at, passing, step_result, ends_unless, faults_after, returned, stage_step, split_step, over_step, remaining_step}
-use Rattle.strand_machine.specs.Family.{tag}
+use Rattle.strand_machine.specs.Links.{GiveView, task_give, tag}
 use Rattle.strand_meaning.specs.Cuts.{IsByFaultOf}
 use Rattle.strand_meaning.specs.Laws.{IsFaultOf}
 use Rattle.strand_machine.specs.Stops.{IsCutEnd, IsResumed, Pauses, Advances}
@@ -65,7 +65,7 @@ module _ (t : Task) where
   at-stage (AtSync m) = refl
   at-stage (AtLoop m) = refl
   at-stage (Ended (Ok v)) = at-value t.origin v
-  at-stage (Ended (Err (Own f))) = at-fault t.trace.handed f
+  at-stage (Ended (Err (Own f))) = at-fault t.trace.unmerged f
   at-stage (Ended (Err (ChildFaulted f))) = at-end t.trace.fault _
 
   at-split : (left : Range) (n : ℕ) → StandsInStep (split_step t left n)
@@ -108,10 +108,10 @@ waits_still t same h at = rw at.0 h
 
 -- What a task gives at its end
 
-pub record GivesOwn (t : TaskView) (answer : AnswerView) (give : AnswerTag) : Type 0 where
+pub record GivesOwn (t : TaskView) (answer : AnswerView) (give : GiveView AnswerTag) : Type 0 where
   pub plan : answer.plan ≡ t.task.plan
   pub origin : answer.origin ≡ t.task.origin
-  pub given : give ≡ tag t.task.plan t.task.origin
+  pub given : give ≡ task_give t.task.plan t.task.origin t.joins
   pub known : IsByFaultOf t.task.plan answer.outcome
 
 by-fault : (plan : PlanView) (ended : Outcome) → IsFaultOf plan ended → IsByFaultOf plan ended
@@ -120,7 +120,7 @@ by-fault plan (outcome.Values vs) h = h
 by-fault plan (outcome.Fault f) h = h
 by-fault plan (outcome.Cut f) h = absurd h
 
-gives-as : (K : Type 0) (c : Option Outcome) (t : TaskView) (answer : AnswerView) (give : AnswerTag) → advances {K = K} c t (stop.Done answer give) → GivesOwn t answer give
+gives-as : (K : Type 0) (c : Option Outcome) (t : TaskView) (answer : AnswerView) (give : GiveView AnswerTag) → advances {K = K} c t (stop.Done answer give) → GivesOwn t answer give
 gives-as K None t answer give at = record { plan = at.keeps.0; origin = at.keeps.1; given = at.keeps.2; known = by-fault t.task.plan answer.outcome at.known }
 gives-as K (Some ended) t answer give at =
     let e = at.is in
@@ -131,23 +131,23 @@ gives-as K (Some ended) t answer give at =
       known = subst (IsByFaultOf t.task.plan) (let o : ended ≡ answer.outcome = (cc) in o) at.known;
     }
 
-gives : {K : Type 0} (t : TaskView) (answer : AnswerView) (give : AnswerTag) → Advances {K = K} t (stop.Done answer give) → GivesOwn t answer give
+gives : {K : Type 0} (t : TaskView) (answer : AnswerView) (give : GiveView AnswerTag) → Advances {K = K} t (stop.Done answer give) → GivesOwn t answer give
 gives {K} t answer give at = gives-as K t.cut t answer give (advances-at {K = K} t (stop.Done answer give) at t.cut refl)
 
-pub gives_its_own : {K : Type 0} (t : TaskView) (answer : AnswerView) (give : AnswerTag) → Advances {K = K} t (stop.Done answer give) → tag answer.plan answer.origin ≡ give
+pub gives_its_own : {K : Type 0} (t : TaskView) (answer : AnswerView) (give : GiveView AnswerTag) → Advances {K = K} t (stop.Done answer give) → tag answer.plan answer.origin ≡ give.tag
 gives_its_own t answer give at =
-    let g = gives t answer give at in ap (λ (p : PlanView). tag p answer.origin) g.plan ∙ ap (tag t.task.plan) g.origin ∙ sym g.given
+    let g = gives t answer give at in ap (λ (p : PlanView). tag p answer.origin) g.plan ∙ ap (tag t.task.plan) g.origin ∙ sym (ap (λ (x : GiveView AnswerTag). x.tag) g.given)
 
-pub ends_by_its_plans : {K : Type 0} (t : TaskView) (answer : AnswerView) (give : AnswerTag) → Advances {K = K} t (stop.Done answer give) → IsByFaultOf answer.plan answer.outcome
+pub ends_by_its_plans : {K : Type 0} (t : TaskView) (answer : AnswerView) (give : GiveView AnswerTag) → Advances {K = K} t (stop.Done answer give) → IsByFaultOf answer.plan answer.outcome
 ends_by_its_plans t answer give at = let g = gives t answer give at in subst (λ (p : PlanView). IsByFaultOf p answer.outcome) (sym g.plan) g.known
 
 -- What was put
 
-pub answers_own : {K : Type 0} (t : TaskView) (answer : AnswerView) (give : AnswerTag) (turn : Turn K) → Advances {K = K} t (stop.Done answer give) → TurnAnswers give turn →
-    TurnAnswers (tag t.task.plan t.task.origin) turn
-answers_own t answer give turn at put = subst (λ (g : AnswerTag). TurnAnswers g turn) (gives t answer give at).given put
+pub answers_own : {K : Type 0} (t : TaskView) (answer : AnswerView) (give : GiveView AnswerTag) (turn : Turn K) → Advances {K = K} t (stop.Done answer give) → TurnAnswers give turn →
+    TurnAnswers (task_give t.task.plan t.task.origin t.joins) turn
+answers_own t answer give turn at put = subst (λ (g : GiveView AnswerTag). TurnAnswers g turn) (gives t answer give at).given put
 
-pub has_put : {K : Type 0} (t : TaskView) (answer : AnswerView) (give : AnswerTag) (before after : List AnswerView) → Advances {K = K} t (stop.Done answer give) → after ≡ before ++ answer ∷ [] →
+pub has_put : {K : Type 0} (t : TaskView) (answer : AnswerView) (give : GiveView AnswerTag) (before after : List AnswerView) → Advances {K = K} t (stop.Done answer give) → after ≡ before ++ answer ∷ [] →
     HasPut K t before after
 has_put t answer give before after at put = record { answer = answer; by = (give, at); put = put }
 
@@ -158,15 +158,19 @@ ends-for K t rest answer goes h (give, at) = (give, ends-so t (paused.Ended rest
 pub put-for : (K : Type 0) (t rest : TaskView) (before after : List AnswerView) → t.cut ≡ None → Pauses {K = K} t (paused.Ended rest) → HasPut K rest before after → HasPut K t before after
 put-for K t rest before after goes h p = record { answer = p.answer; by = ends-for K t rest p.answer goes h p.by; put = p.put }
 
-pub put_on_err : {K E : Type 0} (r : Result (Turn K) E) (t : TaskView) (before after : List AnswerView) → HasPut K t before after → OnErr r (PutsItsEnd K t before after)
+pub put_on_err : {K E : Type 0} (r : Result (Turn K) E) (t : TaskView) (before after : List AnswerView) → HasPut K t before after → OnErr r (HasPut K t before after)
 put_on_err (Ok turn) t before after p = tt
-put_on_err (Err e) t before after p = inl p
+put_on_err (Err e) t before after p = p
+
+pub puts_its_end : {K E : Type 0} (r : Result (Turn K) E) (t : TaskView) (before after : List AnswerView) → OnErr r (HasPut K t before after) → OnErr r (PutsItsEnd K t before after)
+puts_its_end (Ok turn) t before after p = tt
+puts_its_end (Err e) t before after p = inl p
 
 pub puts_none : (K : Type 0) (t : TaskView) (before after : List AnswerView) → t.cut ≡ None → after ≡ before → PutsItsEnd K t before after
 puts_none K t before after goes same = inr (goes, same)
 
-tag-for : {K : Type 0} (t rest : TaskView) → Pauses {K = K} t (paused.Ended rest) → tag rest.task.plan rest.task.origin ≡ tag t.task.plan t.task.origin
-tag-for t rest h = ap (λ (p : PlanView). tag p rest.task.origin) h.stop.keeps.0 ∙ ap (tag t.task.plan) h.stop.keeps.1
+give-for : {K : Type 0} (t rest : TaskView) → Pauses {K = K} t (paused.Ended rest) → task_give rest.task.plan rest.task.origin rest.joins ≡ task_give t.task.plan t.task.origin t.joins
+give-for t rest h = h.stop.keeps.2
 
 module _ (t : TaskView) (old new : HandView) (none : old.current ≡ None) (same : new ≡ record old { answered = new.answered }) where
   with-put : (answer : AnswerView) → new.answered ≡ old.answered ++ answer ∷ [] → new ≡ record old { current = None; answered = old.answered ++ answer ∷ [] }
@@ -175,10 +179,10 @@ module _ (t : TaskView) (old new : HandView) (none : old.current ≡ None) (same
       ∙ ap (λ (l : List AnswerView). record old { answered = l }) put
       ∙ ap (λ (o : Option TaskView). record old { current = o; answered = old.answered ++ answer ∷ [] }) none
 
-  ends-by : {K : Type 0} (turn : Turn K) → TurnAnswers (tag t.task.plan t.task.origin) turn → HasPut K t old.answered new.answered → EndsTask t old turn new
+  ends-by : {K : Type 0} (turn : Turn K) → TurnAnswers (task_give t.task.plan t.task.origin t.joins) turn → HasPut K t old.answered new.answered → EndsTask t old turn new
   ends-by turn answers p = (p.answer, inl p.by, answers, with-put p.answer p.put)
 
-  advances-by : {K : Type 0} (turn : Turn K) → TurnAnswers (tag t.task.plan t.task.origin) turn → HasPut K t old.answered new.answered → AdvancesCurrent t old turn new
+  advances-by : {K : Type 0} (turn : Turn K) → TurnAnswers (task_give t.task.plan t.task.origin t.joins) turn → HasPut K t old.answered new.answered → AdvancesCurrent t old turn new
   advances-by Ran answers put = absurd answers
   advances-by (Answered arrived) answers put = ends-by (Answered arrived) answers put
   advances-by (EndedRoot arrived) answers put = ends-by (EndedRoot arrived) answers put
@@ -188,23 +192,23 @@ module _ (t : TaskView) (old new : HandView) (none : old.current ≡ None) (same
   advances-by Stole answers put = absurd answers
   advances-by Idle answers put = absurd answers
 
-  pub put_advances : {K E : Type 0} (r : Result (Turn K) E) → IfOk r (TurnAnswers (tag t.task.plan t.task.origin)) → HasPut K t old.answered new.answered →
+  pub put_advances : {K E : Type 0} (r : Result (Turn K) E) → IfOk r (TurnAnswers (task_give t.task.plan t.task.origin t.joins)) → HasPut K t old.answered new.answered →
       IfOk r (λ turn. AdvancesCurrent t old turn new)
   put_advances (Ok turn) answers put = advances-by turn answers put
   put_advances (Err e) answers put = tt
 
-  pub end_advances : {K E : Type 0} (rest : TaskView) (r : Result (Turn K) E) → t.cut ≡ None → Pauses {K = K} t (paused.Ended rest) → IfOk r (TurnAnswers (tag rest.task.plan rest.task.origin)) →
+  pub end_advances : {K E : Type 0} (rest : TaskView) (r : Result (Turn K) E) → t.cut ≡ None → Pauses {K = K} t (paused.Ended rest) → IfOk r (TurnAnswers (task_give rest.task.plan rest.task.origin rest.joins)) →
       HasPut K rest old.answered new.answered → IfOk r (λ turn. AdvancesCurrent t old turn new)
   end_advances {K} rest (Ok turn) goes h answers put =
-      advances-by turn (subst (λ (g : AnswerTag). TurnAnswers g turn) (tag-for {K = K} t rest h) answers) (put-for K t rest old.answered new.answered goes h put)
+      advances-by turn (subst (λ (g : GiveView AnswerTag). TurnAnswers g turn) (give-for {K = K} t rest h) answers) (put-for K t rest old.answered new.answered goes h put)
   end_advances rest (Err e) goes h answers put = tt
 
   -- or its answer was a cut
-  cut-by : {K : Type 0} (turn : Turn K) (by : Fault) → MayBeCutBy t by → TurnAnswers (tag t.task.plan t.task.origin) turn → new.answered ≡ old.answered ++ cut_answer t by ∷ [] →
+  cut-by : {K : Type 0} (turn : Turn K) (by : Fault) → MayBeCutBy t by → TurnAnswers (task_give t.task.plan t.task.origin t.joins) turn → new.answered ≡ old.answered ++ cut_answer t by ∷ [] →
       EndsTask t old turn new
   cut-by turn by may answers put = (cut_answer t by, inr (by, may, refl), answers, with-put (cut_answer t by) put)
 
-  pub cut_advances : {K : Type 0} (turn : Turn K) (by : Fault) → t.task.advanced ≡ false → IsCut t.task.plan t.task.origin by → TurnAnswers (tag t.task.plan t.task.origin) turn →
+  pub cut_advances : {K : Type 0} (turn : Turn K) (by : Fault) → t.task.advanced ≡ false → IsCut t.task.plan t.task.origin by → TurnAnswers (task_give t.task.plan t.task.origin t.joins) turn →
       new.answered ≡ old.answered ++ cut_answer t by ∷ [] → AdvancesCurrent t old turn new
   cut_advances Ran by fresh stands answers put = absurd answers
   cut_advances (Answered arrived) by fresh stands answers put = cut-by (Answered arrived) by (fresh, stands) answers put

@@ -9,14 +9,15 @@ use Rattle.strand_meaning.specs.Task.{Task, start, Stop, Spawn, Wait, End}
 use Rattle.sched_meaning.specs.Core.{Worker}
 use Rattle.sched_meaning.specs.Steps.{WorkerRuns, WorkerPops, WorkerPasses}
 use Rattle.steal_deck.specs.Ends.{OwnerEnd, Pops}
+use Rattle.strand_machine.specs.Links.{GiveView}
 use Rattle.strand_machine.specs.Stops.{IsStop, IsCutEnd, IsCutOn, IsResumed, any_cut, looked, view_on, Advances as AdvancesTo}
 use Rattle.strand_machine.proofs.NextStops.ByCut.{advances, advances-at}
 use Rattle.strand_machine.specs.Tasks.{TaskView}
 use Rattle.strand_machine.specs.declared.stop.Stop.{Stop as Stops}
 use Rattle.strand_machine.specs.declared.stop.Stop.TheVariants as stop
 use Rattle.strand_machine.specs.declared.stop.Resumed.TheVariants as resumed
-use Rattle.crew.specs.Hands.{HandView, IsPut, RunsOnward, EndsTask, AdvancesCurrent, IsNewest, IsTurnedOver, ResumesFirst, Seeks, IsTurn, IsTurnFrom, StaysLast, LastGoesOn, LooksNewest}
-use Rattle.crew.specs.Ties.{tasks, worker_of, OwnerLeaves, IsEnd, IsNoEnd, RunsTo, EndsByCut, TakesLast, ResumesAt, PassesAt, LooksBefore, IsTied, IsTiedLook}
+use Rattle.crew.specs.Hands.{HandView, IsPut, RunsOnward, EndsTask, AdvancesCurrent, IsNewest, IsTurnedOver, ResumesFirst, Seeks, IsTurn, IsTurnFrom, StaysLast, LastGoesOn, LooksNewest, LooksOldest}
+use Rattle.crew.specs.Ties.{tasks, worker_of, OwnerLeaves, IsEnd, IsNoEnd, RunsTo, EndsByCut, TakesLast, ResumesAt, PassesAt, LooksBefore, IsTied, IsTiedLook, IsTiedLookFirst}
 use Rattle.crew.specs.declared.hand.Looked.{Looked}
 use Rattle.crew.specs.declared.hand.Looked.TheVariants as looked
 use Rattle.crew.specs.declared.hand.Turn.{Turn}
@@ -107,7 +108,7 @@ module _ (t : TaskView) (old new : HandView) (now : old.current ≡ Some t) wher
     ),
   )
 
-  ran-to-end : {K : Type 0} (answer : AnswerView) (give : AnswerTag) (put : List AnswerView) → IsStop {K = K} t (stop.Done answer give) → new ≡ record old { current = None; answered = put } →
+  ran-to-end : {K : Type 0} (answer : AnswerView) (give : GiveView AnswerTag) (put : List AnswerView) → IsStop {K = K} t (stop.Done answer give) → new ≡ record old { current = None; answered = put } →
       RunsTo IsEnd old new
   ran-to-end answer give put at h = (
     t.task,
@@ -138,7 +139,7 @@ module _ (t : TaskView) (old new : HandView) (now : old.current ≡ Some t) wher
   ran (Some ended) (stop.Wait rest) at h = absurd (let e = at.is in (cc))
   ran (Some ended) (stop.Done answer give) at h = absurd h
 
-  ended : (K : Type 0) (c : Option Outcome) → t.cut ≡ c → (answer : AnswerView) (give : AnswerTag) (put : List AnswerView) → advances {K = K} c t (stop.Done answer give) →
+  ended : (K : Type 0) (c : Option Outcome) → t.cut ≡ c → (answer : AnswerView) (give : GiveView AnswerTag) (put : List AnswerView) → advances {K = K} c t (stop.Done answer give) →
       new ≡ record old { current = None; answered = put } → RunsTo IsEnd old new ⊎ EndsByCut old new
   ended K None e answer give put at h = inl (ran-to-end answer give put at h)
   ended K (Some o) e answer give put at h = inr (t, now, inr (o, e), by-cut put h)
@@ -241,11 +242,12 @@ module _ (old new : HandView) (free : old.current ≡ None) where
         plan = c.plan;
         origin = c.origin;
         prefix = c.prefix;
-        handed = c.handed;
+        unmerged = c.unmerged;
         waits = c.waits;
         advanced = c.advanced;
         cut = c.cut;
         children = c.children;
+        joins = c.joins;
       }
 
       by : (cut : Bool) → any_cut answers ≡ cut → ResumesAt place left old new
@@ -253,26 +255,26 @@ module _ (old new : HandView) (free : old.current ≡ None) where
       by true e = inr (t, next, answers, cut-on (is.cut e).0, free, there, h)
 
   -- the hand after a look at the front of its stalled tasks that was in vain
-  passed : (mid : HandView) → mid.current ≡ old.current → mid.overflow ≡ old.overflow → (stalled : List TaskView) → old.stalled ≡ stalled → IsTurnedOver stalled mid.stalled → PassesAt 0 [] old mid
-  passed mid c k [] e h = absurd h
-  passed mid c k (t ∷ ts) e (same, stays, after) =
-      (t.task, passes 0 [] t same mid (ap (λ l. slice_get l 0) e) stays.0 c k (after ∙ ap (λ l. remove l 0 ++ same ∷ []) (sym e)))
+  passed : (left : List TaskView) (mid : HandView) → mid.current ≡ old.current → mid.overflow ≡ old.overflow → (stalled : List TaskView) → old.stalled ≡ stalled → IsTurnedOver stalled mid.stalled → PassesAt 0 left old mid
+  passed left mid c k [] e h = absurd h
+  passed left mid c k (t ∷ ts) e (same, stays, after) =
+      (t.task, passes 0 left t same mid (ap (λ l. slice_get l 0) e) stays.0 c k (after ∙ ap (λ l. remove l 0 ++ same ∷ []) (sym e)))
 
-  goes : (t : TaskView) (stalled : List TaskView) → old.stalled ≡ stalled → ResumesFirst stalled t new.stalled → new ≡ record old { current = Some t; deck = new.deck; stalled = new.stalled } →
-      ResumesAt 0 [] old new
-  goes t [] e h is = absurd h
-  goes t (first ∷ ts) e (on, after) is =
-      resumes-at 0 [] first t (ap (λ l. slice_get l 0) e) on
+  goes : (left : List TaskView) (t : TaskView) (stalled : List TaskView) → old.stalled ≡ stalled → ResumesFirst stalled t new.stalled → new ≡ record old { current = Some t; deck = new.deck; stalled = new.stalled } →
+      ResumesAt 0 left old new
+  goes left t [] e h is = absurd h
+  goes left t (first ∷ ts) e (on, after) is =
+      resumes-at 0 left first t (ap (λ l. slice_get l 0) e) on
       (is ∙ ap (λ l. record old { current = Some t; deck = new.deck; stalled = l }) (after ∙ ap (λ l. remove l 0) (sym e)))
 
   -- a look in vain where a task waits, before a steal
   looks-first : ((old.stalled ≡ []) × (new.stalled ≡ [])) ⊎ IsTurnedOver old.stalled new.stalled → LooksBefore (worker_of [] old) (worker_of [] (record old { stalled = new.stalled }))
   looks-first (inl (none, still)) = inl (ap tasks none, ap (λ l. worker_of [] (record old { stalled = l })) (still ∙ sym none))
-  looks-first (inr over) = inr (passed (record old { stalled = new.stalled }) refl refl old.stalled refl over)
+  looks-first (inr over) = inr (passed [] (record old { stalled = new.stalled }) refl refl old.stalled refl over)
 
   sought : {K : Type 0} (turn : Turn K) → Seeks old turn new → IsTied old turn new
   sought Popped (t, newest, h) = popped t newest h
-  sought Resumed (t, none, on, h) = (none.1, goes t old.stalled refl on h)
+  sought Resumed (t, none, on, h) = (none.1, goes [] t old.stalled refl on h)
   sought Stole (t, none, over, steals, h) = (
     none.1,
     (
@@ -291,7 +293,7 @@ module _ (old new : HandView) (free : old.current ≡ None) where
     ),
   )
   sought Waiting (none, over, steals, h) =
-      (none.1, passed new (ap (λ (x : HandView). x.current) h) (ap (λ (x : HandView). x.overflow) h) old.stalled refl over)
+      (none.1, passed [] new (ap (λ (x : HandView). x.current) h) (ap (λ (x : HandView). x.overflow) h) old.stalled refl over)
   sought Idle (none, stalled, steals, h) = (
     none.1,
     worker-is [] old _ _ _ was-free (ap tasks none.0) (ap tasks stalled),
@@ -353,3 +355,11 @@ pub tied_look : (old : HandView) (found : Looked) (new : HandView) → LooksNewe
 tied_look old looked.Nothing new h = h.0
 tied_look old looked.Waits new (free, stays-last, h) = stays old new old.stalled refl free stays-last h
 tied_look old looked.Resumes new (t, free, last, h) = goes-last old new t free last h
+
+pub tied_oldest : (old : HandView) (found : Looked) (new : HandView) → LooksOldest old found new → IsTiedLookFirst old found new
+tied_oldest old looked.Nothing new h = h.0
+tied_oldest old looked.Waits new (free, over, h) = λ left.
+    passed old new free left new (ap (λ (x : HandView). x.current) h) (ap (λ (x : HandView). x.overflow) h) old.stalled refl over
+tied_oldest old looked.Resumes new (t, free, first, h) = λ left.
+    goes old new free left t old.stalled refl first
+    (h ∙ ap (λ d. record old { current = Some t; deck = d; stalled = new.stalled }) (sym (ap (λ (x : HandView). x.deck) h)))

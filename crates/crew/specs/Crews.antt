@@ -1,11 +1,11 @@
 -- How a crew begins.
-use Rattle.std.specs.Prelude.{◌≡◌, ◌≤◌, ◌⊎◌, ℕ, ◌+◌, List, [], ◌∷◌, ◌++◌, false, Some, None, length, map, reverse}
+use Rattle.std.specs.Prelude.{◌≡◌, ◌≤◌, ◌⊎◌, ℕ, ◌+◌, List, [], ◌∷◌, ◌++◌, false, Some, None, is_none, length, map, reverse}
 use Rattle.serial_meaning.specs.Answer.{AnswerTag, AnswerView, IsEval}
 use Rattle.serial_meaning.specs.Eval.{main_origin}
 use Rattle.serial_meaning.specs.Plan.{PlanView}
 use Rattle.steal_deck.specs.Ends.{DeckId, ThiefEnd, new_owner, new_thief}
-use Rattle.meet_block.specs.Joined.{Joined, joined_with}
-use Rattle.strand_machine.specs.Family.{tag}
+use Rattle.meet_block.specs.Joined.{Joined, JoinView, joined_with}
+use Rattle.strand_machine.specs.Links.{AreJoinNames, tag}
 use Rattle.strand_machine.specs.Tasks.{TaskView, fresh}
 use Rattle.crew.specs.Hands.{HandView, IsRoots}
 
@@ -15,12 +15,22 @@ IsMainAlone [] = ⊥
 IsMainAlone (t ∷ []) = IsRoots t
 IsMainAlone (t ∷ u ∷ us) = ⊥
 
--- the root of a plan, whose answer wasn't put, and its task
+-- the child of the root of a plan, whose answer wasn't put
 abbrev pub new_root : PlanView → Joined AnswerTag
 new_root plan = joined_with (tag plan (main_origin plan) ∷ []) (false ∷ []) false []
 
-abbrev pub root_task : PlanView → TaskView
-root_task plan = fresh plan (main_origin plan)
+-- Such a root, and its task, of which nothing is done. The task's give is of the root's join, which isn't detached.
+pub record IsNewRoot (plan : PlanView) (root : JoinView AnswerTag) (task : TaskView) : Type 0 where
+  pub child : root.children ≡ new_root plan
+  pub named : is_none root.name ≡ false
+  pub begun : task ≡ fresh plan (main_origin plan) task.joins
+  pub joins : AreJoinNames root.name task.joins
+
+-- the same of a root and a task of each plan
+abbrev pub AreNewRoots : List PlanView → List (JoinView AnswerTag) → List TaskView → Type 0
+AreNewRoots [] [] [] = Unit {0}
+AreNewRoots (p ∷ ps) (r ∷ rs) (t ∷ ts) = IsNewRoot p r t × AreNewRoots ps rs ts
+AreNewRoots _ _ _ = ⊥
 
 -- a hand that has nothing, and no thieves
 abbrev pub new_hand : DeckId → HandView
@@ -67,9 +77,10 @@ abbrev pub first_begins : TaskView → List HandView → List HandView
 first_begins task [] = []
 first_begins task (h ∷ hs) = record h { current = Some task } ∷ hs
 
--- A crew of so many hands before its first turn: main's task is the first hand's, and there is no other.
-abbrev pub IsNewCrew : PlanView → ℕ → List HandView → Type 0
-IsNewCrew plan workers hands = (idle : List HandView) × AreIdle workers idle × (hands ≡ first_begins (root_task plan) idle)
+-- A crew of so many hands before its first turn: the root's task is the first hand's, and there is no other.
+abbrev pub IsNewCrew : PlanView → ℕ → JoinView AnswerTag → List HandView → Type 0
+IsNewCrew plan workers root hands =
+    (task : TaskView) × IsNewRoot plan root task × ((idle : List HandView) × AreIdle workers idle × (hands ≡ first_begins task idle))
 
 -- These tasks were put after all others of a hand that had none, the last of them first: each was pushed on its deck, but from the first push
 -- on that was refused they stand in its private list. No push among the first 64 is refused.
@@ -86,11 +97,12 @@ FirstIsDealt tasks (h ∷ hs) (first ∷ others) = IsDealt tasks h first × (oth
 
 -- A crew of so many hands before its first turn, with a root of each plan: the root tasks are the first hand's, the first plan's to be taken
 -- up first, and there is no other.
-abbrev pub IsCrewOf : List PlanView → ℕ → List HandView → Type 0
-IsCrewOf plans workers hands = (idle : List HandView) × AreIdle workers idle × FirstIsDealt (map root_task plans) idle hands
+abbrev pub IsCrewOf : List PlanView → ℕ → List (JoinView AnswerTag) → List HandView → Type 0
+IsCrewOf plans workers roots hands =
+    (tasks : List TaskView) × AreNewRoots plans roots tasks × ((idle : List HandView) × AreIdle workers idle × FirstIsDealt tasks idle hands)
 
 -- Each of these is the answer of a root: it has its tag, and is no cut but the serial meaning.
-abbrev pub AreRootAnswers : List (Joined AnswerTag) → List AnswerView → Type 0
+abbrev pub AreRootAnswers : List (JoinView AnswerTag) → List AnswerView → Type 0
 AreRootAnswers [] answers = answers ≡ []
 AreRootAnswers (r ∷ rs) [] = ⊥
-AreRootAnswers (r ∷ rs) (a ∷ answers) = (r.tags ≡ tag a.plan a.origin ∷ []) × IsEval a.plan a.origin a.out a.outcome × AreRootAnswers rs answers
+AreRootAnswers (r ∷ rs) (a ∷ answers) = (r.children.tags ≡ tag a.plan a.origin ∷ []) × IsEval a.plan a.origin a.out a.outcome × AreRootAnswers rs answers

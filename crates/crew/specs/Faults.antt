@@ -1,5 +1,5 @@
 -- What a hand knows of the faults that its crew met.
-use Rattle.std.specs.Prelude.{◌≡◌, ℕ, ◌+◌, ◌<◌, List, ◌++◌, All, Contains, length, slice_index_or}
+use Rattle.std.specs.Prelude.{◌≡◌, ℕ, ◌<◌, List, ◌++◌, All, Contains, length, slice_index_or}
 use Rattle.ped_path.specs.Path.{IsBefore}
 use Rattle.serial_meaning.specs.Answer.{KnownView}
 use Rattle.serial_meaning.specs.Plan.{PlanView}
@@ -29,8 +29,17 @@ pub record AreLeast (known least : List KnownView) : Type 0 where
   pub of_each : All (HasOneUpTo least) known
   pub once : (i j : ℕ) (d : KnownView) → i < length least → j < length least → (slice_index_or least i d).plan ≡ (slice_index_or least j d).plan → i ≡ j
 
--- So many more cells were read, and the fault of each is known.
-pub record ReadsOn (was : List KnownView) (read : ℕ) (known : List KnownView) (read' : ℕ) : Type 0 where
+-- All of these are known.
+abbrev pub AreKnown : List KnownView → List KnownView → Type 0
+AreKnown known faults = All (Contains known) faults
+
+-- the faults of the cells that a hand has read, and all that it knows, each in order
+pub record FaultsView : Type 0 where
+  pub read : List KnownView
+  pub known : List KnownView
+
+-- More cells were read, and nothing but their faults came to be known.
+pub record ReadsOn (old new : FaultsView) : Type 0 where
   pub more : List KnownView
-  pub known_is : known ≡ was ++ more
-  pub read_is : read' ≡ read + length more
+  pub read_is : new.read ≡ old.read ++ more
+  pub known_is : new.known ≡ old.known ++ more

@@ -6,15 +6,13 @@ use Rattle.serial_meaning.specs.declared.event.Fault.{Fault}
 use Rattle.serial_meaning.specs.declared.keep.All.{All}
 use Rattle.serial_meaning.specs.declared.answer.Outcome.TheVariants as outcome
 use Rattle.steal_deck.specs.Ends.{OwnerEnd, ThiefEnd, risen, Pushes, Pops, FindsNone, Steals}
-use Rattle.strand_machine.specs.Family.{tag}
+use Rattle.strand_machine.specs.Links.{GiveView, task_give}
 use Rattle.strand_machine.specs.Stops.{IsResumed, Advances as AdvancesTo}
 use Rattle.strand_machine.specs.Tasks.{TaskView}
 use Rattle.strand_machine.specs.declared.stop.Stop.{Stop}
 use Rattle.strand_machine.specs.declared.stop.Stop.TheVariants as stop
 use Rattle.strand_machine.specs.declared.stop.Resumed.TheVariants as resumed
-use Rattle.crew.specs.declared.held.Held.{Held}
-use Rattle.crew.specs.declared.steps.TakeUp.{TakeUp}
-use Rattle.crew.specs.declared.steps.TakeUp.TheVariants as found
+use Rattle.crew.specs.declared.hand_state.HandState.{HandState}
 use Rattle.crew.specs.declared.hand.Looked.{Looked}
 use Rattle.crew.specs.declared.hand.Looked.TheVariants as looked
 use Rattle.crew.specs.declared.hand.Turn.{Turn}
@@ -30,7 +28,7 @@ pub record HandView : Type 0 where
   pub thieves : List (ThiefEnd TaskView)
   pub answered : List AnswerView
 
-abbrev pub view_of : {K : Type 0} → Held K → HandView
+abbrev pub view_of : {K : Type 0} → HandState K → HandView
 view_of h = record { current = h.current; overflow = h.overflow; deck = h.deck; stalled = h.stalled.items; thieves = h.thieves.items; answered = h.answered }
 
 -- The steps of a turn
@@ -60,15 +58,15 @@ RunsOnward (stop.Done answer give) old new = ⊥
 abbrev pub IsRoots : AnswerTag → Type 0
 IsRoots asked = asked.origin ≡ main_origin asked.plan
 
--- The answer for this tag was put, a root's or another's.
-abbrev pub TurnAnswers : {K : Type 0} → AnswerTag → Turn K → Type 0
-TurnAnswers asked (Answered arrived) = (arrived ≡ asked) × (IsRoots asked → ⊥)
-TurnAnswers asked (Ended arrived) = (arrived ≡ asked) × IsRoots asked
-TurnAnswers asked _ = ⊥
+-- The answer for this give was put by it, a root's or another's.
+abbrev pub TurnAnswers : {K : Type 0} → GiveView AnswerTag → Turn K → Type 0
+TurnAnswers give (Answered arrived) = (arrived ≡ give) × (IsRoots give.tag → ⊥)
+TurnAnswers give (Ended arrived) = (arrived ≡ give) × IsRoots give.tag
+TurnAnswers give _ = ⊥
 
 -- The task comes to its end, and this is its answer: a cut only where it took one.
 abbrev pub EndsBy : (K : Type 0) → TaskView → AnswerView → Type 0
-EndsBy K t answer = (give : AnswerTag) × AdvancesTo {K = K} t (stop.Done answer give)
+EndsBy K t answer = (give : GiveView AnswerTag) × AdvancesTo {K = K} t (stop.Done answer give)
 
 -- It does, and its answer was put.
 pub record HasPut (K : Type 0) (t : TaskView) (before after : List AnswerView) : Type 0 where
@@ -90,10 +88,10 @@ cut_answer t by = record { plan = t.task.plan; origin = t.task.origin; out = [];
 abbrev pub IsCutTo : TaskView → AnswerView → Type 0
 IsCutTo t answer = (by : Fault) × MayBeCutBy t by × (answer ≡ cut_answer t by)
 
--- The task came to its end or was cut. Its answer was put, and no other.
+-- The task came to its end or was cut. Its answer was put by its give, and no other.
 abbrev pub EndsTask : {K : Type 0} → TaskView → HandView → Turn K → HandView → Type 0
 EndsTask {K} t old turn new =
-    (answer : AnswerView) × (EndsBy K t answer ⊎ IsCutTo t answer) × TurnAnswers (tag t.task.plan t.task.origin) turn
+    (answer : AnswerView) × (EndsBy K t answer ⊎ IsCutTo t answer) × TurnAnswers (task_give t.task.plan t.task.origin t.joins) turn
     × (new ≡ record old { current = None; answered = old.answered ++ answer ∷ [] })
 
 -- What a turn does with the current task. One that took a cut for an answer comes to no other stop than its end.
@@ -130,16 +128,16 @@ ResumesFirst [] next after = ⊥
 ResumesFirst (t ∷ ts) next after = IsResumed {K = All} t (resumed.On next) × (after ≡ ts)
 
 -- What a look at a task that was stalled made of the hand.
-abbrev pub TakesUp : TaskView → HandView → TakeUp → HandView → Type 0
-TakesUp t old found.NoneThere new = ⊥
-TakesUp t old found.Waits new = (same : TaskView) × IsResumed {K = All} t (resumed.NotYet same) × (new ≡ record old { stalled = old.stalled ++ same ∷ [] })
-TakesUp t old found.Resumes new = (next : TaskView) × IsResumed {K = All} t (resumed.On next) × (new ≡ record old { current = Some next })
+abbrev pub LooksAt : TaskView → HandView → Looked → HandView → Type 0
+LooksAt t old looked.Nothing new = ⊥
+LooksAt t old looked.Waits new = (same : TaskView) × IsResumed {K = All} t (resumed.NotYet same) × (new ≡ record old { stalled = old.stalled ++ same ∷ [] })
+LooksAt t old looked.Resumes new = (next : TaskView) × IsResumed {K = All} t (resumed.On next) × (new ≡ record old { current = Some next })
 
 -- What a look at the front of the stalled tasks found.
-abbrev pub Looks : HandView → TakeUp → HandView → Type 0
-Looks old found.NoneThere new = (old.stalled ≡ []) × (new ≡ old)
-Looks old found.Waits new = IsTurnedOver old.stalled new.stalled × (new ≡ record old { stalled = new.stalled })
-Looks old found.Resumes new = (t : TaskView) × ResumesFirst old.stalled t new.stalled × (new ≡ record old { current = Some t; stalled = new.stalled })
+abbrev pub Looks : HandView → Looked → HandView → Type 0
+Looks old looked.Nothing new = (old.stalled ≡ []) × (new ≡ old)
+Looks old looked.Waits new = IsTurnedOver old.stalled new.stalled × (new ≡ record old { stalled = new.stalled })
+Looks old looked.Resumes new = (t : TaskView) × ResumesFirst old.stalled t new.stalled × (new ≡ record old { current = Some t; stalled = new.stalled })
 
 -- a thief whose steal took nothing
 abbrev pub missed : ThiefEnd TaskView → ThiefEnd TaskView
@@ -206,3 +204,10 @@ LooksNewest old looked.Nothing new = (new ≡ old) × (old.current ≡ None → 
 LooksNewest old looked.Waits new = (old.current ≡ None) × StaysLast old.stalled new.stalled × (new ≡ record old { stalled = new.stalled })
 LooksNewest old looked.Resumes new =
     (t : TaskView) × (old.current ≡ None) × LastGoesOn old.stalled t new.stalled × (new ≡ record old { current = Some t; stalled = new.stalled })
+
+-- The same of a look at their front. Where that task still waits it goes to their end.
+abbrev pub LooksOldest : HandView → Looked → HandView → Type 0
+LooksOldest old looked.Nothing new = (new ≡ old) × (old.current ≡ None → old.stalled ≡ [])
+LooksOldest old looked.Waits new = (old.current ≡ None) × IsTurnedOver old.stalled new.stalled × (new ≡ record old { stalled = new.stalled })
+LooksOldest old looked.Resumes new =
+    (t : TaskView) × (old.current ≡ None) × ResumesFirst old.stalled t new.stalled × (new ≡ record old { current = Some t; stalled = new.stalled })

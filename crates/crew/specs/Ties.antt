@@ -92,3 +92,9 @@ abbrev pub IsTiedLook : HandView → Looked → HandView → Type 0
 IsTiedLook old looked.Nothing new = new ≡ old
 IsTiedLook old looked.Waits new = (place : ℕ) × (place + 1 ≡ length old.stalled) × ((left : List TaskView) → PassesAt place left old new)
 IsTiedLook old looked.Resumes new = (place : ℕ) × (place + 1 ≡ length old.stalled) × ((left : List TaskView) → ResumesAt place left old new)
+
+-- The same of a look at the first place.
+abbrev pub IsTiedLookFirst : HandView → Looked → HandView → Type 0
+IsTiedLookFirst old looked.Nothing new = new ≡ old
+IsTiedLookFirst old looked.Waits new = (left : List TaskView) → PassesAt 0 left old new
+IsTiedLookFirst old looked.Resumes new = (left : List TaskView) → ResumesAt 0 left old new

@@ -1,34 +1,29 @@
 // The answers that a hand has put.
 ghost use Rattle.std.specs.Prelude.{◌≡◌, [], ◌∷◌, ◌++◌};
-ghost use Rattle.strand_machine.specs.Family.{tag};
 
-use meet_block::{Arrived, Give, KnownList};
-use serial_meaning::{Answer, Keep};
+use contract_views::{KnownList, Tagged};
+use meet_block::{Arrived, Give};
 use std::marker::Model;
 use std::mem;
 
-/// The answers that a hand has put, in order. It is for clauses alone, and has no bytes. Nothing but a put adds to it.
+// The answers that a hand has put, in order. It exists for clauses only, and has no bytes. Only a put adds to it; since
+// it is generic, what is put can't be anything but what is added.
 #[derive(Drop)]
-pub(crate) struct Answered<K: Keep> {
-    put: KnownList<Answer<K>>,
+pub(crate) struct Answered<A> {
+    put: KnownList<A>,
 }
 
-impl<K: Keep> Model for Answered<K> {
+impl<A> Model for Answered<A> {
     ghost use Rattle.std.specs.Prelude.{List};
-    ghost use Rattle.std.specs.Coded.{codes};
-    ghost use Rattle.serial_meaning.specs.contracts.plan.Plan as plan_type;
-    ghost use Rattle.serial_meaning.specs.Answer.{AnswerView};
 
-    ghost Value = { List AnswerView };
-
-    ghost coded = { Prim.hlevel (codes, plan_type.the_row.coded) };
+    ghost Value = { List A };
 
     ghost view = { λ a. a.put.items };
 }
 
-impl<K: Keep> Answered<K> {
-    /// None was put.
-    pub fn none() -> Answered<K>
+impl<A: Tagged + Drop> Answered<A> {
+    // None was put.
+    pub fn none() -> Answered<A>
         ensures { result ≡ [] }
     {
         Answered {
@@ -36,10 +31,10 @@ impl<K: Keep> Answered<K> {
         }
     }
 
-    /// Puts the answer.
+    // Puts the answer.
     #[inline(always)]
-    pub fn put(&mut self, answer: Answer<K>, give: Give<Answer<K>>) -> Arrived<Answer<K>>
-        requires { give ≡ tag answer.plan answer.origin }
+    pub fn put(&mut self, answer: A, give: Give<A>) -> Arrived<A>
+        requires { A.tag answer ≡ give.tag }
         ensures put { self.new ≡ self.old ++ answer ∷ [] }
         ensures arrived { result ≡ give }
     {

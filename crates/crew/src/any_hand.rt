@@ -4,7 +4,7 @@ use crate::memory::Memory;
 use serial_meaning::Prints;
 use std::alloc::Global;
 
-/// A hand, whatever its tasks keep.
+// A hand, whatever its tasks keep.
 #[derive(Drop)]
 pub(crate) enum AnyHand {
     All(Hand),

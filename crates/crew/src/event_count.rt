@@ -3,14 +3,14 @@ use std::sync::Wait;
 use std::sync::atomic::{AtomicU64, Ordering};
 use std::time::Duration;
 
-/// An event count: a hand says that it will wait, looks once more for what it waits for, and then waits unless an event came meanwhile. Who
-/// changed something looks afterwards whether any hand has said so. Since each of the two writes before it reads, one of them sees the
-/// other: no event is lost.
+// An event count: a hand says that it will wait, looks once more for what it waits for, and then waits unless an event came meanwhile. Who
+// changed something looks afterwards whether any hand has said so. Since each of the two writes before it reads, one of them sees the
+// other: no event is lost.
 #[derive(Drop)]
 pub(crate) struct EventCount {
-    /// How many events came.
+    // How many events came.
     events: CachePadded<AtomicU64>,
-    /// So many hands wait, or have said that they will.
+    // How many hands wait, or have said that they will.
     waiters: CachePadded<AtomicU64>,
 }
 
@@ -40,7 +40,7 @@ impl EventCount {
         waiters.fetch_sub(1, Ordering::SeqCst);
     }
 
-    /// Sleeps while there were so many events, and for so many microseconds at most. Says whether there were more.
+    /// Sleeps while the count of events stays at `since`, for at most `micros` microseconds. Returns whether it rose.
     pub fn wait<R: Wait>(&self, rt: &R, since: u64, micros: u64) -> bool {
         let events: &AtomicU64 = &self.events;
         events.park_timeout(

@@ -1,13 +1,14 @@
 use crate::answered::Answered;
+use crate::entry::Entry;
 use crate::faults::Faults;
 use crate::gate::Gate;
-use crate::held::Held;
+use crate::hand_state::HandState;
 use crate::memory::Memory;
 use crate::overflow::Overflow;
 use crate::steps;
+use contract_views::Items;
 use crossbeam_utils::CachePadded;
 use meet_block::Arrived;
-use script_grammar::Items;
 use serial_meaning::{All, Answer, Keep};
 use std::alloc::Global;
 use std::collections::VecDeque;
@@ -24,19 +25,19 @@ pub enum Turn<K: Keep = All> {
     Answered(Arrived<Answer<K>>),
     /// A root's task ended, and its answer was put. With the last root the run is over.
     Ended(Arrived<Answer<K>>),
-    /// A task of the hand's own was taken up, the newest.
+    /// The newest of the hand's own ready tasks became current.
     Popped,
-    /// The task at the front of the stalled tasks goes on, since all of its children have answered.
+    /// The task at the front of the stalled tasks became current, since all its children have answered.
     Resumed,
     /// The task at the front of the stalled tasks still waits, and nothing was stolen.
     Waiting,
-    /// A task of another hand was taken up.
+    /// A task of another hand was stolen.
     Stole,
     /// The hand has no task at all, and nothing was stolen.
     Idle,
 }
 
-/// What a look at the newest stalled task of a hand found.
+/// What a look at a stalled task of a hand found.
 #[derive(Drop)]
 pub enum Looked {
     /// The hand has a current task, or none that is stalled.
@@ -51,12 +52,12 @@ pub enum Looked {
 #[derive(Drop)]
 pub struct Hands<K: Keep = All>(pub Items<Hand<K>>);
 
-/// One worker of a crew, with the tasks that it has. It goes to one thread at a time, and stands on cache lines of its own.
+/// One worker of a crew, with its tasks. It belongs to one thread at a time, and has cache lines of its own.
 ///
 /// A clause sees it as a `HandView` (`specs/Hands.antt`).
 #[derive(Drop)]
 pub struct Hand<K: Keep = All> {
-    pub(crate) held: CachePadded<Held<K>>,
+    pub(crate) state: CachePadded<HandState<K>>,
 }
 
 impl<K: Keep> Model for Hand<K> {
@@ -70,19 +71,19 @@ impl<K: Keep> Model for Hand<K> {
 
     ghost coded = { Prim.hlevel (codes, statement_type.the_row.coded, plan_type.the_row.coded) };
 
-    ghost view = { λ h. view_of (padded_value h.held) };
+    ghost view = { λ h. view_of (padded_value h.state) };
 
-    ghost invariant = { λ h. let v = view_of (padded_value h.held) in IsLate v.overflow v.deck };
+    ghost invariant = { λ h. let v = view_of (padded_value h.state) in IsLate v.overflow v.deck };
 }
 
 impl<K: Keep> Hand<K> {
     ghost use Rattle.std.specs.Prelude.{◌≡◌, [], IfOk, OnOk, OnErr, Some, None, length};
     ghost use Rattle.steal_deck.specs.Ends.{new_thief};
     ghost use Rattle.crew.specs.Crews.{new_hand, with_thief, IsDealt};
-    ghost use Rattle.crew.specs.Hands.{IsTurn, LooksNewest, IsLate, PutsEndOf};
-    ghost use Rattle.crew.specs.Ties.{IsTied, IsTiedLook};
+    ghost use Rattle.crew.specs.Hands.{IsTurn, LooksNewest, LooksOldest, IsLate, PutsEndOf};
+    ghost use Rattle.crew.specs.Ties.{IsTied, IsTiedLook, IsTiedLookFirst};
 
-    /// A hand without a task. It has no thieves yet.
+    // A hand without a task. It has no thieves yet.
     pub(crate) fn new(alloc: Global, faults: Faults) -> Result<Hand<K>, Memory>
         ensures { IfOk result (λ hand. hand ≡ new_hand hand.deck.deck) }
     {
@@ -91,7 +92,7 @@ impl<K: Keep> Hand<K> {
             return Err(Memory);
         };
         Ok(Hand {
-            held: CachePadded::new(Held {
+            state: CachePadded::new(HandState {
                 current: None,
                 overflow: Overflow::none(alloc),
                 deck,
@@ -104,53 +105,53 @@ impl<K: Keep> Hand<K> {
         })
     }
 
-    /// A thief of this hand's deck.
-    pub(crate) fn thief(&mut self) -> Result<Thief<Task<K>>, Memory>
+    // A thief of this hand's deck.
+    pub(crate) fn thief(&mut self) -> Result<Thief<Entry<K>>, Memory>
         ensures thief { IfOk result (λ thief. thief ≡ new_thief self.old.deck.deck) }
         ensures made { OnOk result (self.new ≡ with_thief self.old) }
     {
-        self.held.deck.thief().map_err(|_| Memory)
+        self.state.deck.thief().map_err(|_| Memory)
     }
 
-    /// These are its thieves.
-    pub(crate) fn set_thieves(&mut self, thieves: Vec<Thief<Task<K>>>)
+    // These are its thieves.
+    pub(crate) fn set_thieves(&mut self, thieves: Vec<Thief<Entry<K>>>)
         ensures { self.new ≡ record self.old { thieves = thieves.items } }
     {
-        self.held.thieves = thieves;
+        self.state.thieves = thieves;
     }
 
-    /// How many of its tasks wait for children.
+    // How many of its tasks wait for children.
     pub(crate) fn stalled_count(&self) -> usize
         ensures { result ≡ length self.now.stalled }
     {
-        self.held.stalled.len()
+        self.state.stalled.len()
     }
 
-    /// Whether the last task was cut that it might have cut.
+    // Whether the last cancellation check cancelled.
     pub(crate) fn cuts(&self) -> bool {
-        self.held.faults.cuts()
+        self.state.faults.cuts()
     }
 
-    /// The task is its current one.
+    // The task is its current one.
     pub(crate) fn set_current(&mut self, task: Task<K>)
         ensures { self.new ≡ record self.old { current = Some task } }
     {
-        self.held.current = Some(task);
+        self.state.current = Some(Entry::new(task));
     }
 
-    /// These are its tasks, to be taken up in this order. On `Memory` some of them are dropped, and their answers never come.
+    // These are its tasks, to be taken up in this order. On `Memory` some of them are dropped, and their answers never come.
     pub(crate) fn take_on(&mut self, tasks: Vec<Task<K>>) -> Result<(), Memory>
         requires overflow { self.old.overflow ≡ [] }
         requires pushed { self.old.deck.pushed ≡ [] }
         ensures { OnOk result (IsDealt tasks.items self.old self.new) }
     {
-        let held: &mut Held<K> = &mut self.held;
-        steps::put_all(&mut held.deck, &mut held.overflow, tasks)
+        let state: &mut HandState<K> = &mut self.state;
+        steps::put_all(&mut state.deck, &mut state.overflow, tasks)
     }
 
     /// Does the first of these that applies.
     ///
-    /// 1. Cuts or advances the current task. A child that is handed out becomes current, and the rest goes to the back of the hand's deck,
+    /// 1. Cuts or advances the current task. A child that it begins becomes current, and the rest goes to the back of the hand's deck,
     ///    or to its private list where that isn't empty or the deck refuses it. A task that waits goes to the end of the stalled tasks. An answer is
     ///    put. A task may be cut that wasn't advanced yet, where a hand of the crew met a fault of the task's plan that stands before all
     ///    that the task could do.
@@ -172,15 +173,16 @@ impl<K: Keep> Hand<K> {
         ensures err { OnErr result (self.new.current ≡ None) }
         ensures put { OnErr result (PutsEndOf K self.old.current self.old.answered self.new.answered) }
     {
-        let held: &mut Held<K> = &mut self.held;
-        steps::turn(held, alloc, gate)
+        let state: &mut HandState<K> = &mut self.state;
+        steps::turn(state, alloc, gate)
     }
 
     /// Looks once at the task at the end of the stalled tasks, where the hand has no current one. It becomes current where all of its children have
     /// answered, and else stays there.
     ///
-    /// This is no turn, and none is owed. After a turn that left a task waiting or answered one, the newest stalled task so goes on before
-    /// one of the deck is taken up. It doesn't wait for another thread. On `Memory` the task is dropped, and the run has failed.
+    /// Optional; not part of a turn. So after a turn that left a task waiting or answered one, the newest stalled task
+    /// continues before a task of the deck is popped. It doesn't wait for another thread. On `Memory` the task is
+    /// dropped, and the run has failed.
     #[tactic(auto, using(crate::proofs::Tying::tied_look))]
     pub fn look_newest(&mut self, alloc: Global) -> Result<Looked, Memory>
         ensures ok { IfOk result (λ looked. LooksNewest self.old looked self.new) }
@@ -188,7 +190,21 @@ impl<K: Keep> Hand<K> {
         ensures err { OnErr result (self.new.current ≡ None) }
         ensures answered { self.new.answered ≡ self.old.answered }
     {
-        let held: &mut Held<K> = &mut self.held;
-        steps::look_newest(held, alloc)
+        let state: &mut HandState<K> = &mut self.state;
+        steps::look_newest(state, alloc)
+    }
+    /// Looks once at the task at the front of the stalled tasks, where the hand has no current one. It becomes current where all of its
+    /// children have answered, and else goes to their end. So as many looks as tasks are stalled look at each of them, and leave their order.
+    ///
+    /// Optional; not part of a turn. It doesn't wait for another thread. On `Memory` the task is dropped, and the run has failed.
+    #[tactic(auto, using(crate::proofs::Tying::tied_oldest))]
+    pub fn look_oldest(&mut self, alloc: Global) -> Result<Looked, Memory>
+        ensures ok { IfOk result (λ looked. LooksOldest self.old looked self.new) }
+        ensures tied { IfOk result (λ looked. IsTiedLookFirst self.old looked self.new) }
+        ensures err { OnErr result (self.new.current ≡ None) }
+        ensures answered { self.new.answered ≡ self.old.answered }
+    {
+        let state: &mut HandState<K> = &mut self.state;
+        steps::look_oldest(state, alloc)
     }
 }

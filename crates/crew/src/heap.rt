@@ -1,17 +1,17 @@
 // How the heap of a hand's thread grows.
 use std::alloc::{AllocError, Global};
 
-/// For how many turns that run a task the heap is grown at once.
+// For how many turns that run a task the heap is grown at once.
 const TURNS: u32 = 4096;
 
-/// How far the heap is grown, in bytes. A turn keeps some 400 of them, for a child's path and the events around its spawn.
+// How far the heap is grown, in bytes. A turn keeps some 400 of them, for a child's path and the events around its spawn.
 const HEAP_GROWTH: usize = 4 * 1024 * 1024;
 
-/// The heap of a hand's thread.
+// The heap of a hand's thread.
 #[derive(Drop)]
 pub(crate) struct Heap {
     alloc: Global,
-    /// For how many more turns it was grown.
+    // For how many more turns it was grown.
     turns: u32,
 }
 

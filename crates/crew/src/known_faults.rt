@@ -6,16 +6,16 @@ ghost use Rattle.serial_meaning.specs.Answer.{KnownView};
 ghost use Rattle.crew.specs.Faults.{HasNoneOf, IsLeastOf, StandsFirst};
 
 use crate::memory::Memory;
-use meet_block::KnownList;
+use contract_views::KnownList;
 use serial_meaning::{Fault, Known, Plan};
 use std::alloc::Global;
 use std::marker::Model;
 use std::mem;
 use std::sync::Arc;
 
-/// The faults of a run that a hand knows of. It keeps the least one of each plan.
-///
-/// A clause sees it as the list of all of them, in the order in which they came to be known.
+// The faults of a run that a hand knows of. It keeps the least one of each plan.
+//
+// A clause sees it as the list of all of them, in the order in which they came to be known.
 #[derive(Drop)]
 pub(crate) struct KnownFaults {
     least: Vec<Arc<Known>>,
@@ -39,7 +39,7 @@ impl Model for KnownFaults {
     ghost invariant = { λ f. AreLeast f.all.items (map arc_value f.least.items) };
 }
 
-/// The first coefficient of a plan.
+// The first coefficient of a plan.
 fn first(plan: &Plan) -> u64
     ensures { result ≡ coefficient plan.now.gamma 1 }
 {
@@ -47,15 +47,15 @@ fn first(plan: &Plan) -> u64
     plan.gamma.coeff(1)
 }
 
-/// Whether the fault is one of this plan. The first coefficient mostly tells it from the other plans of a crew, without a look at the
-/// script.
+// Whether the fault is one of this plan. The first coefficient mostly tells it from the other plans of a crew, without a look at the
+// script.
 pub(crate) fn is_of(known: &Known, plan: &Plan) -> bool
     ensures { IsTrue result ↔ (known.now.plan ≡ plan.now) }
 {
     first(&known.plan) == first(plan) && known.plan.same(plan)
 }
 
-/// Which of these faults is one of this plan, if any.
+// Which of these faults is one of this plan, if any.
 fn place_of(least: &[Arc<Known>], plan: &Plan) -> Option<usize>
     ensures some { IfSome result (λ i. (i < length least.now) × ((d : KnownView) → (slice_index_or (map arc_value least.now) i d).plan ≡ plan.now)) }
     ensures none { IfNone result (HasNoneOf plan.now (map arc_value least.now)) }
@@ -68,7 +68,7 @@ fn place_of(least: &[Arc<Known>], plan: &Plan) -> Option<usize>
     None
 }
 
-/// One more fault at the end.
+// One more fault at the end.
 fn add(all: &mut KnownList<Known>, known: &Known)
     ensures { all.new.items ≡ all.old.items ++ known.now ∷ [] }
 {
@@ -78,7 +78,7 @@ fn add(all: &mut KnownList<Known>, known: &Known)
 impl KnownFaults {
     ghost use Rattle.crew.specs.Faults.{AreLeast};
 
-    /// None is known.
+    // None is known.
     pub fn none(alloc: Global) -> KnownFaults
         ensures { result ≡ [] }
     {
@@ -88,14 +88,14 @@ impl KnownFaults {
         }
     }
 
-    /// The least one of each plan of which one is known.
+    // The least one of each plan of which one is known.
     pub fn least(&self) -> &[Arc<Known>]
         ensures { AreLeast self.now (map arc_value result.now) }
     {
         self.least.as_slice()
     }
 
-    /// The least one of this plan, if one is known.
+    // The least one of this plan, if one is known.
     pub fn least_of(&self, plan: &Plan) -> Option<&Known>
         ensures some { IfSome result (λ known. IsLeastOf plan.now self.now known.now) }
         ensures none { IfNone result (HasNoneOf plan.now self.now) }
@@ -107,9 +107,9 @@ impl KnownFaults {
         }
     }
 
-    /// Whether the fault, which is one of this plan, stands before all those of the plan.
+    // Whether the fault, which is one of this plan, precedes all known ones of the plan.
     pub fn is_news(&self, plan: &Plan, fault: &Fault) -> bool
-        ensures { IsTrue result → StandsFirst plan.now fault.now self.now }
+        ensures { IsTrue result ↔ StandsFirst plan.now fault.now self.now }
     {
         match self.least_of(plan) {
             Some(least) => fault.at.before(&least.fault.at),
@@ -117,7 +117,7 @@ impl KnownFaults {
         }
     }
 
-    /// One more fault is known.
+    // One more fault is known.
     pub fn note(&mut self, known: Arc<Known>) -> Result<(), Memory>
         ensures ok { OnOk result (self.new ≡ self.old ++ arc_value known ∷ []) }
         ensures err { OnErr result (self.new ≡ self.old) }

@@ -8,37 +8,40 @@
 
 mod answered;
 mod any_hand;
+mod cells;
+mod entry;
 mod event_count;
 mod faults;
 mod gate;
 mod hand;
+mod hand_state;
 mod heap;
-mod held;
-mod hiring;
 mod known_faults;
 mod memory;
-mod naps;
 mod overflow;
 mod parents;
+mod parking;
 mod root;
 mod run;
+mod setup;
 mod signals;
 mod stalled;
 mod steps;
 mod threads;
+mod unended;
 
 use any_hand::AnyHand;
 pub use gate::{Gate, OpenGate};
 pub use hand::{Hand, Hands, Looked, Turn};
-pub use hiring::Crew;
 pub use memory::Memory;
 pub use root::{Root, Roots};
 pub use run::{run_crew, run_crew_of_prints, run_roots, run_roots_of_prints};
 pub use serial_runner::{Node, run_serial, run_serial_keeping, walk_node};
+pub use setup::Crew;
 
 fn is_sent<T: Send>() {}
 
-/// A hand may go to any thread, with the tasks that it has. The body asks for it, so that a field which forbids it fails the build.
+// A hand may go to any thread, with the tasks that it has. A field that forbids it makes this fail to compile.
 fn all_are_sent() {
     is_sent::<AnyHand>();
 }

@@ -1,54 +1,20 @@
 // A hand's private list.
-ghost use Rattle.std.specs.Prelude.{◌≡◌, ◌≤◌, ◌↔◌, [], ◌∷◌, ◌++◌, OnOk, OnErr, IfErr, IfSome, IfNone, IsTrue, length};
-ghost use Rattle.steal_deck.specs.Ends.{Pushes};
+ghost use Rattle.std.specs.Prelude.{◌≡◌, ◌↔◌, [], ◌∷◌, ◌++◌, OnOk, OnErr, IfSome, IfNone, IsTrue};
 
+use crate::entry::Entry;
 use crate::memory::Memory;
 use serial_meaning::Keep;
 use std::alloc::Global;
 use std::marker::Model;
-use steal_deck::Deck;
-use strand_machine::Task;
+use steal_deck::Refused;
 
-/// A task that a deck refused. Nothing but a refused push makes one.
-#[derive(Drop)]
-pub(crate) struct Refused<K: Keep> {
-    task: Task<K>,
-}
-
-impl<K: Keep> Model for Refused<K> {
-    ghost use Rattle.std.specs.Coded.{codes};
-    ghost use Rattle.script_grammar.specs.contracts.tree.Stmt as statement_type;
-    ghost use Rattle.serial_meaning.specs.contracts.plan.Plan as plan_type;
-    ghost use Rattle.strand_machine.specs.Tasks.{TaskView};
-
-    ghost Value = { TaskView };
-
-    ghost coded = { Prim.hlevel (codes, statement_type.the_row.coded, plan_type.the_row.coded) };
-
-    ghost view = { λ r. r.task };
-}
-
-/// Pushes the task on the deck, or says that the deck refused it.
-#[inline(always)]
-pub(crate) fn push_on<K: Keep>(deck: &mut Deck<Task<K>>, task: Task<K>) -> Result<(), Refused<K>>
-    ensures ok { OnOk result (Pushes deck.old task deck.new) }
-    ensures err { IfErr result (λ refused. refused ≡ task) }
-    ensures unchanged { OnErr result (deck.new ≡ deck.old) }
-    ensures after_64_pushes { OnErr result (64 ≤ length deck.old.pushed) }
-{
-    match deck.push(task) {
-        Ok(()) => Ok(()),
-        Err(task) => Err(Refused { task }),
-    }
-}
-
-/// The tasks of a hand behind its deck. The first of them is one that the deck refused, and the others came after it.
-///
-/// A clause sees it as their list.
+// The tasks of a hand behind its deck. The first of them is one that the deck refused, and the others came after it.
+//
+// A clause sees it as their list.
 #[derive(Drop)]
 pub(crate) struct Overflow<K: Keep> {
-    first: Option<Refused<K>>,
-    others: Vec<Task<K>>,
+    first: Option<Refused<Entry<K>>>,
+    others: Vec<Entry<K>>,
 }
 
 impl<K: Keep> Model for Overflow<K> {
@@ -68,7 +34,7 @@ impl<K: Keep> Model for Overflow<K> {
 }
 
 impl<K: Keep> Overflow<K> {
-    /// No task.
+    // No task.
     pub fn none(alloc: Global) -> Overflow<K>
         ensures { result ≡ [] }
     {
@@ -85,16 +51,16 @@ impl<K: Keep> Overflow<K> {
         self.first.is_none()
     }
 
-    /// The first task. It takes no memory.
-    pub fn begin(&mut self, refused: Refused<K>)
+    // The first task. It takes no memory.
+    pub fn begin(&mut self, refused: Refused<Entry<K>>)
         requires { self.old ≡ [] }
         ensures { self.new ≡ refused ∷ [] }
     {
         self.first = Some(refused);
     }
 
-    /// One more task at the end.
-    pub fn push(&mut self, task: Task<K>) -> Result<(), Memory>
+    // One more task at the end.
+    pub fn push(&mut self, task: Entry<K>) -> Result<(), Memory>
         requires { self.old ≡ [] → ⊥ }
         ensures ok { OnOk result (self.new ≡ self.old ++ task ∷ []) }
         ensures err { OnErr result (self.new ≡ self.old) }
@@ -103,8 +69,8 @@ impl<K: Keep> Overflow<K> {
         Ok(())
     }
 
-    /// Takes the last task.
-    pub fn pop(&mut self) -> Option<Task<K>>
+    // Takes the last task.
+    pub fn pop(&mut self) -> Option<Entry<K>>
         ensures some { IfSome result (λ task. self.old ≡ self.new ++ task ∷ []) }
         ensures none { IfNone result ((self.old ≡ []) × (self.new ≡ [])) }
     {
@@ -112,10 +78,7 @@ impl<K: Keep> Overflow<K> {
             return Some(task);
         }
         match self.first.take() {
-            Some(refused) => {
-                let Refused { task } = refused;
-                Some(task)
-            }
+            Some(refused) => Some(refused.into_task()),
             None => None,
         }
     }

@@ -6,29 +6,29 @@ ghost use Rattle.serial_meaning.specs.Eval.{main_origin};
 ghost use Rattle.serial_meaning.specs.Laws.{IsOriginOf};
 ghost use Rattle.serial_meaning.specs.Render.{IsWhole};
 ghost use Rattle.strand_meaning.specs.Laws.{IsFaultOf};
-ghost use Rattle.strand_machine.specs.Family.{tag};
+ghost use Rattle.strand_machine.specs.Links.{tag};
 ghost use Rattle.crew.specs.Crews.{AreRootAnswers};
 
 use crate::any_hand::AnyHand;
 use crate::gate::Gate;
 use crate::hand::{Hand, Hands, Looked, Turn};
 use crate::heap::Heap;
-use crate::hiring::Crew;
 use crate::memory::Memory;
-use crate::naps::Naps;
 use crate::parents::Parents;
+use crate::parking::Parking;
 use crate::root::{Root, Roots};
+use crate::setup::Crew;
 use crate::signals::Signals;
-use crate::threads::at_each;
+use crate::threads::{Until, at_each};
+use contract_views::Items;
 use crossbeam_utils::Backoff;
 use meet_block::Look;
-use script_grammar::Items;
 use serial_meaning::{Answer, Keep, Plan, Prints, laws};
 use std::alloc::Global;
 use std::sync::{Arc, Wait};
 use std::thread::Threads;
 
-/// Looks at the newest stalled task, since its last child may have answered in the turn before.
+// Looks at the newest stalled task, since its last child may have answered in the turn before.
 #[inline(always)]
 fn look_newest_on<K: Keep>(alloc: Global, signals: &Signals, hand: &mut Hand<K>) -> Option<Looked> {
     match hand.look_newest(alloc) {
@@ -40,20 +40,20 @@ fn look_newest_on<K: Keep>(alloc: Global, signals: &Signals, hand: &mut Hand<K>)
     }
 }
 
-/// After a turn in which the current task came to a stop: where it handed out a child, its rest can be stolen. Else it waits, and a hand
-/// that cuts all that it begins sleeps for a while.
+// After a turn in which the current task came to a stop: where it began a child, its rest can be stolen. Else it waits, and a hand
+// that cuts all that it begins is parked for a while.
 #[inline(always)]
 fn keep_turning<R: Wait, K: Keep>(
     rt: &R,
     alloc: Global,
-    naps: &mut Naps,
+    parking: &mut Parking,
     parents: &mut Parents,
     signals: &Signals,
     hand: &mut Hand<K>,
     cuts: bool,
 ) {
     match look_newest_on(alloc, signals, hand) {
-        Some(Looked::Waits) if cuts => naps.nap_cutting(rt, signals),
+        Some(Looked::Waits) if cuts => parking.park_cutting(rt, signals),
         Some(Looked::Nothing) => {
             parents.pushed();
             if !cuts {
@@ -64,7 +64,7 @@ fn keep_turning<R: Wait, K: Keep>(
     }
 }
 
-/// After a turn that put an answer.
+// After a turn that put an answer.
 #[inline(always)]
 fn go_on<K: Keep>(alloc: Global, parents: &mut Parents, signals: &Signals, hand: &mut Hand<K>) {
     if let Some(Looked::Resumes) = look_newest_on(alloc, signals, hand) {
@@ -74,20 +74,62 @@ fn go_on<K: Keep>(alloc: Global, parents: &mut Parents, signals: &Signals, hand:
     }
 }
 
-/// Makes turns until the hands have ended all roots, or one has failed for want of memory. After a turn that left a task waiting or answered one, all
-/// children of the newest stalled task may have answered: then it is the next one, and else it stays stalled.
-///
-/// Where all tasks that a hand begins are cut, it sleeps after each that it leaves waiting, and neither its pushes nor its steals wake
-/// anyone: the hands from which it steals come to the ends of their tasks faster by themselves.
+// Looks at each stalled task that the turn didn't look at, up to one that goes on, and says whether one does. As many more turns would also steal
+// from all other hands each.
+fn look_at_all<K: Keep>(alloc: Global, signals: &Signals, hand: &mut Hand<K>) -> bool {
+    for _ in 1..hand.stalled_count() {
+        match hand.look_oldest(alloc) {
+            Ok(Looked::Waits) => {}
+            Ok(Looked::Resumes) => return true,
+            Ok(Looked::Nothing) => return false,
+            Err(_) => {
+                signals.end_turns();
+                return false;
+            }
+        }
+    }
+    false
+}
+
+// After a turn that found nothing, in a hand whose tasks wait.
+fn wait_stalled<R: Wait, K: Keep>(
+    rt: &R,
+    alloc: Global,
+    parking: &mut Parking,
+    parents: &mut Parents,
+    signals: &Signals,
+    hand: &mut Hand<K>,
+) {
+    parents.found_none(signals);
+    if look_at_all(alloc, signals, hand) {
+        parking.end(signals);
+        parents.took(signals);
+    } else {
+        parking.park_stalled(rt, signals);
+    }
+}
+
+// Whether a task was taken up that another hand had, or there may be one now for others to take up.
+#[inline(always)]
+fn has_task<K: Keep>(turn: &Result<Turn<K>, Memory>) -> bool {
+    matches!(turn, Ok(Turn::Ran | Turn::Popped | Turn::Stole))
+}
+
+// Makes turns until then, and says whether the run goes on. After a turn that left a task waiting or answered one, all
+// children of the newest stalled task may have answered: then it is the next one, and else it stays stalled.
+//
+// Where all tasks that a hand begins are cut, it is parked after each that it leaves waiting, and neither its pushes nor its steals wake
+// anyone: the hands from which it steals come to the ends of their tasks faster by themselves.
 fn take_turns<R: Wait, G: Gate, K: Keep>(
     rt: &R,
     alloc: Global,
     signals: &Signals,
     hand: &mut Hand<K>,
     gate: &G,
-) {
+    until: Until,
+) -> bool {
     let mut heap = Heap::new(alloc);
-    let mut naps = Naps::new();
+    let mut parking = Parking::new();
     let mut parents = Parents::new();
     for _ in rt.forever() {
         if signals.is_stopped() {
@@ -95,51 +137,56 @@ fn take_turns<R: Wait, G: Gate, K: Keep>(
         }
         let turn = hand.turn(alloc, gate);
         let cuts = hand.cuts();
+        let is_last = matches!(until, Until::Task) && has_task(&turn);
         match turn {
             Ok(Turn::Waiting | Turn::Idle) => {}
-            _ if cuts => naps.cut(signals),
-            _ => naps.end(signals),
+            _ if cuts => parking.cut(signals),
+            _ => parking.end(signals),
         }
         match turn {
             Ok(Turn::Ran) => {
                 heap.count_turn();
-                keep_turning(rt, alloc, &mut naps, &mut parents, signals, hand, cuts);
+                keep_turning(rt, alloc, &mut parking, &mut parents, signals, hand, cuts);
             }
             Ok(Turn::Answered(_)) => go_on(alloc, &mut parents, signals, hand),
             Ok(Turn::Popped) => parents.popped(),
             Ok(Turn::Resumed | Turn::Stole) => parents.took(signals),
             Ok(Turn::Waiting) => {
-                parents.found_none(signals);
-                naps.nap_stalled(rt, signals, hand.stalled_count());
+                wait_stalled(rt, alloc, &mut parking, &mut parents, signals, hand);
             }
             Ok(Turn::Idle) => {
                 parents.found_none(signals);
-                naps.nap_idle(rt, signals);
+                parking.park_idle(rt, signals);
             }
             Ok(Turn::Ended(_)) => signals.root_ended(),
             Err(_) => signals.end_turns(),
         }
+        if is_last {
+            return true;
+        }
     }
+    false
 }
 
-/// The same, whatever the hand's tasks keep.
+// The same, whatever the hand's tasks keep.
 fn take_any_turns<R: Wait, G: Gate>(
     rt: &R,
     alloc: Global,
     signals: &Signals,
     hand: &mut AnyHand,
     gate: &G,
-) {
+    until: Until,
+) -> bool {
     match hand {
-        AnyHand::All(hand) => take_turns(rt, alloc, signals, hand, gate),
-        AnyHand::Prints(hand) => take_turns(rt, alloc, signals, hand, gate),
+        AnyHand::All(hand) => take_turns(rt, alloc, signals, hand, gate, until),
+        AnyHand::Prints(hand) => take_turns(rt, alloc, signals, hand, gate, until),
     }
 }
 
-/// Looks until the answer is there.
+// Looks until the answer is there.
 fn wait_ready<R: Wait, K: Keep>(rt: &R, root: &mut Root<K>)
-    ensures ready { root.new.ready ≡ true }
-    ensures tags { root.new.tags ≡ root.old.tags }
+    ensures ready { root.new.children.ready ≡ true }
+    ensures tags { root.new.children.tags ≡ root.old.children.tags }
 {
     let backoff = Backoff::new();
     for _ in rt.forever() {
@@ -151,7 +198,7 @@ fn wait_ready<R: Wait, K: Keep>(rt: &R, root: &mut Root<K>)
     unreachable!()
 }
 
-/// An answer that is no cut is the serial meaning.
+// An answer that is no cut is the serial meaning.
 fn is_meant<K: Keep>(answer: &Answer<K>)
     requires { IsWhole answer.now.outcome }
     ensures { IsEval answer.now.plan answer.now.origin answer.now.out answer.now.outcome }
@@ -161,9 +208,9 @@ fn is_meant<K: Keep>(answer: &Answer<K>)
     let _outcome = &answer.outcome;
 }
 
-/// Looks until the root's answer is there, and takes it.
+// Looks until the root's answer is there, and takes it.
 fn roots_answer<R: Wait, K: Keep>(rt: &R, mut root: Root<K>) -> Answer<K>
-    ensures tag { root.tags ≡ tag result.plan result.origin ∷ [] }
+    ensures tag { root.children.tags ≡ tag result.plan result.origin ∷ [] }
     ensures whole { IsWhole result.outcome }
     ensures meant { IsEval result.plan result.origin result.out result.outcome }
 {
@@ -173,7 +220,7 @@ fn roots_answer<R: Wait, K: Keep>(rt: &R, mut root: Root<K>) -> Answer<K>
     answer
 }
 
-/// Where it is the answer of an origin of the plan and no cut, no fault but one of the plan's ends it.
+// Where it is the answer of an origin of the plan and no cut, no fault but one of the plan's ends it.
 fn ends_within_faults<K: Keep>(answer: &Answer<K>)
     requires known { IsOriginOf answer.now.plan answer.now.origin }
     requires whole { IsWhole answer.now.outcome }
@@ -185,8 +232,8 @@ fn ends_within_faults<K: Keep>(answer: &Answer<K>)
     let _outcome = &answer.outcome;
 }
 
-/// Makes the turns of all hands, until as many roots have ended as this. Hand 0 works in this thread and each other one in a thread of its
-/// own, or not at all where none can be made. On `Memory` a hand had no memory.
+// Makes the turns of all hands, until as many roots have ended as this. Hand 0 works in this thread and each other one in a thread of its
+// own, or not at all where none can be made or there is nothing for it to do. On `Memory` a hand had no memory.
 fn run_hands<R: Threads + Wait + Sync, G: Gate + Sync>(
     rt: &R,
     alloc: Global,
@@ -200,14 +247,15 @@ fn run_hands<R: Threads + Wait + Sync, G: Gate + Sync>(
         rt,
         alloc,
         hands,
-        &|hand| { take_any_turns(rt, alloc, shared, hand, gate) },
+        &|hand, until| { take_any_turns(rt, alloc, shared, hand, gate, until) },
     );
     let is_ended = signals.is_ended();
     drop(signals);
     if is_ended { Ok(()) } else { Err(Memory) }
 }
 
-/// Runs main by so many workers, hand 0 in this thread and each other one in a thread of its own. The hands steal tasks from one another.
+/// Runs main on this many workers, hand 0 in this thread and each other one in a thread of its own. The hands steal
+/// tasks from one another.
 ///
 /// A hand for which no thread can be made is left out. It has no task, and the others finish without it.
 #[tactic(auto, using(crate::proofs::Rooted::root_is))]
@@ -231,7 +279,7 @@ pub fn run_crew<R: Threads + Wait + Sync, G: Gate + Sync>(
     Ok(answer)
 }
 
-/// The same by hands whose answer keeps its prints alone.
+/// The same, with an answer that keeps prints only.
 #[tactic(auto, using(crate::proofs::Rooted::root_is))]
 pub fn run_crew_of_prints<R: Threads + Wait + Sync, G: Gate + Sync>(
     rt: &R,
@@ -253,7 +301,7 @@ pub fn run_crew_of_prints<R: Threads + Wait + Sync, G: Gate + Sync>(
     Ok(answer)
 }
 
-/// Takes the answers of these roots, each once it is there.
+// Takes the answers of these roots, each once it is there.
 fn answers_of<R: Wait, K: Keep>(
     rt: &R,
     alloc: Global,
@@ -268,8 +316,8 @@ fn answers_of<R: Wait, K: Keep>(
     Ok(Items(answers))
 }
 
-/// Runs the crew of these roots, which `Crew::many` made, until all have answered, as `run_crew` does. The answers are in the order of the
-/// roots. On `Memory` no answer is given.
+/// Runs the crew of these roots, which `Crew::many` made, until all have answered, as `run_crew` does. The answers are
+/// in the order of the roots. On `Memory` there are no answers.
 pub fn run_roots<R: Threads + Wait + Sync, G: Gate + Sync>(
     rt: &R,
     alloc: Global,
@@ -285,7 +333,7 @@ pub fn run_roots<R: Threads + Wait + Sync, G: Gate + Sync>(
     answers_of(rt, alloc, roots)
 }
 
-/// The same for roots whose answers keep their prints alone, which `Crew::many_keeping` made.
+/// The same for roots whose answers keep prints only, which `Crew::many_keeping` made.
 pub fn run_roots_of_prints<R: Threads + Wait + Sync, G: Gate + Sync>(
     rt: &R,
     alloc: Global,

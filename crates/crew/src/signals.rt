@@ -4,39 +4,39 @@ use crossbeam_utils::CachePadded;
 use std::sync::Wait;
 use std::sync::atomic::{AtomicU64, Ordering};
 
-/// What a hand waits for that found nothing to do.
+// What a hand waits for that found nothing to do.
 #[derive(Clone, Copy, Drop)]
 pub(crate) enum Awaited {
-    /// It has no task, and any to steal will do.
+    // It has no task, and any to steal will do.
     Task,
-    /// Its tasks wait for children.
+    // Its tasks wait for children.
     Answer,
 }
 
-/// What the hands tell one another.
-///
-/// A push calls a hand that sleeps, unless one looks for a task already, which so owes the same call once it has found one. A hand that was
-/// called counts as one that looks, even before it runs, so that the next push calls no other.
+// What the hands tell one another.
+//
+// A push calls a parked hand, unless one looks for a task already, which then owes the same call once it has found one.
+// A hand that was called counts as one that looks, even before it runs, so that the next push calls no other.
 #[derive(Drop)]
 pub(crate) struct Signals {
-    /// 0 as long as the hands take turns, and then 1.
+    // 0 as long as the hands take turns, and then 1.
     stop: CachePadded<AtomicU64>,
-    /// The answers of so many roots were put.
+    // How many roots' answers were put.
     ended: CachePadded<AtomicU64>,
-    /// So many hands look for a task, or cut all that they begin, and don't sleep.
+    // How many hands look for a task, or cut all that they begin, and aren't parked.
     seeking: CachePadded<AtomicU64>,
-    /// 1 where a hand was called and none has taken the call yet, else 0.
+    // 1 where a hand was called and none has taken the call yet, else 0.
     called: CachePadded<AtomicU64>,
-    /// Where hands wait that have no task.
+    // Where hands wait that have no task.
     idle: EventCount,
-    /// Where hands wait whose tasks wait for children.
+    // Where hands wait whose tasks wait for children.
     stalled: EventCount,
-    /// How many roots there are.
+    // How many roots there are.
     roots: u64,
 }
 
 impl Signals {
-    /// Those of a run of so many roots.
+    /// The signals of a run of this many roots.
     pub fn new(roots: u64) -> Signals {
         Signals {
             stop: CachePadded::new(AtomicU64::new(0)),
@@ -102,7 +102,7 @@ impl Signals {
         }
     }
 
-    /// Takes the call, if there is one. Who takes it counts as one that looks for a task.
+    // Takes the call, if there is one. Who takes it counts as one that looks for a task.
     fn take_call(&self) -> bool {
         let called: &AtomicU64 = &self.called;
         called.load(Ordering::SeqCst) != 0 && called.swap(0, Ordering::SeqCst) != 0
@@ -118,8 +118,8 @@ impl Signals {
         since
     }
 
-    /// Sleeps until it is called, and for so many microseconds at most. True where it was called: then it no longer waits, and counts as one
-    /// that looks for a task.
+    /// Parks until it is called, for at most `micros` microseconds. True where it was called: then it no longer waits,
+    /// and counts as one that looks for a task.
     pub fn wait<R: Wait>(&self, rt: &R, awaited: Awaited, since: u64, micros: u64) -> bool {
         let is_event = self.waiting_for(awaited).wait(rt, since, micros);
         let is_call = self.take_call();
@@ -141,8 +141,8 @@ impl Signals {
         }
     }
 
-    /// There is a task to steal: where no hand looks for one, one of those that sleep does so now. It writes nothing where a hand looks or
-    /// none sleeps, so that a push costs no more than three reads of what seldom changes.
+    /// There is a task to steal: calls a parked hand where none looks for one. It writes nothing where a hand looks or
+    /// none is parked, so that a push costs at most three reads of what seldom changes.
     #[inline(always)]
     pub fn wake_one(&self) {
         if self.seeking() != 0 {
@@ -164,7 +164,8 @@ impl Signals {
         }
     }
 
-    /// An answer was put whose parent may be stalled at another hand: those that sleep until theirs go on look once more.
+    /// An answer was put whose parent may be stalled at another hand: the hands that are parked with waiting tasks look
+    /// once more.
     #[inline(never)]
     pub fn wake_stalled(&self) {
         if self.stalled.has_waiters() {

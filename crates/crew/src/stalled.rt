@@ -1,11 +1,11 @@
+use crate::entry::Entry;
 use serial_meaning::Keep;
 use std::marker::Model;
-use strand_machine::Task;
 
-/// A task that stands in a wait.
+// A task that stands in a wait.
 #[derive(Drop)]
 pub(crate) struct Stalled<K: Keep> {
-    pub task: Task<K>,
+    pub entry: Entry<K>,
 }
 
 impl<K: Keep> Model for Stalled<K> {
@@ -19,7 +19,7 @@ impl<K: Keep> Model for Stalled<K> {
 
     ghost coded = { Prim.hlevel (codes, statement_type.the_row.coded, plan_type.the_row.coded) };
 
-    ghost view = { λ p. p.task };
+    ghost view = { λ p. p.entry };
 
-    ghost invariant = { λ p. p.task.task.waiting ≡ true };
+    ghost invariant = { λ p. p.entry.task.waiting ≡ true };
 }

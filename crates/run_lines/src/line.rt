@@ -39,7 +39,7 @@ fn put_signed<S: Sink>(number: i64, page: &mut Page, out: &mut S) -> Result<(), 
     page.put(Buffer::new().format(number).as_bytes(), out)
 }
 
-/// Puts a rank, and a full stop after it.
+// Puts a rank, and a full stop after it.
 fn put_rank<S: Sink>(rank: u64, page: &mut Page, out: &mut S) -> Result<(), Failed>
     ensures all { OnOk result (Puts (S.written out.old) (S.written out.new) page.old page.new (decimal rank ++ codes ".")) }
     ensures front { OnErr result (AppendsFront (S.written out.old) (S.written out.new) (page.old ++ (decimal rank ++ codes "."))) }
@@ -80,7 +80,7 @@ fn put_piece<S: Sink>(piece: &Piece, page: &mut Page, out: &mut S) -> Result<(),
 /// Puts these pieces, one after the other.
 ///
 /// # Errors
-/// `Failed` where a write failed. A front of what waited and of the pieces was written.
+/// `Failed` where a write failed. A prefix of what waited and of the pieces was written.
 pub fn put_pieces<S: Sink>(pieces: &[Piece], page: &mut Page, out: &mut S) -> Result<(), Failed>
     ensures all { OnOk result (Puts (S.written out.old) (S.written out.new) page.old page.new (pieces_text pieces.now)) }
     ensures front { OnErr result (AppendsFront (S.written out.old) (S.written out.new) (page.old ++ pieces_text pieces.now)) }
@@ -92,7 +92,7 @@ pub fn put_pieces<S: Sink>(pieces: &[Piece], page: &mut Page, out: &mut S) -> Re
     Ok(())
 }
 
-/// Puts the line of a draw.
+// Puts the line of a draw.
 pub(crate) fn put_draw<S: Sink>(
     at: &Pedigree,
     number: u64,
@@ -113,7 +113,7 @@ pub(crate) fn put_draw<S: Sink>(
     put_pieces(&pieces, page, out)
 }
 
-/// Puts the line of an object.
+// Puts the line of an object.
 pub(crate) fn put_new<S: Sink>(at: &Pedigree, page: &mut Page, out: &mut S) -> Result<(), Failed>
     ensures all { OnOk result (Puts (S.written out.old) (S.written out.new) page.old page.new (line (codes "new " ++ ped_text at.now))) }
     ensures front { OnErr result (AppendsFront (S.written out.old) (S.written out.new) (page.old ++ line (codes "new " ++ ped_text at.now))) }
@@ -123,7 +123,7 @@ pub(crate) fn put_new<S: Sink>(at: &Pedigree, page: &mut Page, out: &mut S) -> R
     put_pieces(&pieces, page, out)
 }
 
-/// Puts the line of a value that is printed.
+// Puts the line of a value that is printed.
 pub(crate) fn put_value<S: Sink>(value: &Value, page: &mut Page, out: &mut S) -> Result<(), Failed>
     ensures all { OnOk result (Puts (S.written out.old) (S.written out.new) page.old page.new (line (value_text value.now))) }
     ensures front { OnErr result (AppendsFront (S.written out.old) (S.written out.new) (page.old ++ line (value_text value.now))) }
@@ -137,7 +137,7 @@ pub(crate) fn put_value<S: Sink>(value: &Value, page: &mut Page, out: &mut S) ->
     }
 }
 
-/// Puts the line of a fault.
+// Puts the line of a fault.
 pub(crate) fn put_fault<S: Sink>(fault: &Fault, page: &mut Page, out: &mut S) -> Result<(), Failed>
     ensures all { OnOk result (Puts (S.written out.old) (S.written out.new) page.old page.new (fault_line fault.now)) }
     ensures front { OnErr result (AppendsFront (S.written out.old) (S.written out.new) (page.old ++ fault_line fault.now)) }

@@ -7,10 +7,10 @@ use ped_io::{Failed, Memory, Sink, write_all};
 use std::alloc::{AllocError, Global};
 use std::marker::Model;
 
-/// How many bytes wait at most.
+// The most bytes that wait.
 const PAGE: usize = 65536;
 
-/// Bytes that wait to be written, at most 65536 of them. It is seen as the list of them.
+/// An output buffer of 65536 bytes. Contracts see the list of the bytes that wait to be written.
 #[derive(Drop)]
 pub struct Page {
     text: Vec<u8>,
@@ -34,7 +34,7 @@ impl Page {
         })
     }
 
-    /// Puts a piece after what waits, where there is room for it.
+    // Puts a piece after what waits, where there is room for it.
     fn take(&mut self, piece: &[u8]) -> bool
         ensures { self.new ≡ (if result then self.old ++ piece.now else self.old) }
     {
@@ -47,7 +47,7 @@ impl Page {
     /// Puts a piece after what waits. Where it finds no room there, what waits is written first.
     ///
     /// # Errors
-    /// `Failed` where a write failed. A front of what waited and of the piece was written.
+    /// `Failed` where a write failed. A prefix of what waited and of the piece was written.
     pub fn put<S: Sink>(&mut self, piece: &[u8], out: &mut S) -> Result<(), Failed>
         ensures all { OnOk result (Puts (S.written out.old) (S.written out.new) self.old self.new piece.now) }
         ensures front { OnErr result (AppendsFront (S.written out.old) (S.written out.new) (self.old ++ piece.now)) }
@@ -66,7 +66,7 @@ impl Page {
     /// Writes what waits.
     ///
     /// # Errors
-    /// `Failed` where a write failed. A front of what waited was written.
+    /// `Failed` where a write failed. A prefix of what waited was written.
     pub fn flush<S: Sink>(&mut self, out: &mut S) -> Result<(), Failed>
         ensures all { OnOk result (Appends (S.written out.old) (S.written out.new) self.old) }
         ensures none { OnOk result (self.new ≡ []) }

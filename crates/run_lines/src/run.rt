@@ -11,10 +11,10 @@ use crate::page::Page;
 use ped_io::{Failed, Sink};
 use serial_meaning::{Answer, Chunk, Event, Keep, Out, Outcome, Plan, Show};
 
-/// Puts what a run prints of this answer, which keeps each event that has a line.
+/// Puts what a run with this answer prints. The answer keeps each event that has a line.
 ///
 /// # Errors
-/// `Failed` where a write failed. A front of what waited and of the lines was written.
+/// `Failed` where a write failed. A prefix of what waited and of the lines was written.
 pub fn put_answer<K: Keep, S: Sink>(
     answer: &Answer<K>,
     page: &mut Page,
@@ -31,7 +31,7 @@ pub fn put_answer<K: Keep, S: Sink>(
     put_end(&answer.outcome, page, out)
 }
 
-/// Puts the line of the fault by which a run ended, if it did.
+// Puts the line of the fault by which a run ended, if it did.
 fn put_end<S: Sink>(outcome: &Outcome, page: &mut Page, out: &mut S) -> Result<(), Failed>
     ensures all { OnOk result (Puts (S.written out.old) (S.written out.new) page.old page.new (end_line outcome.now)) }
     ensures front { OnErr result (AppendsFront (S.written out.old) (S.written out.new) (page.old ++ end_line outcome.now)) }
@@ -43,7 +43,7 @@ fn put_end<S: Sink>(outcome: &Outcome, page: &mut Page, out: &mut S) -> Result<(
     }
 }
 
-/// Puts the lines of a run's events, of which each is kept that has one.
+// Puts the lines of a run's events; each event that has a line is kept.
 fn put_events<K: Keep, S: Sink>(
     show: Show,
     events: &Out<K>,
@@ -61,7 +61,7 @@ fn put_events<K: Keep, S: Sink>(
     }
 }
 
-/// Puts the lines of full chunks and of a last one.
+// Puts the lines of full chunks and of a last one.
 fn put_parts<S: Sink>(
     show: Show,
     full: &[Chunk],
@@ -93,7 +93,7 @@ fn put_chunks<S: Sink>(
     Ok(())
 }
 
-/// Puts the lines of a chunk's events. One of which it is known that none has a line is passed by.
+// Puts the lines of a chunk's events. A chunk that is known to have none is skipped.
 fn put_chunk<S: Sink>(show: Show, chunk: &Chunk, page: &mut Page, out: &mut S) -> Result<(), Failed>
     ensures all { OnOk result (Puts (S.written out.old) (S.written out.new) page.old page.new (flat_map (event_line show) chunk.now)) }
     ensures front { OnErr result (AppendsFront (S.written out.old) (S.written out.new) (page.old ++ flat_map (event_line show) chunk.now)) }
@@ -105,7 +105,7 @@ fn put_chunk<S: Sink>(show: Show, chunk: &Chunk, page: &mut Page, out: &mut S) -
     put_list(show, chunk.events(), page, out)
 }
 
-/// Whether it is known that none of its events has a line.
+// Whether it is known that none of its events has a line.
 #[tactic(auto, using(serial_meaning::proofs::PlainLines::plain_of_none))]
 fn is_silent(show: Show, chunk: &Chunk) -> bool
     ensures { result ≡ true → flat_map (event_line show) chunk.now ≡ [] }

@@ -12,9 +12,11 @@ use Rattle.serial_meaning.specs.declared.event.Event.{Event}
 use Rattle.serial_meaning.specs.declared.origin.Origin.{Origin}
 use Rattle.serial_meaning.specs.declared.origin.Origin.TheVariants.{Instance, Loop}
 use Rattle.serial_meaning.specs.declared.answer.Outcome.{Outcome}
-use Rattle.meet_block.specs.Joined.{Joined}
-use Rattle.strand_machine.specs.Family.{tag}
-use Rattle.crew.specs.Crews.{AreRootAnswers, new_root}
+use Rattle.meet_block.specs.Joined.{Joined, JoinView}
+use Rattle.strand_machine.specs.Links.{tag}
+use Rattle.strand_machine.specs.Tasks.{TaskView}
+use Rattle.crew.specs.Crews.{AreNewRoots, AreRootAnswers, IsCrewOf}
+use Rattle.crew.specs.Hands.{HandView}
 use Rattle.seed_batch.specs.Batch.{main_answer, seed_lines, batch, batch_text}
 
 -- The answers of the roots of plans are main's
@@ -30,14 +32,19 @@ is-mains : (plan : PlanView) (a : AnswerView) → tag plan (main_origin plan) �
 is-mains plan a tagged is =
     let same : tag plan (main_origin plan) ≡ tag a.plan a.origin = cc in is-meant (tag a.plan a.origin) a.out a.outcome is ∙ ap meant (sym same)
 
-of-plans : (plans : List PlanView) (answers : List AnswerView) → AreRootAnswers (map new_root plans) answers → answers ≡ map main_answer plans
-of-plans [] answers h = h
-of-plans (p ∷ ps) [] h = absurd h
-of-plans (p ∷ ps) (a ∷ answers) h = ap₂ (λ x xs. x ∷ xs) (is-mains p a h.0 h.1) (of-plans ps answers h.2)
+of-plans : (plans : List PlanView) (roots : List (JoinView AnswerTag)) (tasks : List TaskView) (answers : List AnswerView) → AreNewRoots plans roots tasks → AreRootAnswers roots answers → answers ≡ map main_answer plans
+of-plans [] [] [] answers new h = h
+of-plans [] (r ∷ rs) tasks answers new h = absurd new
+of-plans [] [] (t ∷ ts) answers new h = absurd new
+of-plans (p ∷ ps) [] tasks answers new h = absurd new
+of-plans (p ∷ ps) (r ∷ rs) [] answers new h = absurd new
+of-plans (p ∷ ps) (r ∷ rs) (t ∷ ts) [] new h = absurd h
+of-plans (p ∷ ps) (r ∷ rs) (t ∷ ts) (a ∷ answers) new h =
+    ap₂ (λ x xs. x ∷ xs) (is-mains p a (sym (ap (λ (j : Joined AnswerTag). j.tags) new.0.child) ∙ h.0) h.1) (of-plans ps rs ts answers new.1 h.2)
 
-pub all_are_mains : (plans : List PlanView) (roots : List (Joined AnswerTag)) (answers : List AnswerView) → roots ≡ map new_root plans → AreRootAnswers roots answers →
+pub all_are_mains : (plans : List PlanView) (roots : List (JoinView AnswerTag)) (answers : List AnswerView) → (workers : ℕ) (hands : List HandView) → IsCrewOf plans workers roots hands → AreRootAnswers roots answers →
     answers ≡ map main_answer plans
-all_are_mains plans roots answers all h = of-plans plans answers (subst (λ (rs : List (Joined AnswerTag)). AreRootAnswers rs answers) all h)
+all_are_mains plans roots answers workers hands crew h = of-plans plans roots crew.0 answers crew.1 h
 
 -- and none of main's answers is a cut
 whole : (o : Origin) (r : Result (List Value) Fault) → IsWhole (outcome_of o r)

@@ -8,12 +8,12 @@ ghost use Rattle.serial_meaning.specs.KeptLines.{KeepsLines};
 ghost use Rattle.serial_meaning.specs.Render.{IsWhole, answer_text, line};
 ghost use Rattle.seed_batch.specs.Batch.{batch_text, seed_lines};
 
+use contract_views::Items;
 use ped_io::{Failed, Sink};
 use run_lines::{Page, Piece, put_answer, put_pieces};
-use script_grammar::Items;
 use serial_meaning::{Answer, Keep};
 
-/// Puts the line of a seed.
+// Puts the line of a seed.
 fn put_seed<S: Sink>(seed: u64, page: &mut Page, out: &mut S) -> Result<(), Failed>
     ensures all { OnOk result (Puts (S.written out.old) (S.written out.new) page.old page.new (line (codes "seed " ++ decimal seed))) }
     ensures front { OnErr result (AppendsFront (S.written out.old) (S.written out.new) (page.old ++ line (codes "seed " ++ decimal seed))) }
@@ -27,7 +27,7 @@ fn put_seed<S: Sink>(seed: u64, page: &mut Page, out: &mut S) -> Result<(), Fail
     put_pieces(&pieces, page, out)
 }
 
-/// Puts the part of a seed, with what a run prints of this answer.
+// Puts the part of a seed, with what a run prints of this answer.
 fn put_part<K: Keep, S: Sink>(
     seed: u64,
     answer: &Answer<K>,
@@ -48,7 +48,7 @@ fn put_part<K: Keep, S: Sink>(
 /// at the same place. Each answer keeps the events that have a line under its plan.
 ///
 /// # Errors
-/// `Failed` where a write failed. A front of what waited and of the lines was written.
+/// `Failed` where a write failed. A prefix of what waited and of the lines was written.
 pub fn put_batch<K: Keep, S: Sink>(
     seeds: &Items<u64>,
     answers: &Items<Answer<K>>,

@@ -3,8 +3,8 @@ ghost use Rattle.std.specs.Prelude.{◌≡◌, ◌≤◌, IfOk, length, map};
 ghost use Rattle.std.specs.Arc.{arc_value};
 ghost use Rattle.seed_batch.specs.Batch.{main_answer};
 
+use contract_views::Items;
 use crew::{Crew, Gate, Memory, run_roots, run_roots_of_prints};
-use script_grammar::Items;
 use serial_meaning::{Answer, Plan, Prints};
 use std::alloc::Global;
 use std::sync::{Arc, Wait};
@@ -14,8 +14,8 @@ use std::thread::Threads;
 /// The answers are in the order of the plans, whatever the hands did in which order. Two plans may be equal. A fault under one plan ends
 /// nothing under another.
 ///
-/// A hand for which no thread can be made is left out. It has no task, and the others finish without it. On `Memory` no answer is given.
-#[tactic(auto, using(crate::proofs::Parts::all_are_mains))]
+/// A hand for which no thread can be made is left out. It has no task, and the others finish without it. On `Memory`
+/// there are no answers.
 pub fn run_batch<R: Threads + Wait + Sync, G: Gate + Sync>(
     rt: &R,
     alloc: Global,
@@ -31,8 +31,7 @@ pub fn run_batch<R: Threads + Wait + Sync, G: Gate + Sync>(
     run_roots(rt, alloc, roots, hands, gate)
 }
 
-/// The same, but for the answers, which keep their prints alone: what is printed under plans that show values alone.
-#[tactic(auto, using(crate::proofs::Parts::all_are_mains))]
+/// The same, with answers that keep prints only, for plans that show values only.
 pub fn run_batch_of_prints<R: Threads + Wait + Sync, G: Gate + Sync>(
     rt: &R,
     alloc: Global,

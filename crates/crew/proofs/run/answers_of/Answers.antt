@@ -1,6 +1,6 @@
 use Rattle.std.proofs.Common.{◌≡◌, List, [], ◌∷◌, ◌++◌, length, sym, ap, ◌∙◌, subst, arith}
 use Rattle.std.specs.Vec.Iter.{into_iter_items}
-use Rattle.meet_block.specs.Joined.{Joined}
+use Rattle.meet_block.specs.Joined.{JoinView}
 use Rattle.serial_meaning.specs.Answer.{AnswerTag, AnswerView}
 use Rattle.crew.specs.Crews.{AreRootAnswers}
 use Rattle.crew.proofs.Rooted.{one-more-answer, no-more-answers}
@@ -13,7 +13,7 @@ loop-root-init g c =
     record {
       roots = gives.1 ∙ c.args.roots.ok.0 ∙ ap length (sym roots);
       answers = λ rest h. subst (λ (l : List AnswerView). AreRootAnswers c.args.roots.items (l ++ rest)) (sym c.new-answers.ensures.items)
-          (subst (λ (rs : List (Joined AnswerTag)). AreRootAnswers rs rest) roots h);
+          (subst (λ (rs : List (JoinView AnswerTag)). AreRootAnswers rs rest) roots h);
     }
 
 pub loop-root-preserved : goal.loop-root-preserved

@@ -1,0 +1,89 @@
+// What a task does before it has ended.
+ghost use Rattle.std.specs.Prelude.{◌≡◌, [], ◌∷◌, ◌++◌, Ok, IfOk, IfSome, IsErr, OnOk, OnErr, None, true};
+ghost use Rattle.std.specs.Arc.{arc_value};
+ghost use Rattle.strand_machine.specs.Stops.{Pauses};
+ghost use Rattle.strand_machine.specs.declared.stop.Stop.TheVariants as stop;
+ghost use Rattle.crew.specs.Hands.{view_of, RunsOnward, KeepsLate};
+
+use crate::entry::{child_entry, with_known};
+use crate::hand_state::HandState;
+use crate::memory::Memory;
+use crate::stalled::Stalled;
+use crate::steps::{put_rest, stall};
+use serial_meaning::{Keep, Known};
+use std::alloc::Global;
+use std::collections::VecDeque;
+use std::sync::Arc;
+use strand_machine::{Paused, Task};
+
+// There was no memory for a task that hasn't ended. Only the calls of this module make one, so where a task has ended none is at hand, and its
+// answer has to be put.
+#[derive(Drop)]
+pub(crate) struct Unended {
+    memory: Memory,
+}
+
+impl Unended {
+    pub fn memory(self) -> Memory {
+        let Unended { memory } = self;
+        memory
+    }
+}
+
+// The same. It is generic, so that it can't look at what was got.
+#[inline(always)]
+fn before_end<T>(got: Result<T, Memory>) -> Result<T, Unended>
+    ensures ok { IfOk result (λ x. got ≡ Ok x) }
+    ensures err { OnErr result (IsErr got) }
+{
+    match got {
+        Ok(x) => Ok(x),
+        Err(memory) => Err(Unended { memory }),
+    }
+}
+
+// Runs the task to its next stop.
+#[inline(always)]
+pub(crate) fn run_to_stop<K: Keep>(task: Task<K>, alloc: Global) -> Result<Paused<K>, Unended>
+    requires { task.cut ≡ None }
+    ensures { IfOk result (Pauses task) }
+{
+    before_end(task.run(alloc))
+}
+
+// The child becomes current, and its parent's rest goes after all others.
+#[inline(always)]
+pub(crate) fn switch_to_child<K: Keep>(
+    state: &mut HandState<K>,
+    child: Task<K>,
+    rest: Task<K>,
+    known: Option<Arc<Known>>,
+) -> Result<(), Unended>
+    requires none { state.old.current ≡ None }
+    requires childs { IfSome known (λ k. (arc_value k).plan ≡ child.task.plan) }
+    requires rests { IfSome known (λ k. (arc_value k).plan ≡ rest.task.plan) }
+    ensures ok { OnOk result (RunsOnward {K = K} (stop.Spawn child rest) (view_of state.old) (view_of state.new)) }
+    ensures err { OnErr result (state.new.current ≡ None) }
+    ensures answered { state.new.answered ≡ state.old.answered }
+    ensures late { KeepsLate (view_of state.old) (view_of state.new) }
+{
+    let child = child_entry(child, &known);
+    let rest = with_known(rest, known);
+    before_end(put_rest(&mut state.deck, &mut state.overflow, rest))?;
+    state.current = Some(child);
+    Ok(())
+}
+
+// The task goes to the end of the stalled tasks.
+#[inline(always)]
+pub(crate) fn wait<K: Keep>(
+    stalled: &mut VecDeque<Stalled<K>>,
+    rest: Task<K>,
+    known: Option<Arc<Known>>,
+) -> Result<(), Unended>
+    requires waits { rest.task.waiting ≡ true }
+    requires known { IfSome known (λ k. (arc_value k).plan ≡ rest.task.plan) }
+    ensures { OnOk result (stalled.new.items ≡ stalled.old.items ++ rest ∷ []) }
+{
+    before_end(stall(stalled, with_known(rest, known)))
+}
