@@ -12,7 +12,7 @@ use Rattle.ped_words.specs.Laws.{as_it_was, exchanged, OrdersGiveOneCommand}
 use Rattle.ped_words.specs.Making.{made_command}
 use Rattle.ped_words.specs.Reading.{reading, reading_as}
 use Rattle.ped_words.specs.Rules.{breaks, broken_at, unless_error}
-use Rattle.ped_words.specs.Table.{name_of, option_number, takes_option, verb_of}
+use Rattle.ped_words.specs.Table.{name_of, option_number, takes_option, subcommand_of}
 use Rattle.ped_words.specs.Values.{OptionValues, has, is_option, name_word, value_word, option_values, word_at}
 use Rattle.ped_words.specs.declared.command.Command.{Command}
 use Rattle.ped_words.specs.declared.rule.Rule.{Rule}
@@ -20,7 +20,7 @@ use Rattle.ped_words.specs.declared.rule.Rule.TheVariants as rule
 use Rattle.ped_words.specs.declared.rule.WordError.{WordError}
 use Rattle.ped_words.specs.declared.table.OptionName.{OptionName}
 use Rattle.ped_words.specs.declared.table.OptionName.TheVariants as name
-use Rattle.ped_words.specs.declared.table.Verb.{Verb}
+use Rattle.ped_words.specs.declared.table.Subcommand.{Subcommand}
 use Rattle.ped_words.proofs.OrdersMade.{word_of, some-word, or_none, none_or, made-same}
 
 -- Names
@@ -109,16 +109,16 @@ has-same values others same n e = let p = has-parts values n e in has-none other
 
 -- A pair that breaks no rule
 
-record Right (verb : Verb) (given : OptionValues) (word value : List ℕ) (is_last : Bool) : Type 0 where
+record Right (subcommand : Subcommand) (given : OptionValues) (word value : List ℕ) (is_last : Bool) : Type 0 where
   n : OptionName
   dashes : starts_with nat_eq word (codes "--") ≡ true
   named : name_of word ≡ Some n
-  taken : takes_option verb n ≡ true
+  taken : takes_option subcommand n ≡ true
   fresh : has given n ≡ false
   more : is_last ≡ false
   fits : value_rule n value ≡ None
 
-module _ (verb : Verb) (words : List (List ℕ)) (k : ℕ) where
+module _ (subcommand : Subcommand) (words : List (List ℕ)) (k : ℕ) where
   abbrev given : OptionValues
   given = option_values words k
 
@@ -132,25 +132,25 @@ module _ (verb : Verb) (words : List (List ℕ)) (k : ℕ) where
   is_last = nat_le (length words) (2 * k + 2)
 
   abbrev R : Type 0
-  R = Right verb given word value is_last
+  R = Right subcommand given word value is_last
 
   -- the rules after the first one, by the option that the word names
   abbrev after : Option OptionName → List (Rule × Bool)
-  after o = (rule.UnknownOption, not (holds_of (takes_option verb) o)) ∷ (rule.OptionTwice, holds_of (has given) o) ∷ (rule.MissingValue, is_last) ∷ []
+  after o = (rule.UnknownOption, not (holds_of (takes_option subcommand) o)) ∷ (rule.OptionTwice, holds_of (has given) o) ∷ (rule.MissingValue, is_last) ∷ []
 
   abbrev value_as : Option OptionName → Option Rule
   value_as o = option_and_then (λ n. value_rule n value) o
 
-  right_from : broken_pair verb words k ≡ None → R
+  right_from : broken_pair subcommand words k ≡ None → R
   right_from e =
-      let p = or_none (broken_at (2 * k + 1) (broken_name verb words k)) (broken_at (2 * k + 2) (broken_value words k)) e in
-      by_dashes (starts_with nat_eq word (codes "--")) refl (at_none (2 * k + 1) (broken_name verb words k) p.0) (at_none (2 * k + 2) (broken_value words k) p.1)
+      let p = or_none (broken_at (2 * k + 1) (broken_name subcommand words k)) (broken_at (2 * k + 2) (broken_value words k)) e in
+      by_dashes (starts_with nat_eq word (codes "--")) refl (at_none (2 * k + 1) (broken_name subcommand words k) p.0) (at_none (2 * k + 2) (broken_value words k) p.1)
     where
       at_none : (i : ℕ) (o : Option Rule) → broken_at i o ≡ None → o ≡ None
       at_none i None f = refl
       at_none i (Some r) f = absurd (none-some _ (sym f))
 
-      by_tests : (n : OptionName) → starts_with nat_eq word (codes "--") ≡ true → name_of word ≡ Some n → (x y z : Bool) → takes_option verb n ≡ x → has given n ≡ y → is_last ≡ z →
+      by_tests : (n : OptionName) → starts_with nat_eq word (codes "--") ≡ true → name_of word ≡ Some n → (x y z : Bool) → takes_option subcommand n ≡ x → has given n ≡ y → is_last ≡ z →
           first_broken_rule ((rule.UnknownOption, not x) ∷ (rule.OptionTwice, y) ∷ (rule.MissingValue, z) ∷ []) ≡ None → value_rule n value ≡ None → R
       by_tests n d f false y z g h i j v = absurd (none-some _ (sym j))
       by_tests n d f true true z g h i j v = absurd (none-some _ (sym j))
@@ -159,15 +159,15 @@ module _ (verb : Verb) (words : List (List ℕ)) (k : ℕ) where
 
       by_name : starts_with nat_eq word (codes "--") ≡ true → (o : Option OptionName) → name_of word ≡ o → first_broken_rule (after o) ≡ None → value_as o ≡ None → R
       by_name d None f g v = absurd (none-some _ (sym g))
-      by_name d (Some n) f g v = by_tests n d f (takes_option verb n) (has given n) is_last refl refl refl g v
+      by_name d (Some n) f g v = by_tests n d f (takes_option subcommand n) (has given n) is_last refl refl refl g v
 
       by_dashes : (b : Bool) → starts_with nat_eq word (codes "--") ≡ b → first_broken_rule ((rule.StrayWord, not b) ∷ after (name_of word)) ≡ None → value_as (name_of word) ≡ None → R
       by_dashes true d g v = by_name d (name_of word) refl g v
       by_dashes false d g v = absurd (none-some _ (sym g))
 
-  right_to : R → broken_pair verb words k ≡ None
+  right_to : R → broken_pair subcommand words k ≡ None
   right_to r =
-      let named : broken_name verb words k ≡ None =
+      let named : broken_name subcommand words k ≡ None =
       ap (λ b. first_broken_rule ((rule.StrayWord, not b) ∷ after (name_of word))) r.dashes
       ∙ ap (λ o. first_broken_rule (after o)) r.named
       ∙ ap (λ b. first_broken_rule ((rule.UnknownOption, not b) ∷ (rule.OptionTwice, has given r.n) ∷ (rule.MissingValue, is_last) ∷ [])) r.taken
@@ -177,9 +177,9 @@ module _ (verb : Verb) (words : List (List ℕ)) (k : ℕ) where
       ∙ ap (λ o. broken_at (2 * k + 2) (value_as o)) r.named
       ∙ ap (broken_at (2 * k + 2)) r.fits
 
-carried : (verb : Verb) (given other : OptionValues) (word word' value value' : List ℕ) (last last' : Bool) → word' ≡ word → value' ≡ value → ((n : OptionName) → is_some (other n) ≡ is_some (given n)) → last' ≡ last →
-    Right verb given word value last → Right verb other word' value' last'
-carried verb given other word word' value value' last last' e f same g r = record {
+carried : (subcommand : Subcommand) (given other : OptionValues) (word word' value value' : List ℕ) (last last' : Bool) → word' ≡ word → value' ≡ value → ((n : OptionName) → is_some (other n) ≡ is_some (given n)) → last' ≡ last →
+    Right subcommand given word value last → Right subcommand other word' value' last'
+carried subcommand given other word word' value value' last last' e f same g r = record {
   n = r.n;
   dashes = ap (λ z. starts_with nat_eq z (codes "--")) e ∙ r.dashes;
   named = ap name_of e ∙ r.named;
@@ -312,8 +312,8 @@ module _ (words others : List (List ℕ)) (k : ℕ) (s : Swapped words others k)
         go (inl l) before = next-same j (after-word j l) (after-value j l) n (before l)
         go (inr l) before = let same : suc k ≡ j = omega (arith, l, h) in subst (λ z. word_of (option_values others (suc z)) n ≡ word_of (option_values words (suc z)) n) same (values-two n)
 
-  module _ (verb : Verb) (a : Right verb (option_values words k) (name_word words k) (value_word words k) (nat_le (length words) (2 * k + 2)))
-      (c : Right verb (option_values words (suc k)) (name_word words (suc k)) (value_word words (suc k)) (nat_le (length words) (2 * suc k + 2))) where
+  module _ (subcommand : Subcommand) (a : Right subcommand (option_values words k) (name_word words k) (value_word words k) (nat_le (length words) (2 * k + 2)))
+      (c : Right subcommand (option_values words (suc k)) (name_word words (suc k)) (value_word words (suc k)) (nat_le (length words) (2 * suc k + 2))) where
     -- the second name is neither the first nor its twin
     fresh-at : (n : OptionName) → is_some (option_values words (suc k) n) ≡ false → (eqb (option_number a.n) (option_number n) ≡ false) × (is_some (option_values words k n) ≡ false)
     fresh-at n e =
@@ -341,7 +341,7 @@ module _ (words others : List (List ℕ)) (k : ℕ) (s : Swapped words others k)
     not_last : (i : ℕ) → i < length words → nat_le (length others) i ≡ false
     not_last i h = let l = s.long in above (length others) i (omega (arith, l, h))
 
-    first_right : Right verb (option_values others k) (name_word others k) (value_word others k) (nat_le (length others) (2 * k + 2))
+    first_right : Right subcommand (option_values others k) (name_word others k) (value_word others k) (nat_le (length others) (2 * k + 2))
     first_right = record {
       n = c.n;
       dashes = ap (λ z. starts_with nat_eq z (codes "--")) s.first_name ∙ c.dashes;
@@ -357,7 +357,7 @@ module _ (words others : List (List ℕ)) (k : ℕ) (s : Swapped words others k)
     free-then n e f =
         still_free (is_option (name_of (name_word others k)) n) (value_word others k, 2 * k + 2) (option_values others k n) (ap (λ z. is_option (name_of z) n) s.first_name ∙ ap (λ o. is_option o n) c.named ∙ e) (some-front k (omega arith) n ∙ f)
 
-    second_right : Right verb (option_values others (suc k)) (name_word others (suc k)) (value_word others (suc k)) (nat_le (length others) (2 * suc k + 2))
+    second_right : Right subcommand (option_values others (suc k)) (name_word others (suc k)) (value_word others (suc k)) (nat_le (length others) (2 * suc k + 2))
     second_right =
         let p = has-parts (option_values words k) a.n a.fresh in
         record {
@@ -370,8 +370,8 @@ module _ (words others : List (List ℕ)) (k : ℕ) (s : Swapped words others k)
           fits = ap (value_rule a.n) s.second_value ∙ a.fits;
         }
 
-  exchanged-right : (verb : Verb) → first_broken verb words ≡ None → first_broken verb others ≡ None
-  exchanged-right verb e = none_all (broken_pair verb others) (pairs_in others) each
+  exchanged-right : (subcommand : Subcommand) → first_broken subcommand words ≡ None → first_broken subcommand others ≡ None
+  exchanged-right subcommand e = none_all (broken_pair subcommand others) (pairs_in others) each
     where
       pairs : pairs_in others ≡ pairs_in words
       pairs = ap (λ l. l / 2) s.long
@@ -379,56 +379,56 @@ module _ (words others : List (List ℕ)) (k : ℕ) (s : Swapped words others k)
       two : suc k < pairs_in words
       two = let l = s.enough in omega (arith, l)
 
-      right : (j : ℕ) → j < pairs_in words → Right verb (option_values words j) (name_word words j) (value_word words j) (nat_le (length words) (2 * j + 2))
-      right j h = right_from verb words j (all_none (broken_pair verb words) (pairs_in words) e j h)
+      right : (j : ℕ) → j < pairs_in words → Right subcommand (option_values words j) (name_word words j) (value_word words j) (nat_le (length words) (2 * j + 2))
+      right j h = right_from subcommand words j (all_none (broken_pair subcommand words) (pairs_in words) e j h)
 
-      a : Right verb (option_values words k) (name_word words k) (value_word words k) (nat_le (length words) (2 * k + 2))
+      a : Right subcommand (option_values words k) (name_word words k) (value_word words k) (nat_le (length words) (2 * k + 2))
       a = right k (omega (arith, two))
 
-      c : Right verb (option_values words (suc k)) (name_word words (suc k)) (value_word words (suc k)) (nat_le (length words) (2 * suc k + 2))
+      c : Right subcommand (option_values words (suc k)) (name_word words (suc k)) (value_word words (suc k)) (nat_le (length words) (2 * suc k + 2))
       c = right (suc k) two
 
       last : (j : ℕ) → nat_le (length others) (2 * j + 2) ≡ nat_le (length words) (2 * j + 2)
       last j = ap (λ l. nat_le l (2 * j + 2)) s.long
 
-      at_front : (j : ℕ) → j < k → Right verb (option_values others j) (name_word others j) (value_word others j) (nat_le (length others) (2 * j + 2))
+      at_front : (j : ℕ) → j < k → Right subcommand (option_values others j) (name_word others j) (value_word others j) (nat_le (length others) (2 * j + 2))
       at_front j h =
-          carried verb (option_values words j) (option_values others j) (name_word words j) (name_word others j) (value_word words j) (value_word others j) _ _ (front-word j h) (front-value j h) (some-front verb a c j (omega arith)) (last j) (right j (omega (arith, two)))
+          carried subcommand (option_values words j) (option_values others j) (name_word words j) (name_word others j) (value_word words j) (value_word others j) _ _ (front-word j h) (front-value j h) (some-front subcommand a c j (omega arith)) (last j) (right j (omega (arith, two)))
 
-      at_back : (j : ℕ) → j < pairs_in words → suc k < j → Right verb (option_values others j) (name_word others j) (value_word others j) (nat_le (length others) (2 * j + 2))
+      at_back : (j : ℕ) → j < pairs_in words → suc k < j → Right subcommand (option_values others j) (name_word others j) (value_word others j) (nat_le (length others) (2 * j + 2))
       at_back j l h =
-          carried verb (option_values words j) (option_values others j) (name_word words j) (name_word others j) (value_word words j) (value_word others j) _ _ (after-word j h) (after-value j h) (some-after verb a c j h) (last j) (right j l)
+          carried subcommand (option_values words j) (option_values others j) (name_word words j) (name_word others j) (value_word words j) (value_word others j) _ _ (after-word j h) (after-value j h) (some-after subcommand a c j h) (last j) (right j l)
 
-      go : (j : ℕ) → j < pairs_in words → (j < k) ⊎ (k ≤ j) → (suc k < j) ⊎ (j ≤ suc k) → (k < j) ⊎ (j ≤ k) → broken_pair verb others j ≡ None
-      go j l (inl low) y z = right_to verb others j (at_front j low)
-      go j l (inr x) (inl high) z = right_to verb others j (at_back j l high)
-      go j l (inr x) (inr y) (inl high) = let same : suc k ≡ j = omega (arith, y, high) in subst (λ i. broken_pair verb others i ≡ None) same (right_to verb others (suc k) (second_right verb a c))
-      go j l (inr x) (inr y) (inr z) = let same : k ≡ j = omega (arith, x, z) in subst (λ i. broken_pair verb others i ≡ None) same (right_to verb others k (first_right verb a c))
+      go : (j : ℕ) → j < pairs_in words → (j < k) ⊎ (k ≤ j) → (suc k < j) ⊎ (j ≤ suc k) → (k < j) ⊎ (j ≤ k) → broken_pair subcommand others j ≡ None
+      go j l (inl low) y z = right_to subcommand others j (at_front j low)
+      go j l (inr x) (inl high) z = right_to subcommand others j (at_back j l high)
+      go j l (inr x) (inr y) (inl high) = let same : suc k ≡ j = omega (arith, y, high) in subst (λ i. broken_pair subcommand others i ≡ None) same (right_to subcommand others (suc k) (second_right subcommand a c))
+      go j l (inr x) (inr y) (inr z) = let same : k ≡ j = omega (arith, x, z) in subst (λ i. broken_pair subcommand others i ≡ None) same (right_to subcommand others k (first_right subcommand a c))
 
-      each : (j : ℕ) → j < pairs_in others → broken_pair verb others j ≡ None
+      each : (j : ℕ) → j < pairs_in others → broken_pair subcommand others j ≡ None
       each j h = go j (omega (arith, h, pairs)) (cases_lt j k) (cases_lt (suc k) j) (cases_lt k j)
 
-  exchanged-made : (verb : Verb) (command : Command) → first_broken verb words ≡ None → made_command verb (option_values words (pairs_in words)) (length words) ≡ Ok command →
-      made_command verb (option_values others (pairs_in others)) (length others) ≡ Ok command
-  exchanged-made verb command e f =
-      ap (λ l. made_command verb (option_values others (l / 2)) l) s.long ∙ made-same (option_values words (pairs_in words)) (option_values others (pairs_in words)) (values-after (apart verb a c) (pairs_in words) two) verb (length words) command f
+  exchanged-made : (subcommand : Subcommand) (command : Command) → first_broken subcommand words ≡ None → made_command subcommand (option_values words (pairs_in words)) (length words) ≡ Ok command →
+      made_command subcommand (option_values others (pairs_in others)) (length others) ≡ Ok command
+  exchanged-made subcommand command e f =
+      ap (λ l. made_command subcommand (option_values others (l / 2)) l) s.long ∙ made-same (option_values words (pairs_in words)) (option_values others (pairs_in words)) (values-after (apart subcommand a c) (pairs_in words) two) subcommand (length words) command f
     where
       two : suc k < pairs_in words
       two = let l = s.enough in omega (arith, l)
 
-      a : Right verb (option_values words k) (name_word words k) (value_word words k) (nat_le (length words) (2 * k + 2))
-      a = right_from verb words k (all_none (broken_pair verb words) (pairs_in words) e k (omega (arith, two)))
+      a : Right subcommand (option_values words k) (name_word words k) (value_word words k) (nat_le (length words) (2 * k + 2))
+      a = right_from subcommand words k (all_none (broken_pair subcommand words) (pairs_in words) e k (omega (arith, two)))
 
-      c : Right verb (option_values words (suc k)) (name_word words (suc k)) (value_word words (suc k)) (nat_le (length words) (2 * suc k + 2))
-      c = right_from verb words (suc k) (all_none (broken_pair verb words) (pairs_in words) e (suc k) two)
+      c : Right subcommand (option_values words (suc k)) (name_word words (suc k)) (value_word words (suc k)) (nat_le (length words) (2 * suc k + 2))
+      c = right_from subcommand words (suc k) (all_none (broken_pair subcommand words) (pairs_in words) e (suc k) two)
 
-  as-same : (o : Option Verb) (command : Command) → reading_as o words ≡ Ok command → reading_as o others ≡ Ok command
+  as-same : (o : Option Subcommand) (command : Command) → reading_as o words ≡ Ok command → reading_as o others ≡ Ok command
   as-same None command e = cc
-  as-same (Some verb) command e = go (first_broken verb words) refl e
+  as-same (Some subcommand) command e = go (first_broken subcommand words) refl e
     where
-      go : (o : Option WordError) → first_broken verb words ≡ o → unless_error o (made_command verb (option_values words (pairs_in words)) (length words)) ≡ Ok command → reading_as (Some verb) others ≡ Ok command
+      go : (o : Option WordError) → first_broken subcommand words ≡ o → unless_error o (made_command subcommand (option_values words (pairs_in words)) (length words)) ≡ Ok command → reading_as (Some subcommand) others ≡ Ok command
       go (Some x) f g = cc
-      go None f g = ap (λ o. unless_error o (made_command verb (option_values others (pairs_in others)) (length others))) (exchanged-right verb f) ∙ exchanged-made verb command f g
+      go None f g = ap (λ o. unless_error o (made_command subcommand (option_values others (pairs_in others)) (length others))) (exchanged-right subcommand f) ∙ exchanged-made subcommand command f g
 
   exchange : (command : Command) → reading words ≡ Ok command → reading others ≡ Ok command
   unfolding reading
@@ -437,10 +437,10 @@ module _ (words others : List (List ℕ)) (k : ℕ) (s : Swapped words others k)
       let m = s.long in
       let some : eqb (length words) 0 ≡ false = ne_eqb (length words) 0 (λ z. omega (arith, z, l)) in
       let other : eqb (length others) 0 ≡ false = ne_eqb (length others) 0 (λ z. omega (arith, z, l, m)) in
-      let given : reading_as (verb_of (word_at words 0)) words ≡ Ok command = sym (ap (λ b. if b then Err (breaks rule.NoCommand 0) else reading_as (verb_of (word_at words 0)) words) some) ∙ e in
-      ap (λ b. if b then Err (breaks rule.NoCommand 0) else reading_as (verb_of (word_at others 0)) others) other
-      ∙ ap (λ w. reading_as (verb_of w) others) (s.front 0 (omega arith))
-      ∙ as-same (verb_of (word_at words 0)) command given
+      let given : reading_as (subcommand_of (word_at words 0)) words ≡ Ok command = sym (ap (λ b. if b then Err (breaks rule.NoCommand 0) else reading_as (subcommand_of (word_at words 0)) words) some) ∙ e in
+      ap (λ b. if b then Err (breaks rule.NoCommand 0) else reading_as (subcommand_of (word_at others 0)) others) other
+      ∙ ap (λ w. reading_as (subcommand_of w) others) (s.front 0 (omega arith))
+      ∙ as-same (subcommand_of (word_at words 0)) command given
 
 pub orders_give_one : OrdersGiveOneCommand
 orders_give_one words others command as_it_was e = e

@@ -15,8 +15,8 @@ use Rattle.ped_words.specs.declared.rule.Rule.TheVariants as rule
 use Rattle.ped_words.specs.declared.rule.WordError.{WordError}
 use Rattle.ped_words.specs.declared.table.OptionName.{OptionName}
 use Rattle.ped_words.specs.declared.table.OptionName.TheVariants as name
-use Rattle.ped_words.specs.declared.table.Verb.{Verb}
-use Rattle.ped_words.specs.declared.table.Verb.TheVariants as verb
+use Rattle.ped_words.specs.declared.table.Subcommand.{Subcommand}
+use Rattle.ped_words.specs.declared.table.Subcommand.TheVariants as subcommand
 use Rattle.serial_meaning.specs.declared.plan.Limits.{Limits}
 use Rattle.serial_meaning.specs.declared.plan.Show.{Show}
 use Rattle.serial_meaning.specs.declared.plan.Show.TheVariants.{Plain}
@@ -104,44 +104,44 @@ module _ (values others : OptionValues) (same : (n : OptionName) → word_of oth
       ∙ ap (λ z. settings_with (command_gamma values (depth_of values)) (limits_of values) (unwrap_or z Plain) (rounds_of others)) show-same
       ∙ ap (λ z. settings_with (command_gamma values (depth_of values)) (limits_of values) (shown values) z) rounds-same
 
-  command-same : (v : Verb) → command_of v others ≡ command_of v values
-  command-same verb.Run = ap (λ z. Some (command.Run z (workers_of others))) settings-same ∙ ap (λ z. Some (command.Run (settings_of values) z)) workers-same
-  command-same verb.Serial = ap (λ z. Some (command.Serial z)) settings-same
-  command-same verb.Sim =
+  command-same : (v : Subcommand) → command_of v others ≡ command_of v values
+  command-same subcommand.Run = ap (λ z. Some (command.Run z (workers_of others))) settings-same ∙ ap (λ z. Some (command.Run (settings_of values) z)) workers-same
+  command-same subcommand.Serial = ap (λ z. Some (command.Serial z)) settings-same
+  command-same subcommand.Sim =
       ap (λ z. option_map (λ n. command.Sim z (workers_of others) n) (number_value others name.Number)) settings-same
       ∙ ap (λ z. option_map (λ n. command.Sim (settings_of values) z n) (number_value others name.Number)) workers-same
       ∙ ap (λ z. option_map (λ n. command.Sim (settings_of values) (workers_of values) n) z) (number-same name.Number)
-  command-same verb.Replay =
+  command-same subcommand.Replay =
       ap (λ z. option_map (λ j. command.Replay z j) (pedigree others)) settings-same ∙ ap (λ z. option_map (λ j. command.Replay (settings_of values) j) z) pedigree-same
-  command-same verb.Hash =
+  command-same subcommand.Hash =
       ap (λ z. option_map (λ j. command.Hash z j (rounds_of others)) (pedigree others)) (gamma-same hash_depth)
       ∙ ap (λ z. option_map (λ j. command.Hash (command_gamma values hash_depth) j z) (pedigree others)) rounds-same
       ∙ ap (λ z. option_map (λ j. command.Hash (command_gamma values hash_depth) j (rounds_of values)) z) pedigree-same
-  command-same verb.Check = refl
-  command-same verb.Fmt = refl
-  command-same verb.Gen =
+  command-same subcommand.Check = refl
+  command-same subcommand.Fmt = refl
+  command-same subcommand.Gen =
       ap (λ z. option_and_then (λ s. option_map (λ n. command.Gen s n) z) (shape others)) (number-same name.Size)
       ∙ ap (λ z. option_and_then (λ s. option_map (λ n. command.Gen s n) (number_value values name.Size)) z) shape-same
-  command-same verb.Stream =
+  command-same subcommand.Stream =
       ap (λ z. option_and_then (λ j. option_map (λ n. command.Stream z j n (rounds_of others) (number_value others name.Below)) (number_value others name.Count)) (pedigree others)) (gamma-same hash_depth)
       ∙ ap (λ z. option_and_then (λ j. option_map (λ n. command.Stream (command_gamma values hash_depth) j n z (number_value others name.Below)) (number_value others name.Count)) (pedigree others)) rounds-same
       ∙ ap (λ z. option_and_then (λ j. option_map (λ n. command.Stream (command_gamma values hash_depth) j n (rounds_of values) z) (number_value others name.Count)) (pedigree others)) (number-same name.Below)
       ∙ ap (λ z. option_and_then (λ j. option_map (λ n. command.Stream (command_gamma values hash_depth) j n (rounds_of values) (number_value values name.Below)) z) (pedigree others)) (number-same name.Count)
       ∙ ap (λ z. option_and_then (λ j. option_map (λ n. command.Stream (command_gamma values hash_depth) j n (rounds_of values) (number_value values name.Below)) (number_value values name.Count)) z) pedigree-same
-  command-same verb.Span = ap (λ z. Some (command.Span z)) settings-same
-  command-same verb.Batch =
+  command-same subcommand.Span = ap (λ z. Some (command.Span z)) settings-same
+  command-same subcommand.Batch =
       ap (λ z. option_map (λ s. command.Batch s z (shown others) (rounds_of others) (workers_of others)) (list others name.Seeds)) limits-same
       ∙ ap (λ z. option_map (λ s. command.Batch s (limits_of values) (unwrap_or z Plain) (rounds_of others) (workers_of others)) (list others name.Seeds)) show-same
       ∙ ap (λ z. option_map (λ s. command.Batch s (limits_of values) (shown values) z (workers_of others)) (list others name.Seeds)) rounds-same
       ∙ ap (λ z. option_map (λ s. command.Batch s (limits_of values) (shown values) (rounds_of values) z) (list others name.Seeds)) workers-same
       ∙ ap (λ z. option_map (λ s. command.Batch s (limits_of values) (shown values) (rounds_of values) (workers_of values)) z) (list-same name.Seeds)
 
-  depth_for-same : (v : Verb) → depth_for v others ≡ depth_for v values
-  depth_for-same verb.Hash = refl
-  depth_for-same verb.Stream = refl
+  depth_for-same : (v : Subcommand) → depth_for v others ≡ depth_for v values
+  depth_for-same subcommand.Hash = refl
+  depth_for-same subcommand.Stream = refl
   depth_for-same _ = depth-same
 
-  gamma_fits-same : (v : Verb) → gamma_fits others (depth_for v others) ≡ gamma_fits values (depth_for v values)
+  gamma_fits-same : (v : Subcommand) → gamma_fits others (depth_for v others) ≡ gamma_fits values (depth_for v values)
   gamma_fits-same v =
       ap (λ z. holds_for (λ given. is_gamma given (depth_for v others)) z) (list-same name.Gamma)
       ∙ ap (λ z. holds_for (λ given. is_gamma given z) (list values name.Gamma)) (depth_for-same v)
@@ -157,7 +157,7 @@ module _ (values others : OptionValues) (same : (n : OptionName) → word_of oth
       ∙ ap (λ z. holds_for (λ j. holds_for (λ n. nat_le (last_rank j + n) (2 ^ 32)) (number_value values name.Count)) z) pedigree-same
 
   -- what is in range stays so
-  late-one : (v : Verb) (n : OptionName) (fits other : Bool) → other ≡ fits → (if takes_option v n then unfit values n fits else None) ≡ None → (if takes_option v n then unfit others n other else None) ≡ None
+  late-one : (v : Subcommand) (n : OptionName) (fits other : Bool) → other ≡ fits → (if takes_option v n then unfit values n fits else None) ≡ None → (if takes_option v n then unfit others n other else None) ≡ None
   late-one v n fits other e f = by_takes (takes_option v n) f
     where
       absent : (o p : Option (List ℕ × ℕ)) → option_map (λ (w : List ℕ × ℕ). w.0) p ≡ option_map (λ (w : List ℕ × ℕ). w.0) o →
@@ -174,14 +174,14 @@ module _ (values others : OptionValues) (same : (n : OptionName) → word_of oth
       by_takes true g = ap (unfit others n) e ∙ by_fits fits refl g
       by_takes false g = refl
 
-  late-none : (v : Verb) → first_late v values (late_rules v values) ≡ None → first_late v others (late_rules v others) ≡ None
+  late-none : (v : Subcommand) → first_late v values (late_rules v values) ≡ None → first_late v others (late_rules v others) ≡ None
   late-none v e =
       let a = or_none _ _ e in
       let b = or_none _ _ a.1 in
       let c = or_none _ _ b.1 in
       none_or _ _ (late-one v name.Gamma _ _ (gamma_fits-same v) a.0) (none_or _ _ (late-one v name.Size _ _ size_fits-same b.0) (none_or _ _ (late-one v name.Count _ _ count_fits-same c.0) refl))
 
-  pub made-same : (v : Verb) (n : ℕ) (c : Command) → made_command v values n ≡ Ok c → made_command v others n ≡ Ok c
+  pub made-same : (v : Subcommand) (n : ℕ) (c : Command) → made_command v values n ≡ Ok c → made_command v others n ≡ Ok c
   made-same v n c e =
       let r = made_ok (first_late v values (late_rules v values)) n (command_of v values) c e in
       ap (λ z. made_of z n (command_of v others)) (late-none v r.0) ∙ ap (made_of None n) (command-same v ∙ r.1)

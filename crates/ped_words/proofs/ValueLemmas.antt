@@ -7,7 +7,7 @@ use Rattle.ped_words.specs.Given.{IsValueIndex, all_names, count_among, given_co
 use Rattle.ped_words.specs.Values.{OptionValues, has, is_option, name_word, value_word, option_values}
 use Rattle.ped_words.specs.declared.table.OptionName.{OptionName}
 use Rattle.ped_words.specs.declared.table.OptionName.TheVariants as name
-use Rattle.ped_words.specs.declared.table.Verb.{Verb}
+use Rattle.ped_words.specs.declared.table.Subcommand.{Subcommand}
 
 or_left : (a b : Bool) → (a || b) ≡ false → a ≡ false
 or_left true b none = cc
@@ -68,11 +68,11 @@ module _ (words : List (List ℕ)) (k : ℕ) (n : OptionName) where
   index_before word is named None p = here false (ap (λ w. is_option (name_of w) n) (sym is) ∙ named) ∙ p
   index_before word is named (Some at) p = (here false (ap (λ w. is_option (name_of w) n) (sym is) ∙ named) ∙ p.0, p.1)
 
-pub same_name : (verb : Verb) (words : List (List ℕ)) (k len last : ℕ) (given : OptionValues) (word : List ℕ) → given ≡ option_values words k → word ≡ name_word words k → len ≡ length words → last ≡ 2 * k + 2 →
-    broken_name verb words k ≡ name_rule verb given word (leb len last)
-same_name verb words k len last given word values named long after =
+pub same_name : (subcommand : Subcommand) (words : List (List ℕ)) (k len last : ℕ) (given : OptionValues) (word : List ℕ) → given ≡ option_values words k → word ≡ name_word words k → len ≡ length words → last ≡ 2 * k + 2 →
+    broken_name subcommand words k ≡ name_rule subcommand given word (leb len last)
+same_name subcommand words k len last given word values named long after =
     sym
-    (ap (λ v. name_rule verb v word (leb len last)) values
-    ∙ ap (λ w. name_rule verb (option_values words k) w (leb len last)) named
-    ∙ ap (λ n. name_rule verb (option_values words k) (name_word words k) (leb n last)) long
-    ∙ ap (λ n. name_rule verb (option_values words k) (name_word words k) (leb (length words) n)) after)
+    (ap (λ v. name_rule subcommand v word (leb len last)) values
+    ∙ ap (λ w. name_rule subcommand (option_values words k) w (leb len last)) named
+    ∙ ap (λ n. name_rule subcommand (option_values words k) (name_word words k) (leb n last)) long
+    ∙ ap (λ n. name_rule subcommand (option_values words k) (name_word words k) (leb (length words) n)) after)

@@ -13,7 +13,7 @@ use Rattle.ped_words.specs.declared.rule.WordError.{WordError}
 use Rattle.ped_words.specs.declared.table.ValueType.{ValueType}
 use Rattle.ped_words.specs.declared.table.ValueType.TheVariants as value_type
 use Rattle.ped_words.specs.declared.table.OptionName.{OptionName}
-use Rattle.ped_words.specs.declared.table.Verb.{Verb}
+use Rattle.ped_words.specs.declared.table.Subcommand.{Subcommand}
 
 -- the first of these rules that is broken: beside each stands whether it is
 abbrev pub first_broken_rule : List (Rule × Bool) → Option Rule
@@ -27,17 +27,17 @@ holds_of test (Some n) = test n
 
 -- The rules for a word where a name is due, in the order in which they are judged: it begins as names do, it is the name of an option that the
 -- command has, that option wasn't given before, and a word follows.
-abbrev pub name_rules : Verb → OptionValues → List ℕ → Bool → List (Rule × Bool)
-name_rules verb given word is_last =
+abbrev pub name_rules : Subcommand → OptionValues → List ℕ → Bool → List (Rule × Bool)
+name_rules subcommand given word is_last =
     (rule.StrayWord, not (starts_with nat_eq word (codes "--"))) ∷
-    (rule.UnknownOption, not (holds_of (takes_option verb) (name_of word))) ∷
+    (rule.UnknownOption, not (holds_of (takes_option subcommand) (name_of word))) ∷
     (rule.OptionTwice, holds_of (has given) (name_of word)) ∷
     (rule.MissingValue, is_last) ∷
     []
 
 -- the first rule that a word breaks where a name is due
-abbrev pub name_rule : Verb → OptionValues → List ℕ → Bool → Option Rule
-name_rule verb given word is_last = first_broken_rule (name_rules verb given word is_last)
+abbrev pub name_rule : Subcommand → OptionValues → List ℕ → Bool → Option Rule
+name_rule subcommand given word is_last = first_broken_rule (name_rules subcommand given word is_last)
 
 -- the rule that a word breaks as a value of this type
 abbrev pub type_rule : ValueType → List ℕ → Option Rule
@@ -52,16 +52,16 @@ abbrev pub value_rule : OptionName → List ℕ → Option Rule
 value_rule n word = type_rule (value_type_of n) word
 
 -- the first rule that the name of pair k breaks, judged with the pairs before it
-abbrev pub broken_name : Verb → List (List ℕ) → ℕ → Option Rule
-broken_name verb words k = name_rule verb (option_values words k) (name_word words k) (nat_le (length words) (2 * k + 2))
+abbrev pub broken_name : Subcommand → List (List ℕ) → ℕ → Option Rule
+broken_name subcommand words k = name_rule subcommand (option_values words k) (name_word words k) (nat_le (length words) (2 * k + 2))
 
 -- the rule that the value of pair k breaks, as the option's that its name names
 abbrev pub broken_value : List (List ℕ) → ℕ → Option Rule
 broken_value words k = option_and_then (λ n. value_rule n (value_word words k)) (name_of (name_word words k))
 
 -- the first rule that pair k breaks
-abbrev pub broken_pair : Verb → List (List ℕ) → ℕ → Option WordError
-broken_pair verb words k = option_or (broken_at (2 * k + 1) (broken_name verb words k)) (broken_at (2 * k + 2) (broken_value words k))
+abbrev pub broken_pair : Subcommand → List (List ℕ) → ℕ → Option WordError
+broken_pair subcommand words k = option_or (broken_at (2 * k + 1) (broken_name subcommand words k)) (broken_at (2 * k + 2) (broken_value words k))
 
 -- the first of `f 0`, .., `f (n - 1)` that is one
 abbrev pub first_below : {X : Type 0} → (ℕ → Option X) → ℕ → Option X
@@ -73,5 +73,5 @@ abbrev pub pairs_in : List (List ℕ) → ℕ
 pairs_in words = length words / 2
 
 -- the first rule that a word after the command breaks
-abbrev pub first_broken : Verb → List (List ℕ) → Option WordError
-first_broken verb words = first_below (broken_pair verb words) (pairs_in words)
+abbrev pub first_broken : Subcommand → List (List ℕ) → Option WordError
+first_broken subcommand words = first_below (broken_pair subcommand words) (pairs_in words)

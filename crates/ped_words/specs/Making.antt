@@ -21,8 +21,8 @@ use Rattle.ped_words.specs.declared.rule.WordError.{WordError}
 use Rattle.ped_words.specs.declared.rule.WordError.TheVariants as word_error
 use Rattle.ped_words.specs.declared.table.OptionName.{OptionName}
 use Rattle.ped_words.specs.declared.table.OptionName.TheVariants as name
-use Rattle.ped_words.specs.declared.table.Verb.{Verb}
-use Rattle.ped_words.specs.declared.table.Verb.TheVariants as verb
+use Rattle.ped_words.specs.declared.table.Subcommand.{Subcommand}
+use Rattle.ped_words.specs.declared.table.Subcommand.TheVariants as subcommand
 
 -- how long pedigrees may be where no depth is given
 abbrev pub default_depth : ℕ
@@ -69,19 +69,19 @@ settings_of values = record {
 }
 
 -- There is none where an option is missing that the command needs.
-abbrev pub command_of : Verb → OptionValues → Option Command
-command_of verb.Run values = Some (command.Run (settings_of values) (workers_of values))
-command_of verb.Serial values = Some (command.Serial (settings_of values))
-command_of verb.Sim values = option_map (λ n. command.Sim (settings_of values) (workers_of values) n) (number_value values name.Number)
-command_of verb.Replay values = option_map (λ j. command.Replay (settings_of values) j) (pedigree values)
-command_of verb.Hash values = option_map (λ j. command.Hash (command_gamma values hash_depth) j (rounds_of values)) (pedigree values)
-command_of verb.Check values = Some command.Check
-command_of verb.Fmt values = Some command.Fmt
-command_of verb.Gen values = option_and_then (λ s. option_map (λ n. command.Gen s n) (number_value values name.Size)) (shape values)
-command_of verb.Stream values =
+abbrev pub command_of : Subcommand → OptionValues → Option Command
+command_of subcommand.Run values = Some (command.Run (settings_of values) (workers_of values))
+command_of subcommand.Serial values = Some (command.Serial (settings_of values))
+command_of subcommand.Sim values = option_map (λ n. command.Sim (settings_of values) (workers_of values) n) (number_value values name.Number)
+command_of subcommand.Replay values = option_map (λ j. command.Replay (settings_of values) j) (pedigree values)
+command_of subcommand.Hash values = option_map (λ j. command.Hash (command_gamma values hash_depth) j (rounds_of values)) (pedigree values)
+command_of subcommand.Check values = Some command.Check
+command_of subcommand.Fmt values = Some command.Fmt
+command_of subcommand.Gen values = option_and_then (λ s. option_map (λ n. command.Gen s n) (number_value values name.Size)) (shape values)
+command_of subcommand.Stream values =
     option_and_then (λ j. option_map (λ n. command.Stream (command_gamma values hash_depth) j n (rounds_of values) (number_value values name.Below)) (number_value values name.Count)) (pedigree values)
-command_of verb.Span values = Some (command.Span (settings_of values))
-command_of verb.Batch values =
+command_of subcommand.Span values = Some (command.Span (settings_of values))
+command_of subcommand.Batch values =
     option_map (λ s. command.Batch s (limits_of values) (unwrap_or (show values) Plain) (rounds_of values) (workers_of values)) (list values name.Seeds)
 
 -- It holds of what is there.
@@ -97,9 +97,9 @@ abbrev pub gamma_fits : OptionValues → ℕ → Bool
 gamma_fits values depth = holds_for (λ given. is_gamma given depth) (list values name.Gamma)
 
 -- how many coefficients the command has
-abbrev pub depth_for : Verb → OptionValues → ℕ
-depth_for verb.Hash values = hash_depth
-depth_for verb.Stream values = hash_depth
+abbrev pub depth_for : Subcommand → OptionValues → ℕ
+depth_for subcommand.Hash values = hash_depth
+depth_for subcommand.Stream values = hash_depth
 depth_for _ values = depth_of values
 
 -- what it is for the word at this index that its list makes no coefficients
@@ -121,22 +121,22 @@ abbrev pub count_fits : OptionValues → Bool
 count_fits values = holds_for (λ j. holds_for (λ n. nat_le (last_rank j + n) (2 ^ 32)) (number_value values name.Count)) (pedigree values)
 
 -- What only all words together show, in the order in which it is judged: of each of these options, whether its value is in range.
-abbrev pub late_rules : Verb → OptionValues → List (OptionName × Bool)
-late_rules verb values = (name.Gamma, gamma_fits values (depth_for verb values)) ∷ (name.Size, size_fits values) ∷ (name.Count, count_fits values) ∷ []
+abbrev pub late_rules : Subcommand → OptionValues → List (OptionName × Bool)
+late_rules subcommand values = (name.Gamma, gamma_fits values (depth_for subcommand values)) ∷ (name.Size, size_fits values) ∷ (name.Count, count_fits values) ∷ []
 
 -- out of range at the word that gives this option, unless its value fits
 abbrev pub unfit : OptionValues → OptionName → Bool → Option WordError
 unfit values n fits = if fits then None else option_map (λ i. breaks rule.OutOfRange i) (value_index values n)
 
 -- the first of these rules that is broken, of the options that the command has
-abbrev pub first_late : Verb → OptionValues → List (OptionName × Bool) → Option WordError
-first_late verb values [] = None
-first_late verb values (late ∷ others) = option_or (if takes_option verb late.0 then unfit values late.0 late.1 else None) (first_late verb values others)
+abbrev pub first_late : Subcommand → OptionValues → List (OptionName × Bool) → Option WordError
+first_late subcommand values [] = None
+first_late subcommand values (late ∷ others) = option_or (if takes_option subcommand late.0 then unfit values late.0 late.1 else None) (first_late subcommand values others)
 
 abbrev pub made_of : Option WordError → ℕ → Option Command → Result Command WordError
 made_of broken words None = Err (breaks rule.MissingOption words)
 made_of broken words (Some c) = unless_error broken (Ok c)
 
 -- the command that these values make after so many words, or the first rule that they break there
-abbrev pub made_command : Verb → OptionValues → ℕ → Result Command WordError
-made_command verb values words = made_of (first_late verb values (late_rules verb values)) words (command_of verb values)
+abbrev pub made_command : Subcommand → OptionValues → ℕ → Result Command WordError
+made_command subcommand values words = made_of (first_late subcommand values (late_rules subcommand values)) words (command_of subcommand values)

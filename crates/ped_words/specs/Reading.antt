@@ -3,18 +3,18 @@ use Rattle.std.specs.Prelude.{ℕ, ◌==◌, if◌then◌else◌, Option, Some, 
 use Rattle.ped_words.specs.Judging.{first_broken, pairs_in}
 use Rattle.ped_words.specs.Making.{made_command}
 use Rattle.ped_words.specs.Rules.{breaks, unless_error}
-use Rattle.ped_words.specs.Table.{verb_of}
+use Rattle.ped_words.specs.Table.{subcommand_of}
 use Rattle.ped_words.specs.Values.{option_values, word_at}
 use Rattle.ped_words.specs.declared.command.Command.{Command}
 use Rattle.ped_words.specs.declared.rule.Rule.TheVariants.{NoCommand, UnknownCommand}
 use Rattle.ped_words.specs.declared.rule.WordError.{WordError}
-use Rattle.ped_words.specs.declared.table.Verb.{Verb}
+use Rattle.ped_words.specs.declared.table.Subcommand.{Subcommand}
 
 -- The words before are judged before what all of them show together.
-abbrev pub reading_as : Option Verb → List (List ℕ) → Result Command WordError
+abbrev pub reading_as : Option Subcommand → List (List ℕ) → Result Command WordError
 reading_as None words = Err (breaks UnknownCommand 0)
-reading_as (Some verb) words = unless_error (first_broken verb words) (made_command verb (option_values words (pairs_in words)) (length words))
+reading_as (Some subcommand) words = unless_error (first_broken subcommand words) (made_command subcommand (option_values words (pairs_in words)) (length words))
 
 -- Words that give a command break no rule, and others break one rule first: so a list of words has one reading.
 unfoldable pub reading : List (List ℕ) → Result Command WordError
-reading words = if length words == 0 then Err (breaks NoCommand 0) else reading_as (verb_of (word_at words 0)) words
+reading words = if length words == 0 then Err (breaks NoCommand 0) else reading_as (subcommand_of (word_at words 0)) words

@@ -10,8 +10,8 @@ use Rattle.serial_meaning.specs.declared.plan.Show.{Show}
 use Rattle.serial_meaning.specs.declared.plan.Show.TheVariants as show
 use Rattle.ped_words.specs.declared.table.ValueType.{ValueType}
 use Rattle.ped_words.specs.declared.table.ValueType.TheVariants as value_type
-use Rattle.ped_words.specs.declared.table.Verb.{Verb}
-use Rattle.ped_words.specs.declared.table.Verb.TheVariants as verb
+use Rattle.ped_words.specs.declared.table.Subcommand.{Subcommand}
+use Rattle.ped_words.specs.declared.table.Subcommand.TheVariants as subcommand
 use Rattle.ped_words.specs.declared.table.OptionName.{OptionName}
 use Rattle.ped_words.specs.declared.table.OptionName.TheVariants as name
 
@@ -20,20 +20,20 @@ abbrev pub lookup : {X : Type 0} → List (List ℕ × X) → List ℕ → Optio
 lookup [] word = None
 lookup (row ∷ rows) word = if bytes_eq word row.0 then Some row.1 else lookup rows word
 
-abbrev pub verb_of : List ℕ → Option Verb
-verb_of word =
+abbrev pub subcommand_of : List ℕ → Option Subcommand
+subcommand_of word =
     lookup
-    ((codes "run", verb.Run) ∷
-    (codes "serial", verb.Serial) ∷
-    (codes "sim", verb.Sim) ∷
-    (codes "replay", verb.Replay) ∷
-    (codes "hash", verb.Hash) ∷
-    (codes "check", verb.Check) ∷
-    (codes "fmt", verb.Fmt) ∷
-    (codes "gen", verb.Gen) ∷
-    (codes "stream", verb.Stream) ∷
-    (codes "span", verb.Span) ∷
-    (codes "batch", verb.Batch) ∷
+    ((codes "run", subcommand.Run) ∷
+    (codes "serial", subcommand.Serial) ∷
+    (codes "sim", subcommand.Sim) ∷
+    (codes "replay", subcommand.Replay) ∷
+    (codes "hash", subcommand.Hash) ∷
+    (codes "check", subcommand.Check) ∷
+    (codes "fmt", subcommand.Fmt) ∷
+    (codes "gen", subcommand.Gen) ∷
+    (codes "stream", subcommand.Stream) ∷
+    (codes "span", subcommand.Span) ∷
+    (codes "batch", subcommand.Batch) ∷
     [])
     word
 
@@ -57,18 +57,18 @@ name_of word =
     [])
     word
 
-abbrev pub options : Verb → List OptionName
-options verb.Run = name.Seed ∷ name.Gamma ∷ name.Depth ∷ name.Budget ∷ name.Workers ∷ name.Show ∷ name.Rounds ∷ []
-options verb.Serial = name.Seed ∷ name.Gamma ∷ name.Depth ∷ name.Budget ∷ name.Show ∷ name.Rounds ∷ []
-options verb.Sim = name.Number ∷ name.Seed ∷ name.Gamma ∷ name.Depth ∷ name.Budget ∷ name.Workers ∷ name.Show ∷ name.Rounds ∷ []
-options verb.Replay = name.At ∷ name.Seed ∷ name.Gamma ∷ name.Depth ∷ name.Budget ∷ name.Rounds ∷ []
-options verb.Hash = name.At ∷ name.Seed ∷ name.Gamma ∷ name.Rounds ∷ []
-options verb.Check = []
-options verb.Fmt = []
-options verb.Gen = name.Shape ∷ name.Size ∷ []
-options verb.Stream = name.At ∷ name.Count ∷ name.Seed ∷ name.Gamma ∷ name.Rounds ∷ name.Below ∷ []
-options verb.Span = name.Seed ∷ name.Gamma ∷ name.Depth ∷ name.Budget ∷ name.Rounds ∷ []
-options verb.Batch = name.Seeds ∷ name.Depth ∷ name.Budget ∷ name.Workers ∷ name.Show ∷ name.Rounds ∷ []
+abbrev pub options : Subcommand → List OptionName
+options subcommand.Run = name.Seed ∷ name.Gamma ∷ name.Depth ∷ name.Budget ∷ name.Workers ∷ name.Show ∷ name.Rounds ∷ []
+options subcommand.Serial = name.Seed ∷ name.Gamma ∷ name.Depth ∷ name.Budget ∷ name.Show ∷ name.Rounds ∷ []
+options subcommand.Sim = name.Number ∷ name.Seed ∷ name.Gamma ∷ name.Depth ∷ name.Budget ∷ name.Workers ∷ name.Show ∷ name.Rounds ∷ []
+options subcommand.Replay = name.At ∷ name.Seed ∷ name.Gamma ∷ name.Depth ∷ name.Budget ∷ name.Rounds ∷ []
+options subcommand.Hash = name.At ∷ name.Seed ∷ name.Gamma ∷ name.Rounds ∷ []
+options subcommand.Check = []
+options subcommand.Fmt = []
+options subcommand.Gen = name.Shape ∷ name.Size ∷ []
+options subcommand.Stream = name.At ∷ name.Count ∷ name.Seed ∷ name.Gamma ∷ name.Rounds ∷ name.Below ∷ []
+options subcommand.Span = name.Seed ∷ name.Gamma ∷ name.Depth ∷ name.Budget ∷ name.Rounds ∷ []
+options subcommand.Batch = name.Seeds ∷ name.Depth ∷ name.Budget ∷ name.Workers ∷ name.Show ∷ name.Rounds ∷ []
 
 -- a number for each name, so that names can be compared
 abbrev pub option_number : OptionName → ℕ
@@ -87,7 +87,7 @@ option_number name.Count = 11
 option_number name.Below = 12
 option_number name.Seeds = 13
 
-abbrev pub takes_option : Verb → OptionName → Bool
+abbrev pub takes_option : Subcommand → OptionName → Bool
 takes_option v n = list_any (λ m. option_number m == option_number n) (options v)
 
 -- a stream has at most so many numbers

@@ -1,7 +1,7 @@
+use contract_views::Items;
 use dotmix::Gamma;
 use ped_gen::Shape;
 use ped_path::Pedigree;
-use script_grammar::Items;
 use serial_meaning::{Limits, Show};
 
 /// What a run depends on beside its script.

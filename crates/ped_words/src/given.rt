@@ -17,7 +17,7 @@ use serial_meaning::Show;
 use std::alloc::{AllocError, Global};
 use std::marker::Model;
 
-/// The words of a command line, of which the first pairs are looked at. Each of these pairs has a value.
+// The words of a command line, of which the first pairs are looked at. Each of these pairs has a value.
 #[derive(Drop)]
 pub(crate) struct Given<'a> {
     words: &'a [String],
@@ -35,7 +35,7 @@ impl<'a> Model for Given<'a> {
     ghost invariant = { λ g. (2 * g.pairs < length g.words.now) × (2 * g.pairs < 2 ^ 32) };
 }
 
-/// The word at this index.
+// The word at this index.
 pub(crate) fn text_at(words: &[String], index: usize) -> &str
     requires { index < length words.now }
     ensures { result.now ≡ word_at (map string_bytes words.now) index }
@@ -43,7 +43,7 @@ pub(crate) fn text_at(words: &[String], index: usize) -> &str
     words[index].as_str()
 }
 
-/// Whether a word names this option.
+// Whether a word names this option.
 fn names_option(word: &str, name: OptionName) -> bool
     ensures { result ≡ is_option (name_of word.now) name }
 {
@@ -53,7 +53,7 @@ fn names_option(word: &str, name: OptionName) -> bool
     }
 }
 
-/// The index of the word that gives an option among the first pairs.
+// The index of the word that gives an option among the first pairs.
 fn value_index_of(words: &[String], pairs: u32, name: OptionName) -> Option<u32>
     requires within { 2 * pairs < length words.now }
     requires small { 2 * pairs < 2 ^ 32 }
@@ -66,7 +66,7 @@ fn value_index_of(words: &[String], pairs: u32, name: OptionName) -> Option<u32>
     index
 }
 
-/// The index of the word that gives an option among the pairs with this one, from that among those before it.
+// The index of the word that gives an option among the pairs with this one, from that among those before it.
 fn next_index(words: &[String], pair: u32, name: OptionName, before: Option<u32>) -> Option<u32>
     requires within { 2 * pair + 2 < length words.now }
     requires small { 2 * pair + 2 < 2 ^ 32 }
@@ -81,7 +81,7 @@ fn next_index(words: &[String], pair: u32, name: OptionName, before: Option<u32>
 }
 
 impl<'a> Given<'a> {
-    /// These words with so many pairs.
+    // These words with so many pairs.
     pub(crate) fn new(words: &'a [String], pairs: u32) -> Given<'a>
         requires within { 2 * pairs < length words.now }
         requires small { 2 * pairs < 2 ^ 32 }
@@ -90,21 +90,21 @@ impl<'a> Given<'a> {
         Given { words, pairs }
     }
 
-    /// How many words there are.
+    // How many words there are.
     pub(crate) fn len(&self) -> usize
         ensures { result ≡ length self.now.words }
     {
         self.words.len()
     }
 
-    /// The index of the word that gives an option.
+    // The index of the word that gives an option.
     pub(crate) fn value_index(&self, name: OptionName) -> Option<u32>
         ensures { IsValueIndex self.now.words self.now.pairs name result }
     {
         value_index_of(self.words, self.pairs, name)
     }
 
-    /// The word at this index.
+    // The word at this index.
     pub(crate) fn text(&self, at: u32) -> &str
         requires { at < length self.now.words }
         ensures { result.now ≡ word_at self.now.words at }
@@ -112,7 +112,7 @@ impl<'a> Given<'a> {
         text_at(self.words, at as usize)
     }
 
-    /// Whether an option was given. A seed and coefficients exclude each other, so either counts as the other.
+    // Whether an option was given. A seed and coefficients exclude each other, so either counts as the other.
     pub(crate) fn has(&self, name: OptionName) -> bool
         ensures { result ≡ has (values_in self.now) name }
     {
@@ -125,7 +125,7 @@ impl<'a> Given<'a> {
         }
     }
 
-    /// The number that an option gives, and the index of its word.
+    // The number that an option gives, and the index of its word.
     pub(crate) fn placed(&self, name: OptionName) -> Option<(u64, u32)>
         ensures { IsPlaced (values_in self.now) name result }
     {
@@ -138,7 +138,7 @@ impl<'a> Given<'a> {
         }
     }
 
-    /// The number that an option gives.
+    // The number that an option gives.
     pub(crate) fn number(&self, name: OptionName) -> Option<u64>
         ensures value { result ≡ number_value (values_in self.now) name }
         ensures range { IfSome result (IsInRange (value_type_of name)) }
@@ -149,7 +149,7 @@ impl<'a> Given<'a> {
         }
     }
 
-    /// The number below 2^32 that an option gives, or this one where it isn't given.
+    // The number below 2^32 that an option gives, or this one where it isn't given.
     pub(crate) fn small_number(&self, name: OptionName, default: u32) -> u32
         requires small { IsSmall (value_type_of name) }
         requires within { IsInRange (value_type_of name) default }
@@ -162,7 +162,7 @@ impl<'a> Given<'a> {
         }
     }
 
-    /// The list that an option gives, with the index of its word.
+    // The list that an option gives, with the index of its word.
     pub(crate) fn list(
         &self,
         alloc: Global,
@@ -180,7 +180,7 @@ impl<'a> Given<'a> {
         }
     }
 
-    /// The pedigree that is given.
+    // The pedigree that is given.
     pub(crate) fn pedigree(&self, alloc: Global) -> Result<Option<Pedigree>, WordError>
         ensures value { IfOk result (λ j. j ≡ pedigree (values_in self.now)) }
         ensures few { IfOk result (λ j. IfSome j (λ ranks. length ranks ≤ most_ranks)) }
@@ -195,7 +195,7 @@ impl<'a> Given<'a> {
         }
     }
 
-    /// What is to be shown.
+    // What is to be shown.
     pub(crate) fn show(&self) -> Option<Show>
         ensures { result ≡ show (values_in self.now) }
     {
@@ -205,7 +205,7 @@ impl<'a> Given<'a> {
         }
     }
 
-    /// The shape that is given.
+    // The shape that is given.
     pub(crate) fn shape(&self) -> Option<Shape>
         ensures { result ≡ shape (values_in self.now) }
     {
@@ -216,7 +216,7 @@ impl<'a> Given<'a> {
     }
 }
 
-/// The number that a word is, as a value of this type.
+// The number that a word is, as a value of this type.
 fn number_as(value_type: ValueType, word: &str) -> Option<u64>
     ensures value { result ≡ number_as value_type word.now }
     ensures range { IfSome result (IsInRange value_type) }
@@ -230,7 +230,7 @@ fn number_as(value_type: ValueType, word: &str) -> Option<u64>
     }
 }
 
-/// The numbers that a word is, as a value of this type.
+// The numbers that a word is, as a value of this type.
 #[tactic(auto, using(crate::proofs::NumberLemmas::counted))]
 fn list_as(alloc: Global, value_type: ValueType, word: &str) -> Result<Option<Vec<u64>>, AllocError>
     ensures value { IfOk result (λ list. option_map (λ l. l.items) list ≡ list_as value_type word.now) }

@@ -15,5 +15,7 @@ mod table;
 mod value;
 
 pub use command::{Command, Settings};
+pub use number::is_number;
 pub use read::read_words;
 pub use rule::{WordError, rule_text};
+pub use table::MOST_SEEDS;

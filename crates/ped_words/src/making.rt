@@ -11,19 +11,19 @@ ghost use Rattle.ped_words.specs.Values.{IsInRange};
 use crate::command::{Command, Settings};
 use crate::given::Given;
 use crate::rule::{Rule, WordError};
-use crate::table::{OptionName, Verb};
+use crate::table::{OptionName, Subcommand};
+use contract_views::Items;
 use dotmix::{Gamma, GammaError};
-use script_grammar::Items;
 use serial_meaning::{Limits, Show};
 use std::alloc::Global;
 
-/// How long pedigrees may be where no depth is given.
+// How long pedigrees may be where no depth is given.
 const DEFAULT_DEPTH: u32 = 256;
 
-/// How many coefficients there are where a command takes no depth.
+// How many coefficients there are where a command takes no depth.
 const HASH_DEPTH: u32 = 512;
 
-/// The seed where neither a seed nor coefficients are given.
+// The seed where neither a seed nor coefficients are given.
 const DEFAULT_SEED: u64 = 0;
 
 const DEFAULT_BUDGET: u32 = 1_000_000;
@@ -32,39 +32,43 @@ const DEFAULT_WORKERS: u32 = 4;
 
 const DEFAULT_ROUNDS: u32 = 4;
 
-/// How many ranks there are on a path.
+// How many ranks there are on a path.
 const RANKS: u64 = 1 << 32;
 
 impl<'a> Given<'a> {
-    /// The command that all pairs give.
-    pub(crate) fn command(&self, alloc: Global, verb: Verb) -> Result<Command, WordError>
+    // The command that all pairs give.
+    pub(crate) fn command(
+        &self,
+        alloc: Global,
+        subcommand: Subcommand,
+    ) -> Result<Command, WordError>
         requires few { length self.now.words < 2 ^ 32 }
-        ensures value { IsUnlessMemory (made_command verb (values_in self.now) (length self.now.words)) result }
+        ensures value { IsUnlessMemory (made_command subcommand (values_in self.now) (length self.now.words)) result }
         ensures lawful { IfOk result IsLawful }
     {
-        match verb {
-            Verb::Run => Ok(Command::Run {
+        match subcommand {
+            Subcommand::Run => Ok(Command::Run {
                 settings: self.settings(alloc)?,
                 workers: self.workers(),
             }),
-            Verb::Serial => Ok(Command::Serial {
+            Subcommand::Serial => Ok(Command::Serial {
                 settings: self.settings(alloc)?,
             }),
-            Verb::Sim => self.simulation(alloc),
-            Verb::Replay => self.replay(alloc),
-            Verb::Hash => self.hash(alloc),
-            Verb::Check => Ok(Command::Check),
-            Verb::Fmt => Ok(Command::Fmt),
-            Verb::Gen => self.generation(),
-            Verb::Stream => self.stream_command(alloc),
-            Verb::Span => Ok(Command::Span {
+            Subcommand::Sim => self.simulation(alloc),
+            Subcommand::Replay => self.replay(alloc),
+            Subcommand::Hash => self.hash(alloc),
+            Subcommand::Check => Ok(Command::Check),
+            Subcommand::Fmt => Ok(Command::Fmt),
+            Subcommand::Gen => self.generation(),
+            Subcommand::Stream => self.stream_command(alloc),
+            Subcommand::Span => Ok(Command::Span {
                 settings: self.settings(alloc)?,
             }),
-            Verb::Batch => self.batch(alloc),
+            Subcommand::Batch => self.batch(alloc),
         }
     }
 
-    /// An option is missing.
+    // An option is missing.
     fn lacks(&self) -> WordError
         requires { length self.now.words < 2 ^ 32 }
         ensures { result ≡ breaks Rule.MissingOption (length self.now.words) }
@@ -72,10 +76,10 @@ impl<'a> Given<'a> {
         Rule::MissingOption.at(self.len() as u32)
     }
 
-    /// The command `sim`, which needs a number.
+    // The command `sim`, which needs a number.
     fn simulation(&self, alloc: Global) -> Result<Command, WordError>
         requires { length self.now.words < 2 ^ 32 }
-        ensures value { IsUnlessMemory (made_command Verb.Sim (values_in self.now) (length self.now.words)) result }
+        ensures value { IsUnlessMemory (made_command Subcommand.Sim (values_in self.now) (length self.now.words)) result }
         ensures lawful { IfOk result IsLawful }
     {
         let Some(number) = self.number(OptionName::Number) else {
@@ -88,10 +92,10 @@ impl<'a> Given<'a> {
         })
     }
 
-    /// The command `replay`, which needs a pedigree.
+    // The command `replay`, which needs a pedigree.
     fn replay(&self, alloc: Global) -> Result<Command, WordError>
         requires { length self.now.words < 2 ^ 32 }
-        ensures value { IsUnlessMemory (made_command Verb.Replay (values_in self.now) (length self.now.words)) result }
+        ensures value { IsUnlessMemory (made_command Subcommand.Replay (values_in self.now) (length self.now.words)) result }
         ensures lawful { IfOk result IsLawful }
     {
         let Some(at) = self.pedigree(alloc)? else {
@@ -101,10 +105,10 @@ impl<'a> Given<'a> {
         Ok(Command::Replay { settings, at })
     }
 
-    /// The command `hash`, which needs a pedigree.
+    // The command `hash`, which needs a pedigree.
     fn hash(&self, alloc: Global) -> Result<Command, WordError>
         requires { length self.now.words < 2 ^ 32 }
-        ensures value { IsUnlessMemory (made_command Verb.Hash (values_in self.now) (length self.now.words)) result }
+        ensures value { IsUnlessMemory (made_command Subcommand.Hash (values_in self.now) (length self.now.words)) result }
         ensures lawful { IfOk result IsLawful }
     {
         let Some(at) = self.pedigree(alloc)? else {
@@ -117,10 +121,10 @@ impl<'a> Given<'a> {
         })
     }
 
-    /// The command `gen`, which needs a shape and a size that fits it.
+    // The command `gen`, which needs a shape and a size that fits it.
     fn generation(&self) -> Result<Command, WordError>
         requires { length self.now.words < 2 ^ 32 }
-        ensures value { IsUnlessMemory (made_command Verb.Gen (values_in self.now) (length self.now.words)) result }
+        ensures value { IsUnlessMemory (made_command Subcommand.Gen (values_in self.now) (length self.now.words)) result }
         ensures lawful { IfOk result IsLawful }
     {
         let (Some(shape), Some((size, at))) = (self.shape(), self.placed(OptionName::Size)) else {
@@ -132,10 +136,10 @@ impl<'a> Given<'a> {
         Ok(Command::Gen { shape, size })
     }
 
-    /// The command `stream`, which needs a pedigree and a count that its ranks are enough for.
+    // The command `stream`, which needs a pedigree and a count that its ranks are enough for.
     fn stream_command(&self, alloc: Global) -> Result<Command, WordError>
         requires { length self.now.words < 2 ^ 32 }
-        ensures value { IsUnlessMemory (made_command Verb.Stream (values_in self.now) (length self.now.words)) result }
+        ensures value { IsUnlessMemory (made_command Subcommand.Stream (values_in self.now) (length self.now.words)) result }
         ensures lawful { IfOk result IsLawful }
     {
         let Some(at) = self.pedigree(alloc)? else {
@@ -157,10 +161,10 @@ impl<'a> Given<'a> {
         })
     }
 
-    /// The command `batch`, which needs seeds.
+    // The command `batch`, which needs seeds.
     fn batch(&self, alloc: Global) -> Result<Command, WordError>
         requires { length self.now.words < 2 ^ 32 }
-        ensures value { IsUnlessMemory (made_command Verb.Batch (values_in self.now) (length self.now.words)) result }
+        ensures value { IsUnlessMemory (made_command Subcommand.Batch (values_in self.now) (length self.now.words)) result }
         ensures lawful { IfOk result IsLawful }
     {
         let Some((seeds, _)) = self.list(alloc, OptionName::Seeds)? else {
@@ -229,7 +233,7 @@ impl<'a> Given<'a> {
         self.small_number(OptionName::Rounds, DEFAULT_ROUNDS)
     }
 
-    /// The coefficients of this depth, of the list that is given or else of the seed.
+    // The coefficients of this depth, of the list that is given or else of the seed.
     fn coefficients(&self, alloc: Global, depth: u32) -> Result<Gamma, WordError>
         ensures ok { IfOk result (λ gamma. gamma ≡ command_gamma (values_in self.now) depth) }
         ensures fits { IfOk result (λ gamma. gamma_fits (values_in self.now) depth ≡ true) }
@@ -249,7 +253,7 @@ impl<'a> Given<'a> {
     }
 }
 
-/// The coefficients in the word at this index make no list of the depth.
+// The coefficients in the word at this index make no list of the depth.
 fn gamma_error(error: GammaError, at: u32) -> WordError
     ensures { result ≡ gamma_error error at }
 {

@@ -10,7 +10,7 @@ ghost use Rattle.ped_words.specs.Table.{name_of};
 use crate::command::Command;
 use crate::given::{Given, text_at};
 use crate::rule::{Rule, WordError};
-use crate::table::{OptionName, Verb};
+use crate::table::{OptionName, Subcommand};
 use crate::value::judge_value;
 use std::alloc::Global;
 
@@ -27,44 +27,54 @@ pub fn read_words(alloc: Global, words: &[String]) -> Result<Command, WordError>
     if words.is_empty() {
         return Err(Rule::NoCommand.at(0));
     }
-    let Some(verb) = Verb::of_word(text_at(words, 0)) else {
+    let Some(subcommand) = Subcommand::of_word(text_at(words, 0)) else {
         return Err(Rule::UnknownCommand.at(0));
     };
-    judge_pairs(alloc, verb, words)?;
+    judge_pairs(alloc, subcommand, words)?;
     let given = Given::new(words, words.len() as u32 / 2);
-    given.command(alloc, verb)
+    given.command(alloc, subcommand)
 }
 
-/// Judges all pairs. There are few words where no pair breaks a rule, since each option is given once, and the last one has a value.
-fn judge_pairs(alloc: Global, verb: Verb, words: &[String]) -> Result<(), WordError>
+// Judges all pairs. There are few words where no pair breaks a rule, since each option is given once, and the last one has a value.
+fn judge_pairs(alloc: Global, subcommand: Subcommand, words: &[String]) -> Result<(), WordError>
     requires { 0 < length words.now }
-    ensures broken { OnOk result (first_broken verb (map string_bytes words.now) ≡ None) }
+    ensures broken { OnOk result (first_broken subcommand (map string_bytes words.now) ≡ None) }
     ensures few { OnOk result (length words.now < 2 ^ 32) }
     ensures whole { OnOk result (2 * pairs_in (map string_bytes words.now) < length words.now) }
-    ensures err { IfErr result (IsRefusal (first_broken verb (map string_bytes words.now))) }
+    ensures err { IfErr result (IsRefusal (first_broken subcommand (map string_bytes words.now))) }
 {
     let mut pair = 0;
     while (pair as usize) < words.len() / 2 {
-        judge_pair(alloc, verb, words, pair)?;
+        judge_pair(alloc, subcommand, words, pair)?;
         pair += 1;
     }
     Ok(())
 }
 
-/// Judges a pair after others that break no rule.
-fn judge_pair(alloc: Global, verb: Verb, words: &[String], pair: u32) -> Result<(), WordError>
+// Judges a pair after others that break no rule.
+fn judge_pair(
+    alloc: Global,
+    subcommand: Subcommand,
+    words: &[String],
+    pair: u32,
+) -> Result<(), WordError>
     requires within { pair < pairs_in (map string_bytes words.now) }
     requires small { 2 * pair + 2 < 2 ^ 32 }
-    ensures broken { OnOk result (broken_pair verb (map string_bytes words.now) pair ≡ None) }
+    ensures broken { OnOk result (broken_pair subcommand (map string_bytes words.now) pair ≡ None) }
     ensures counted { OnOk result (given_count (option_values (map string_bytes words.now) (pair + 1)) ≡ given_count (option_values (map string_bytes words.now) pair) + 1) }
     ensures valued { OnOk result (2 * pair + 2 < length words.now) }
-    ensures err { IfErr result (IsRefusal (broken_pair verb (map string_bytes words.now) pair)) }
+    ensures err { IfErr result (IsRefusal (broken_pair subcommand (map string_bytes words.now) pair)) }
 {
     let given = Given::new(words, pair);
     let name_at = 2 * pair + 1;
     let value_at = name_at + 1;
     let is_last = words.len() <= value_at as usize;
-    let name = match judge_name(verb, &given, text_at(words, name_at as usize), is_last) {
+    let name = match judge_name(
+        subcommand,
+        &given,
+        text_at(words, name_at as usize),
+        is_last,
+    ) {
         Ok(name) => name,
         Err(rule) => return Err(rule.at(name_at)),
     };
@@ -76,13 +86,18 @@ fn judge_pair(alloc: Global, verb: Verb, words: &[String], pair: u32) -> Result<
     )
 }
 
-/// The option that this word names, where the name of one is due. It may be the last word.
-fn judge_name(verb: Verb, given: &Given, word: &str, is_last: bool) -> Result<OptionName, Rule>
-    ensures ok { OnOk result (name_rule verb (values_in given.now) word.now is_last ≡ None) }
+// The option that this word names, where the name of one is due. It may be the last word.
+fn judge_name(
+    subcommand: Subcommand,
+    given: &Given,
+    word: &str,
+    is_last: bool,
+) -> Result<OptionName, Rule>
+    ensures ok { OnOk result (name_rule subcommand (values_in given.now) word.now is_last ≡ None) }
     ensures named { IfOk result (λ name. name_of word.now ≡ Some name) }
     ensures fresh { IfOk result (λ name. has (values_in given.now) name ≡ false) }
     ensures more { OnOk result (is_last ≡ false) }
-    ensures err { IfErr result (λ rule. name_rule verb (values_in given.now) word.now is_last ≡ Some rule) }
+    ensures err { IfErr result (λ rule. name_rule subcommand (values_in given.now) word.now is_last ≡ Some rule) }
 {
     if !word.as_bytes().starts_with(b"--") {
         return Err(Rule::StrayWord);
@@ -91,7 +106,7 @@ fn judge_name(verb: Verb, given: &Given, word: &str, is_last: bool) -> Result<Op
         Some(name) => name,
         None => return Err(Rule::UnknownOption),
     };
-    if !verb.takes_option(name) {
+    if !subcommand.takes_option(name) {
         return Err(Rule::UnknownOption);
     }
     if given.has(name) {

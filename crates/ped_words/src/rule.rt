@@ -4,7 +4,7 @@ ghost use Rattle.ped_words.specs.Rules.{number_of, rule_of, rule_text, rule_name
 use ped_path::PedTextError;
 use std::alloc::{AllocError, AllocFailed};
 
-/// The rules for words, by what breaks them.
+// The rules for words, by what breaks them.
 #[derive(Clone, Copy, Debug, PartialEq, Eq)]
 pub(crate) enum Rule {
     NoCommand,
@@ -58,7 +58,7 @@ impl Rule {
         }
     }
 
-    /// The rule of this number. Of a number that none has it is the last.
+    // The rule of this number. Of a number that none has it is the last.
     fn of_number(number: u8) -> Rule
         ensures { result ≡ rule_of number }
     {
@@ -91,7 +91,7 @@ impl Rule {
         }
     }
 
-    /// This rule is broken at the word of this index.
+    // This rule is broken at the word of this index.
     pub(crate) fn at(self, at: u32) -> WordError
         ensures { result ≡ WordError.Bad (number_of self) at }
     {
@@ -101,7 +101,7 @@ impl Rule {
         }
     }
 
-    /// The rule that a text breaks which is no pedigree's. There is none where there was no memory.
+    // The rule that a text breaks which is no pedigree's. There is none where there was no memory.
     pub(crate) fn of_text(error: PedTextError) -> Option<Rule>
         ensures { result ≡ text_rule error }
     {

@@ -1,6 +1,6 @@
 ghost use Rattle.std.specs.Prelude.{◌≡◌, ◌==◌};
 ghost use Rattle.ped_words.specs.declared.table.ValueType.TheVariants as value_type;
-ghost use Rattle.ped_words.specs.Table.{verb_of, name_of, option_number, takes_option, value_type_of};
+ghost use Rattle.ped_words.specs.Table.{subcommand_of, name_of, option_number, takes_option, value_type_of};
 
 use dotmix::MOST_ROUNDS;
 use serial_meaning::MOST_DEPTH;
@@ -9,15 +9,15 @@ const MOST_BUDGET: u64 = 4_294_967_295;
 
 const MOST_WORKERS: u64 = 64;
 
-/// How many numbers a stream has at most.
+// How many numbers a stream has at most.
 const MOST_COUNT: u64 = 1_048_576;
 
 /// How many seeds a batch has at most.
-const MOST_SEEDS: u64 = 256;
+pub const MOST_SEEDS: u64 = 256;
 
-/// The commands.
+// The commands.
 #[derive(Clone, Copy, Debug, PartialEq, Eq)]
-pub(crate) enum Verb {
+pub(crate) enum Subcommand {
     Run,
     Serial,
     Sim,
@@ -31,7 +31,7 @@ pub(crate) enum Verb {
     Batch,
 }
 
-/// The options of all commands.
+// The options of all commands.
 #[derive(Clone, Copy, Debug, PartialEq, Eq)]
 pub(crate) enum OptionName {
     Seed,
@@ -50,65 +50,85 @@ pub(crate) enum OptionName {
     Seeds,
 }
 
-/// What the value of an option is.
+// What the value of an option is.
 #[derive(Clone, Copy, Debug, PartialEq, Eq)]
 pub(crate) enum ValueType {
-    /// A number of this range.
+    // A number of this range.
     Number { least: u64, most: u64 },
-    /// Numbers joined by commas, at most so many where there is a greatest count.
+    // Numbers joined by commas, at most so many where there is a greatest count.
     Numbers { most: Option<u64> },
     Pedigree,
     Show,
     Shape,
 }
 
-impl Verb {
-    /// The command that this word names.
-    pub(crate) fn of_word(word: &str) -> Option<Verb>
-        ensures { result ≡ verb_of word.now }
+impl Subcommand {
+    // The command that this word names.
+    pub(crate) fn of_word(word: &str) -> Option<Subcommand>
+        ensures { result ≡ subcommand_of word.now }
     {
         match word {
-            "run" => Some(Verb::Run),
-            "serial" => Some(Verb::Serial),
-            "sim" => Some(Verb::Sim),
-            "replay" => Some(Verb::Replay),
-            "hash" => Some(Verb::Hash),
-            "check" => Some(Verb::Check),
-            "fmt" => Some(Verb::Fmt),
-            "gen" => Some(Verb::Gen),
-            "stream" => Some(Verb::Stream),
-            "span" => Some(Verb::Span),
-            "batch" => Some(Verb::Batch),
+            "run" => Some(Subcommand::Run),
+            "serial" => Some(Subcommand::Serial),
+            "sim" => Some(Subcommand::Sim),
+            "replay" => Some(Subcommand::Replay),
+            "hash" => Some(Subcommand::Hash),
+            "check" => Some(Subcommand::Check),
+            "fmt" => Some(Subcommand::Fmt),
+            "gen" => Some(Subcommand::Gen),
+            "stream" => Some(Subcommand::Stream),
+            "span" => Some(Subcommand::Span),
+            "batch" => Some(Subcommand::Batch),
             _ => None,
         }
     }
 
-    /// Whether this command has the option.
+    // Whether this command has the option.
     pub(crate) fn takes_option(self, name: OptionName) -> bool
         ensures { result ≡ takes_option self name }
     {
         match name {
             OptionName::Seed | OptionName::Gamma => {
-                !matches!(self, Verb::Check | Verb::Fmt | Verb::Gen | Verb::Batch)
+                !matches!(
+                    self,
+                    Subcommand::Check | Subcommand::Fmt | Subcommand::Gen | Subcommand::Batch
+                )
             }
             OptionName::Depth | OptionName::Budget => matches!(
                 self,
-                Verb::Run | Verb::Serial | Verb::Sim | Verb::Replay | Verb::Span | Verb::Batch
+                Subcommand::Run
+                    | Subcommand::Serial
+                    | Subcommand::Sim
+                    | Subcommand::Replay
+                    | Subcommand::Span
+                    | Subcommand::Batch
             ),
-            OptionName::Rounds => !matches!(self, Verb::Check | Verb::Fmt | Verb::Gen),
-            OptionName::Workers => matches!(self, Verb::Run | Verb::Sim | Verb::Batch),
-            OptionName::Show => matches!(self, Verb::Run | Verb::Serial | Verb::Sim | Verb::Batch),
-            OptionName::Number => matches!(self, Verb::Sim),
-            OptionName::At => matches!(self, Verb::Replay | Verb::Hash | Verb::Stream),
-            OptionName::Shape | OptionName::Size => matches!(self, Verb::Gen),
-            OptionName::Count | OptionName::Below => matches!(self, Verb::Stream),
-            OptionName::Seeds => matches!(self, Verb::Batch),
+            OptionName::Rounds => !matches!(
+                self,
+                Subcommand::Check | Subcommand::Fmt | Subcommand::Gen
+            ),
+            OptionName::Workers => matches!(
+                self,
+                Subcommand::Run | Subcommand::Sim | Subcommand::Batch
+            ),
+            OptionName::Show => matches!(
+                self,
+                Subcommand::Run | Subcommand::Serial | Subcommand::Sim | Subcommand::Batch
+            ),
+            OptionName::Number => matches!(self, Subcommand::Sim),
+            OptionName::At => matches!(
+                self,
+                Subcommand::Replay | Subcommand::Hash | Subcommand::Stream
+            ),
+            OptionName::Shape | OptionName::Size => matches!(self, Subcommand::Gen),
+            OptionName::Count | OptionName::Below => matches!(self, Subcommand::Stream),
+            OptionName::Seeds => matches!(self, Subcommand::Batch),
         }
     }
 }
 
 impl OptionName {
-    /// The option that this word names.
+    // The option that this word names.
     pub(crate) fn of_word(word: &str) -> Option<OptionName>
         ensures { result ≡ name_of word.now }
     {
@@ -137,14 +157,14 @@ impl OptionName {
         self as u8
     }
 
-    /// Whether both are the same option.
+    // Whether both are the same option.
     pub(crate) fn is(self, other: OptionName) -> bool
         ensures { result ≡ (option_number self == option_number other) }
     {
         self.option_number() == other.option_number()
     }
 
-    /// What the option's value is, and its range.
+    // What the option's value is, and its range.
     pub(crate) fn value_type(self) -> ValueType
         ensures { result ≡ value_type_of self }
     {
@@ -167,7 +187,7 @@ impl OptionName {
     }
 }
 
-/// Numbers in this range.
+// Numbers in this range.
 fn number(least: u64, most: u64) -> ValueType
     ensures { result ≡ value_type.Number least most }
 {

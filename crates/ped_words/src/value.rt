@@ -15,7 +15,7 @@ use ped_path::{Pedigree, parse_pedigree};
 use serial_meaning::Show;
 use std::alloc::Global;
 
-/// Judges the word at this index as a value of this type.
+// Judges the word at this index as a value of this type.
 pub(crate) fn judge_value(
     alloc: Global,
     value_type: ValueType,
@@ -31,7 +31,7 @@ pub(crate) fn judge_value(
     }
 }
 
-/// The rule that a word breaks as a value of this type.
+// The rule that a word breaks as a value of this type.
 fn broken_rule(alloc: Global, value_type: ValueType, word: &str) -> Result<Option<Rule>, WordError>
     ensures rule { IfOk result (λ rule. rule ≡ type_rule value_type word.now) }
     ensures memory { IfErr result (λ e. e ≡ WordError.Memory) }
@@ -45,14 +45,14 @@ fn broken_rule(alloc: Global, value_type: ValueType, word: &str) -> Result<Optio
     }
 }
 
-/// What is broken by a word that should name something.
+// What is broken by a word that should name something.
 fn unnamed(names: bool) -> Option<Rule>
     ensures { result ≡ (if names then None else Some Rule.BadValue) }
 {
     if names { None } else { Some(Rule::BadValue) }
 }
 
-/// How many ranks a pedigree has, each of them below 2^32.
+// How many ranks a pedigree has, each of them below 2^32.
 fn rank_count(pedigree: &Pedigree) -> u64
     ensures count { result ≡ length pedigree.now }
     ensures some { 0 < length pedigree.now }
@@ -63,7 +63,7 @@ fn rank_count(pedigree: &Pedigree) -> u64
     pedigree.len()
 }
 
-/// The pedigree of this text, or the rule that the text breaks.
+// The pedigree of this text, or the rule that the text breaks.
 pub(crate) fn pedigree_in(alloc: Global, word: &str) -> Result<Result<Pedigree, Rule>, WordError>
     ensures read { IfOk result (IsRead word.now) }
     ensures memory { IfErr result (λ e. e ≡ WordError.Memory) }

@@ -1,4 +1,4 @@
 pub mod Calls
-pub mod Edge
+pub mod EarlyExit
 pub mod Help
 pub mod Hints

@@ -4,7 +4,7 @@ ghost use Rattle.std.specs.Prelude.{map, string_bytes};
 ghost use Rattle.engine.specs.Clauses.{change};
 ghost use Rattle.pedrun.specs.Calls.{Answers};
 
-use crate::edge::write_help;
+use crate::early_exit::write_help;
 use crate::help::Topic;
 use crate::streams::Streams;
 use engine::{OpenGate, Status, pedrun};

@@ -3,16 +3,16 @@
 use std::alloc::{AllocError, Global};
 use std::mem;
 
-/// How much of a line is kept at most: a pedigree has 512 ranks of ten digits.
+// How much of a line is kept at most: a pedigree has 512 ranks of ten digits.
 const MOST_KEPT: usize = 8192;
 
 /// Finds in the bytes of an output, as they come, the first line of a fault, and the seed of a batch above it.
 #[derive(Drop)]
 pub struct FaultLine {
     alloc: Global,
-    /// The line so far, where it may be one of these.
+    // The line so far, where it may be one of these.
     line: Vec<u8>,
-    /// Whether the line is none of them.
+    // Whether the line is none of them.
     is_other: bool,
     seed: Vec<u8>,
     fault: Vec<u8>,

@@ -4,10 +4,15 @@ ghost use Rattle.std.specs.Prelude.{◌≡◌, ◌++◌, IfOk, OnOk, Some, None}
 ghost use Rattle.pedrun.specs.Hints.{shown_word, try_line, word_line};
 
 use crate::help::Topic;
+use dotmix::MODULUS;
+use ped_words::{MOST_SEEDS, is_number};
 use script_excerpt::add_shown;
 use std::alloc::{AllocError, Global};
 
-/// How many bytes of a word are shown at most.
+// What the further lines on an option begin with, in a text of the help.
+const CONTINUED: &str = "                   ";
+
+// How many bytes of a word are shown at most.
 const MOST_SHOWN: usize = 72;
 
 // Adds as much of a word as is shown.
@@ -28,28 +33,85 @@ fn word_line(alloc: Global, at: usize, word: &str) -> Result<Vec<u8>, AllocError
     Ok(line)
 }
 
-// Whether a number of a list has another form, or is above the greatest one.
-fn is_bad_number(number: &str) -> bool {
-    number.parse::<u64>().is_err()
-        || !number.bytes().all(|byte| byte.is_ascii_digit())
-        || (number.len() > 1 && number.starts_with('0'))
+// Whether an option takes a number, which is of the right form, at this index of its list.
+fn takes_number(option: &str, index: usize, number: &str) -> bool {
+    match number.parse::<u64>() {
+        Ok(value) => match option {
+            "--seeds" => index < MOST_SEEDS as usize,
+            "--gamma" => value < MODULUS,
+            _ => true,
+        },
+        Err(_) => false,
+    }
 }
 
-// The line that shows, of the word with this index, the first number that is none or too big. None where the word is no list, or each number
-// of it may stand there.
-fn number_line(alloc: Global, at: usize, word: &str) -> Result<Option<Vec<u8>>, AllocError> {
-    if !word.contains(',') {
-        return Ok(None);
+// The first number of a list that its option doesn't take, with how many there are up to it: one of another form, or else one that
+// is too large or one too many.
+fn faulty_number<'a>(
+    alloc: Global,
+    option: &str,
+    list: &'a str,
+) -> Result<Option<(usize, &'a str)>, AllocError> {
+    let numbers: Vec<&str> = list.split(',').collect(alloc)?;
+    for index in 0..numbers.len() {
+        if !is_number(numbers[index]) {
+            return Ok(Some((index + 1, numbers[index])));
+        }
     }
-    for number in word.split(',') {
-        if is_bad_number(number) {
-            let mut line = format!(in alloc; "word {at} has the number ")?.into_bytes();
-            add_word(&mut line, number)?;
-            line.extend_from_slice(b"\n")?;
-            return Ok(Some(line));
+    for index in 0..numbers.len() {
+        if !takes_number(option, index, numbers[index]) {
+            return Ok(Some((index + 1, numbers[index])));
         }
     }
     Ok(None)
+}
+
+// The line that shows, of the word with this index, the number at fault. None where the word is no list, or each of its numbers is of the
+// right form and not too large.
+fn number_line(
+    alloc: Global,
+    at: usize,
+    option: &str,
+    word: &str,
+) -> Result<Option<Vec<u8>>, AllocError> {
+    if !word.contains(',') {
+        return Ok(None);
+    }
+    let Some((count, number)) = faulty_number(alloc, option, word)? else {
+        return Ok(None);
+    };
+    let mut line = format!(in alloc; "number {count} of word {at} is ")?.into_bytes();
+    if number.is_empty() {
+        line.extend_from_slice(b"empty")?;
+    } else {
+        add_word(&mut line, number)?;
+    }
+    line.extend_from_slice(b"\n")?;
+    Ok(Some(line))
+}
+
+// Whether a line of a help text begins what it says on an option.
+fn begins_option(line: &str, option: &str) -> bool {
+    match line.strip_prefix("  ") {
+        Some(rest) => match rest.strip_prefix(option) {
+            Some(rest) => rest.starts_with(' '),
+            None => false,
+        },
+        None => false,
+    }
+}
+
+// Adds the lines of a help text on an option: what it takes, and in which range.
+fn add_option(lines: &mut Vec<u8>, text: &str, option: &str) -> Result<(), AllocError> {
+    let mut is_inside = false;
+    for line in text.lines() {
+        is_inside = begins_option(line, option) || (is_inside && line.starts_with(CONTINUED));
+        if is_inside {
+            lines.extend_from_slice(line.as_bytes())?;
+            lines.extend_from_slice(b"\n")?;
+        }
+    }
+    Ok(())
 }
 
 // The line on a script's name among the words: a script comes by standard input.
@@ -65,15 +127,38 @@ fn script_line(alloc: Global, command: &str, word: &str) -> Result<Option<Vec<u8
     Ok(Some(line))
 }
 
+// The option whose value the word at this index is, behind the command and pairs.
+fn option_before(words: &[String], at: usize) -> &str {
+    if at < 2 || at % 2 != 0 {
+        return "";
+    }
+    words.get(at - 1).map_or("", String::as_str)
+}
+
 // What is shown of the word at which the fault is.
-fn faulty_word(alloc: Global, at: usize, command: &str, word: &str) -> Result<Vec<u8>, AllocError> {
-    let mut lines = match number_line(alloc, at, word)? {
+fn faulty_word(
+    alloc: Global,
+    words: &[String],
+    at: usize,
+    word: &str,
+) -> Result<Vec<u8>, AllocError> {
+    let option = option_before(words, at);
+    let mut lines = match number_line(alloc, at, option, word)? {
         Some(line) => line,
         None => word_line(alloc, at, word)?,
     };
-    let command = if at == 0 { "run" } else { command };
+    let command = if at == 0 {
+        "run"
+    } else {
+        words.first().map_or("", String::as_str)
+    };
     if let Some(line) = script_line(alloc, command, word)? {
         lines.extend_from_slice(&line)?;
+    }
+    if let Some(topic) = Topic::of_command(command) {
+        if !option.is_empty() {
+            add_option(&mut lines, topic.text(), option)?;
+        }
     }
     Ok(lines)
 }
@@ -102,17 +187,17 @@ fn usage(text: &str) -> &str {
         .unwrap_or("")
 }
 
-/// The lines after one on words. The fault is at this word, where it is at one: the word is shown, of a list the number at fault, with how a
-/// script is read where the word is the name of one, or the command's usage where the fault
-/// stands after the last one, which is a missing option. Then comes how to ask for help: on the command, where there is one, else on the
-/// program.
+/// The lines after one on words. Where the fault is at a word, that word is shown, of a list the number at fault. How a script is read
+/// follows where the word is the name of one, and what the option takes where it is a value. Where the fault stands after the last word,
+/// which is a missing option, the command's usage is shown. Then comes how to ask for help: on the command, where there is one, else
+/// on the program.
 pub fn hints(alloc: Global, words: &[String], at: Option<usize>) -> Result<Vec<u8>, AllocError> {
     let command = words.first().map_or("", String::as_str);
     let topic = Topic::of_command(command);
     let mut lines = Vec::new(alloc);
     if let Some(at) = at {
         if let Some(word) = words.get(at) {
-            lines.extend_from_slice(&faulty_word(alloc, at, command, word)?)?;
+            lines.extend_from_slice(&faulty_word(alloc, words, at, word)?)?;
         } else if let Some(topic) = topic {
             lines.extend_from_slice(usage(topic.text()).as_bytes())?;
             lines.extend_from_slice(b"\n")?;

@@ -5,7 +5,7 @@
 #![tactic(auto)]
 
 mod answer;
-mod edge;
+mod early_exit;
 mod fault_line;
 mod fault_note;
 mod help;
@@ -14,13 +14,14 @@ mod notes;
 mod progress;
 mod recorded;
 mod replay_call;
+mod search;
 mod streams;
 mod terminal;
 mod text;
 mod ticker;
 
 use answer::answer;
-use edge::refuse;
+use early_exit::refuse;
 use notes::seed_count;
 use progress::Progress;
 use std::io::IsTerminal;

@@ -1,26 +1,75 @@
 // How far a run is, as a person sees it.
 
+ghost use Rattle.std.specs.Prelude.{◌<◌};
+
+use crossbeam_utils::CachePadded;
 use engine::Gate;
 use serial_meaning::Origin;
-use std::eprint;
 use std::io::Eprint;
 use std::sync::atomic::{AtomicU64, Ordering};
 use std::sync::{Mutex, Wait};
 use std::time::{Clock, Duration};
+use std::{array, eprint};
 
-/// When the line is shown first, in milliseconds after the run began.
+// When the line is shown first, in milliseconds after the run began.
 const FIRST: u64 = 2000;
 
-/// How long it stands until it is shown anew, in milliseconds.
+// How long it stands until it is shown anew, in milliseconds.
 const STEP: u64 = 200;
 
-/// The line on the error output.
+// How many counters there are.
+const PARTS: usize = 64;
+
+// How many ranks of a task's path say which of them counts it.
+const RANKS: u64 = 4;
+
+// So many iterations of a loop in a row have one counter.
+const ROW: u64 = 4096;
+
+// The tasks of a part of the run. It stands on cache lines of its own, so that workers that count at once don't wait for one another.
+#[derive(Drop)]
+struct Counts {
+    begun: AtomicU64,
+    ended: AtomicU64,
+}
+
+impl Counts {
+    fn new() -> CachePadded<Counts> {
+        CachePadded::new(Counts {
+            begun: AtomicU64::new(0),
+            ended: AtomicU64::new(0),
+        })
+    }
+}
+
+// The counter of a task, by the front of its path, and for a part of a loop by its first iteration: tasks that stand close together are mostly
+// run by one worker.
+fn part_of(origin: &Origin) -> usize
+    ensures { result < 64 }
+{
+    let (path, row) = match origin {
+        Origin::Instance { path, .. } => (path, 0),
+        Origin::Loop { path, range, .. } => (path, range.lo / ROW),
+    };
+    let mut hash = row;
+    for i in 0..RANKS {
+        let rank = path.rank_at(i).unwrap_or(0);
+        hash = hash.wrapping_mul(31).wrapping_add(rank);
+    }
+    (hash % PARTS as u64) as usize
+}
+
+fn counts_of<'p>(parts: &'p [CachePadded<Counts>; PARTS], origin: &Origin) -> &'p Counts {
+    &parts[part_of(origin)]
+}
+
+// The line on the error output.
 #[derive(Clone, Copy, Debug, PartialEq, Eq)]
 enum Line {
-    /// It isn't shown yet.
+    // It isn't shown yet.
     Hidden,
     Shown,
-    /// It is shown no more.
+    // It is shown no more.
     Over,
 }
 
@@ -29,16 +78,15 @@ enum Line {
 #[derive(Drop)]
 pub struct Progress<'a, R> {
     rt: &'a R,
-    /// When `begin` was called, in milliseconds of the clock, and 0 until then.
+    // When `begin` was called, in milliseconds of the clock, and 0 until then.
     start: AtomicU64,
-    /// How many seeds a batch has, and 0 where it is no batch.
+    // How many seeds a batch has, and 0 where it is no batch.
     seeds: u64,
-    begun: AtomicU64,
-    ended: AtomicU64,
-    /// How many of these were the mains of a run or of a batch.
+    parts: [CachePadded<Counts>; PARTS],
+    // How many of the tasks that have ended were the mains of a run or of a batch.
     mains: AtomicU64,
     line: Mutex<Line>,
-    /// Not 0 once the line is to be shown no more.
+    // Not 0 once the line is to be shown no more.
     is_over: AtomicU64,
 }
 
@@ -50,8 +98,7 @@ impl<'a, R: Wait + Clock + Eprint> Progress<'a, R> {
             rt,
             start: AtomicU64::new(0),
             seeds,
-            begun: AtomicU64::new(0),
-            ended: AtomicU64::new(0),
+            parts: array::from_fn(|_| Counts::new()),
             mains: AtomicU64::new(0),
             line: Mutex::new(if can_rewrite {
                 Line::Hidden
@@ -88,8 +135,12 @@ impl<'a, R: Wait + Clock + Eprint> Progress<'a, R> {
             return;
         }
         *line = Line::Shown;
-        let begun = self.begun.load(Ordering::SeqCst);
-        let ended = self.ended.load(Ordering::SeqCst);
+        let mut begun = 0u64;
+        let mut ended = 0u64;
+        for part in &self.parts {
+            begun = begun.saturating_add(part.begun.load(Ordering::SeqCst));
+            ended = ended.saturating_add(part.ended.load(Ordering::SeqCst));
+        }
         if self.seeds > 0 {
             let mains = self.mains.load(Ordering::SeqCst);
             let seeds = self.seeds;
@@ -132,12 +183,14 @@ impl<'a, R: Wait + Clock + Eprint> Progress<'a, R> {
 }
 
 impl<'a, R: Wait + Clock + Eprint> Gate for Progress<'a, R> {
-    fn enter(&self, _origin: &Origin) {
-        self.begun.fetch_add(1, Ordering::SeqCst);
+    fn enter(&self, origin: &Origin) {
+        let counts = counts_of(&self.parts, origin);
+        counts.begun.fetch_add(1, Ordering::SeqCst);
     }
 
     fn leave(&self, origin: &Origin) {
-        self.ended.fetch_add(1, Ordering::SeqCst);
+        let counts = counts_of(&self.parts, origin);
+        counts.ended.fetch_add(1, Ordering::SeqCst);
         if let Origin::Instance { path, .. } = origin {
             if path.len() == 0 {
                 self.mains.fetch_add(1, Ordering::SeqCst);

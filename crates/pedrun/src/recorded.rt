@@ -16,7 +16,7 @@ pub struct RecordedSource<'a, R, S> {
     rt: &'a R,
     inner: S,
     bytes: Vec<u8>,
-    /// Whether a person is to type the bytes, and wasn't told yet.
+    // Whether a person is to type the bytes, and wasn't told yet.
     is_untold: bool,
     progress: Option<&'a Progress<'a, R>>,
 }
@@ -68,13 +68,15 @@ impl<'a, R: Wait + Clock + Eprint, S: Source> Source for RecordedSource<'a, R, S
     }
 }
 
-/// How much of what a sink took is kept at most, in bytes: the one line of a call on the error output is shorter.
-const MOST_KEPT: usize = 1024;
+/// Room for the one line of a call on the error output, in bytes, also where it names a pedigree of 512 ranks of ten digits.
+pub const ERROR_LINE: usize = 8192;
 
-/// What is known of the bytes that a sink took.
+// What is known of the bytes that a sink took.
 #[derive(Drop)]
 struct Taken {
     first: Vec<u8>,
+    // How many of the first bytes are kept at most.
+    most: usize,
     fault: FaultLine,
     is_empty: bool,
 }
@@ -84,7 +86,7 @@ impl Taken {
     fn add(&mut self, bytes: &[u8]) {
         self.is_empty = self.is_empty && bytes.is_empty();
         self.fault.add(bytes);
-        let room = MOST_KEPT.saturating_sub(self.first.len());
+        let room = self.most.saturating_sub(self.first.len());
         let _ = self
             .first
             .extend_from_slice(&bytes[..bytes.len().min(room)]);
@@ -101,12 +103,18 @@ pub struct RecordedSink<'a, R, K> {
 }
 
 impl<'a, R: Wait + Clock + Eprint, K: Sink> RecordedSink<'a, R, K> {
-    /// A sink that took nothing yet.
-    pub fn new(alloc: Global, inner: K, progress: &'a Progress<'a, R>) -> RecordedSink<'a, R, K> {
+    /// A sink that took nothing yet, and keeps `most` bytes of what it takes first.
+    pub fn new(
+        alloc: Global,
+        inner: K,
+        progress: &'a Progress<'a, R>,
+        most: usize,
+    ) -> RecordedSink<'a, R, K> {
         RecordedSink {
             inner,
             taken: Taken {
                 first: Vec::new(alloc),
+                most,
                 fault: FaultLine::new(alloc),
                 is_empty: true,
             },
@@ -114,7 +122,7 @@ impl<'a, R: Wait + Clock + Eprint, K: Sink> RecordedSink<'a, R, K> {
         }
     }
 
-    /// The first bytes, 1024 at most.
+    /// The first bytes, so many as are kept.
     pub fn bytes(&self) -> &[u8] {
         &self.taken.first
     }

@@ -1,7 +1,7 @@
 // The program's streams.
 
 use crate::progress::Progress;
-use crate::recorded::{RecordedSink, RecordedSource};
+use crate::recorded::{ERROR_LINE, RecordedSink, RecordedSource};
 use ped_io::{Sink, Source, StdSink, StdSource};
 use std::alloc::Global;
 use std::io::{Eprint, Stderr, Stdin, Stdout};
@@ -47,7 +47,7 @@ pub fn recorded<'a, R: Wait + Clock + Eprint, S: Source, K: Sink, E: Sink>(
     script.tell(progress);
     Streams {
         script,
-        out: RecordedSink::new(alloc, streams.out, progress),
-        err: RecordedSink::new(alloc, streams.err, progress),
+        out: RecordedSink::new(alloc, streams.out, progress, 0),
+        err: RecordedSink::new(alloc, streams.err, progress, ERROR_LINE),
     }
 }

@@ -6,12 +6,12 @@ ghost use Rattle.engine.specs.Clauses.{change};
 ghost use Rattle.engine.specs.Promise.{watched};
 ghost use Rattle.pedrun.specs.Calls.{AnswersWithNotes, IsCallWithNotes, WroteSome};
 
-use crate::edge::write_help;
+use crate::early_exit::write_help;
 use crate::fault_line::FaultLine;
 use crate::fault_note::fault_note;
 use crate::help::Topic;
 use crate::hints::hints;
-use crate::notes::note;
+use crate::notes::{absence_note, silence_note};
 use crate::progress::Progress;
 use crate::recorded::{RecordedSink, RecordedSource};
 use crate::streams::Recorded;
@@ -82,6 +82,29 @@ fn fault_lines<R: Threads + Wait + Sync + Clock>(
     fault_note(rt, alloc, words, script, fault).ok().flatten()
 }
 
+// The lines on a strand that was replayed and did nothing.
+fn silence_lines(alloc: Global, status: Status, words: &[String], wrote: bool) -> Option<Vec<u8>> {
+    if status != Status::Done || wrote {
+        return None;
+    }
+    silence_note(alloc, words).ok().flatten()
+}
+
+// The lines on a strand that isn't there, or that a fault keeps one from.
+fn absence_lines<R: Threads + Wait + Clock>(
+    rt: &R,
+    alloc: Global,
+    status: Status,
+    words: &[String],
+    script: &[u8],
+    line: &[u8],
+) -> Option<Vec<u8>> {
+    if status != Status::NoStrand {
+        return None;
+    }
+    absence_note(rt, alloc, words, script, line).ok().flatten()
+}
+
 // The text of the help where no word was given.
 fn help_lines(words: &[String]) -> &'static [u8] {
     if words.is_empty() {
@@ -107,8 +130,8 @@ fn show_some<E: Sink>(err: &mut E, lines: Option<Vec<u8>>)
 }
 
 // Does what `engine::pedrun` does, and shows on the error output what helps a person: the progress of a long run, the place of a script's
-// fault after its line, the word after a line on words with how to ask for help, where the fault came from by which a run ended, what a strand
-// that is replayed in silence may mean, and the help where no word was given.
+// fault after its line, the word after a line on words with how to ask for help, where the fault came from by which a run ended, what it may
+// mean that a replayed strand did nothing or isn't there, and the help where no word was given.
 fn pedrun_on_terminal<'a, R: Threads + Wait + Sync + Clock + Eprint, S: Source, K: Sink, E: Sink>(
     rt: &R,
     alloc: Global,
@@ -130,7 +153,9 @@ fn pedrun_on_terminal<'a, R: Threads + Wait + Sync + Clock + Eprint, S: Source, 
     show_some(err, lines);
     let lines = fault_lines(rt, alloc, status, words, script.bytes(), out.fault());
     show_some(err, lines);
-    let lines = note(alloc, words, status, out.wrote()).ok().flatten();
+    let lines = silence_lines(alloc, status, words, out.wrote());
+    show_some(err, lines);
+    let lines = absence_lines(rt, alloc, status, words, script.bytes(), err.bytes());
     show_some(err, lines);
     show(err, help_lines(words));
     status

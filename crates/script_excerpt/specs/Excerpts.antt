@@ -2,6 +2,7 @@
 use Rattle.std.specs.Prelude.{◌≡◌, ◌+◌, ◌-◌, ◌<◌, ◌≤◌, ◌⊎◌, ◌++◌, ◌==◌, ◌&&◌, ◌||◌, [], ℕ, List, Bool, bytes_eq, false, if◌then◌else◌, codes, decimal, drop, length, map, max, nat_eq, nat_le, not, take, true}
 use Rattle.std.specs.List.{AllWithin, HoldsAt, starts_with}
 use Rattle.script_excerpt.specs.Followers.{GoesOn}
+use Rattle.script_excerpt.specs.Slips.{begins_by}
 use Rattle.script_excerpt.specs.Places.{IsColumn, IsLineStart, is_feed, line_of}
 
 -- a byte as a terminal gets it: a tab and what is from the blank to the tilde unchanged, else a question mark
@@ -31,13 +32,19 @@ is_misplaced_return text at word = bytes_eq word (codes "}") && starts_with nat_
 abbrev pub is_misplaced_version : List ℕ → ℕ → List ℕ → Bool
 is_misplaced_version text at word = bytes_eq word (codes "fn") && starts_with nat_eq (drop at text) (codes "version ") && not (starts_with nat_eq (drop at text) (codes "version ("))
 
--- what is at `at` begins like the word
-abbrev pub is_begun : List ℕ → ℕ → List ℕ → Bool
-is_begun text at word = starts_with nat_eq (drop at text) (take 1 word)
+-- the word raises a rank, or begins another function
+abbrev pub changes_draws : List ℕ → Bool
+changes_draws word =
+    bytes_eq word (codes "scope") || bytes_eq word (codes "sync") || bytes_eq word (codes "spawn") || bytes_eq word (codes "draw")
+    || bytes_eq word (codes "new") || bytes_eq word (codes "pfor") || bytes_eq word (codes "fn")
 
--- a word that is no mere punctuation, and not what was begun: it would make another script
+-- what is at `at` is the word's first letter, alone
+abbrev pub is_begun : List ℕ → ℕ → List ℕ → Bool
+is_begun text at word = begins_by (drop at text) (take 1 word)
+
+-- the script would draw otherwise with the word, which wasn't begun
 abbrev pub is_unfit : List ℕ → ℕ → List ℕ → Bool
-is_unfit text at word = (bytes_eq word (codes "sync") || bytes_eq word (codes "fn")) && not (is_begun text at word)
+is_unfit text at word = changes_draws word && not (is_begun text at word)
 
 -- the advice to put this word there
 abbrev pub word_advice : List ℕ → ℕ → List ℕ → List ℕ

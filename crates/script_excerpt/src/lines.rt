@@ -1,12 +1,12 @@
 // The lines that show a fault of a text.
 
 ghost use Rattle.std.specs.Prelude.{◌≡◌, ◌≤◌, ◌++◌, IfOk, OnOk, codes, length, map};
-ghost use Rattle.script_excerpt.specs.Excerpts.{IsAdvice, IsEnd, IsExcerpt, IsPlaceExcerpt, IsWindow, caret_line, is_unfit, is_at_version, is_misplaced_return, is_misplaced_version, place_line, blank_for, shown, text_lines, word_advice};
+ghost use Rattle.script_excerpt.specs.Excerpts.{IsAdvice, IsEnd, IsExcerpt, IsPlaceExcerpt, IsWindow, caret_line, changes_draws, is_begun, is_unfit, is_at_version, is_misplaced_return, is_misplaced_version, place_line, blank_for, shown, text_lines, word_advice};
 
 use crate::advice::follower;
 use crate::bytes::extended;
 use crate::position::{Position, line_start, position_of};
-use crate::slips::reason;
+use crate::slips::{begins_by, reason};
 use std::alloc::{AllocError, Global};
 
 // The most bytes of the line that are shown before the caret, and from it on.
@@ -115,13 +115,34 @@ fn is_misplaced_version(text: &[u8], at: usize, word: &str) -> bool
     word == "fn" && text[at..].starts_with(b"version ") && !text[at..].starts_with(b"version (")
 }
 
-// Whether the word is no mere punctuation, and not what was begun at `at`: with it the script would be another one.
+// Whether the word raises a rank, or begins another function.
+fn changes_draws(word: &str) -> bool
+    ensures { result ≡ changes_draws word.now }
+{
+    word == "scope"
+        || word == "sync"
+        || word == "spawn"
+        || word == "draw"
+        || word == "new"
+        || word == "pfor"
+        || word == "fn"
+}
+
+// Whether what is at `at` is the first letter of the word, alone.
+fn is_begun(text: &[u8], at: usize, word: &str) -> bool
+    requires { at ≤ length text.now }
+    ensures { result ≡ is_begun text.now at word.now }
+{
+    let word = word.as_bytes();
+    begins_by(&text[at..], &word[..word.len().min(1)])
+}
+
+// Whether the script would draw otherwise with the word, and the word wasn't begun at `at`.
 fn is_unfit(text: &[u8], at: usize, word: &str) -> bool
     requires { at ≤ length text.now }
     ensures { result ≡ is_unfit text.now at word.now }
 {
-    (word == "sync" && !text[at..].starts_with(b"s"))
-        || (word == "fn" && !text[at..].starts_with(b"f"))
+    changes_draws(word) && !is_begun(text, at, word)
 }
 
 // The advice to put this word there.
@@ -197,8 +218,8 @@ fn end_lines(alloc: Global, text: &[u8], at: usize, message: &str) -> Result<Vec
 /// function of a version line, the message says instead where such a one belongs, and for a line `version 2` that goes on after the
 /// 2 only that.
 ///
-/// Where it is a habit of another language (`reason`), a fourth line says how it is written here, and no word is named. The words
-/// `sync` and `fn` are named only where what is there begins like them, since they make another script.
+/// Where it is a habit of another language (`reason`), a fourth line says how it is written here, and no word is named. Words with which
+/// a script draws otherwise, such as `sync`, `scope` and `fn`, are named only where their first letter is there alone.
 ///
 /// Of a long line the 72 bytes before the byte and 72 from it on are shown. A byte that isn't printable is shown as `?`.
 pub fn excerpt(alloc: Global, text: &[u8], at: usize, message: &str) -> Result<Vec<u8>, AllocError>

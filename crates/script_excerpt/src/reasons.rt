@@ -1,7 +1,29 @@
 // Tables of habits of other languages, by what surrounds the offset at which a text stops, with how it is written here.
 
+// At a name that follows a number without a gap.
+pub(crate) const NUMBERS: &str =
+    "a number is digits alone: 1000000, and no 1e6, 1_000_000 or 0xf4240";
+
+// At a `return` in the middle, or behind its statement.
+pub(crate) const RETURNS: &str =
+    "return stands once, at the end of its function: let r = 0; if x { r = 1; } return r;";
+
+// Where a name is due, and something else is there.
+pub(crate) const NAMES: &str =
+    "a name begins with a letter or _, and is no word of the language (id, in, into, new, older, same, ..)";
+
+// At a blank that is none of this language.
+pub(crate) const BLANKS: &str = "this blank comes from a word processor: type it anew";
+
+// At a block that follows neither of these words.
+pub(crate) const BLOCKS: &str = "a block stands after if, else or while";
+
+// At a second name of one parameter.
+pub(crate) const PARAMETERS: &str =
+    "parameters are names with commas between them, and no type is written: fn f(a, b)";
+
 // At an unexpected token: the word before it, the word that begins there, and the remark. An empty word fits anything.
-pub(crate) static TOKENS: [(&str, &str, &str); 93] = [
+pub(crate) static TOKENS: [(&str, &str, &str); 102] = [
     (
         "/",
         "/",
@@ -10,16 +32,12 @@ pub(crate) static TOKENS: [(&str, &str, &str); 93] = [
     ("", "//", "a comment begins with # and ends with its line"),
     ("", "/*", "a comment begins with # and ends with its line"),
     ("/", "*", "a comment begins with # and ends with its line"),
-    (
-        "let",
-        "",
-        "a name is letters, digits and _, and no word of the language (id, in, into, new, older, same, ..)",
-    ),
-    (
-        "fn",
-        "",
-        "a name is letters, digits and _, and no word of the language (id, in, into, new, older, same, ..)",
-    ),
+    ("let", "", NAMES),
+    ("fn", "", NAMES),
+    ("pfor", "", NAMES),
+    ("into", "", NAMES),
+    ("call", "", NAMES),
+    ("spawn", "", NAMES),
     ("id", ")", "id says that a parameter is an id: fn f(id x)"),
     ("id", ",", "id says that a parameter is an id: fn f(id x)"),
     (
@@ -49,6 +67,9 @@ pub(crate) static TOKENS: [(&str, &str, &str); 93] = [
         "an else has a block: else { if x == 1 { .. } }",
     ),
     ("}", ";", "after a block stands no ;"),
+    (";", "{", BLOCKS),
+    ("{", "{", BLOCKS),
+    ("}", "{", BLOCKS),
     (
         "switch",
         "",
@@ -265,6 +286,8 @@ pub(crate) static TOKENS: [(&str, &str, &str); 93] = [
         "'",
         "there are no strings: print takes a number or an id",
     ),
+    ("", "\u{b}", BLANKS),
+    ("", "\u{c}", BLANKS),
     (
         "",
         "..",
@@ -300,7 +323,7 @@ pub(crate) static TOKENS_AFTER_NAMES: [(&str, &str, &str); 6] = [
 ];
 
 // At other faults: the message, the word that begins there, and the remark.
-pub(crate) static OTHERS: [(&str, &str, &str); 16] = [
+pub(crate) static OTHERS: [(&str, &str, &str); 25] = [
     ("unknown variable", "true", "true is 1, and false is 0"),
     ("unknown variable", "True", "true is 1, and false is 0"),
     ("unknown variable", "false", "true is 1, and false is 0"),
@@ -360,9 +383,26 @@ pub(crate) static OTHERS: [(&str, &str, &str); 16] = [
         "\u{2212}",
         "this dash comes from a word processor: a minus is -",
     ),
+    ("not ASCII", "\u{a0}", BLANKS),
+    ("not ASCII", "\u{2003}", BLANKS),
+    ("not ASCII", "\u{2009}", BLANKS),
+    ("not ASCII", "\u{200b}", BLANKS),
+    ("not ASCII", "\u{2028}", BLANKS),
+    ("array length", "", "an array has from 1 to 4096 items"),
+    ("name too long", "", "a name has at most 32 bytes"),
     (
-        "not ASCII",
-        "\u{a0}",
-        "this blank comes from a word processor: type it anew",
+        "nested too deep",
+        "",
+        "at most 64 parentheses, brackets, braces and minuses are open at a time",
+    ),
+    (
+        "too many functions",
+        "",
+        "a script has at most 1024 functions",
+    ),
+    (
+        "too many variables",
+        "",
+        "a function has at most 256 variables, its parameters and arrays among them",
     ),
 ];

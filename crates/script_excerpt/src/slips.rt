@@ -1,10 +1,11 @@
 // Which habit of another language a fault of a text is.
 
-ghost use Rattle.std.specs.Prelude.{◌≡◌, ◌≤◌, IfSome, length};
+ghost use Rattle.std.specs.Prelude.{◌≡◌, ◌<◌, ◌≤◌, IfSome, length};
 ghost use Rattle.script_excerpt.specs.Slips.{IsFront, IsNameStart, IsTrimmed, IsWithoutName, begins_by, begins_in_name, ends_by, ends_in_name, is_blank, is_split};
 ghost use Rattle.script_tokens.specs.Word.{is_name_byte as name_byte};
 
-use crate::reasons::{OTHERS, TOKENS, TOKENS_AFTER_NAMES};
+use crate::position::line_start;
+use crate::reasons::{NAMES, NUMBERS, OTHERS, PARAMETERS, RETURNS, TOKENS, TOKENS_AFTER_NAMES};
 
 fn is_blank(byte: u8) -> bool
     ensures { result ≡ is_blank byte }
@@ -48,7 +49,7 @@ fn ends_by(front: &[u8], word: &[u8]) -> bool
 }
 
 // Whether the bytes begin with this word.
-fn begins_by(rest: &[u8], word: &[u8]) -> bool
+pub(crate) fn begins_by(rest: &[u8], word: &[u8]) -> bool
     ensures { result ≡ begins_by rest.now word.now }
 {
     rest.starts_with(word) && is_split(word, &rest[word.len()..])
@@ -83,6 +84,29 @@ fn front(text: &[u8], at: usize) -> &[u8]
 {
     let before = &text[..at];
     &before[..trimmed(before)]
+}
+
+// Where the comment begins that the bytes end in, if they do. A `#` is nothing else.
+fn comment_start(bytes: &[u8]) -> Option<usize>
+    ensures { IfSome result (λ start. start < length bytes.now) }
+{
+    let from = line_start(bytes, bytes.len());
+    let line = &bytes[from..];
+    match line.iter().position(|&byte| byte == b'#') {
+        Some(inside) => Some(from + inside),
+        None => None,
+    }
+}
+
+// What is before a byte, without the comments and blanks at its end.
+fn code_before(text: &[u8], at: usize) -> &[u8]
+    requires { at ≤ length text.now }
+{
+    let mut end = front(text, at).len();
+    while let Some(start) = comment_start(&text[..end]) {
+        end = front(text, start).len();
+    }
+    &text[..end]
 }
 
 // What is before the name at the end of the bytes, if there is one.
@@ -132,6 +156,51 @@ fn statement(front: &[u8]) -> Option<&[u8]> {
     Some(without_blanks(&before[from..]))
 }
 
+// Whether the bytes end inside the parentheses behind a function's own name.
+fn ends_in_parameters(front: &[u8]) -> bool {
+    let mut from = front.len();
+    while 0 < from && is_parameter_byte(front[from - 1]) {
+        from -= 1;
+    }
+    if from == 0 || front[from - 1] != b'(' {
+        return false;
+    }
+    let before = &front[..from - 1];
+    match without_name(&before[..trimmed(before)]) {
+        Some(before) => ends_by(before, b"fn"),
+        None => false,
+    }
+}
+
+fn is_parameter_byte(byte: u8) -> bool {
+    is_name_byte(byte) || is_blank(byte) || byte == b','
+}
+
+// The remark at a word in a list of parameters: it is no name, or follows one.
+fn parameter_reason(front: &[u8], rest: &[u8]) -> Option<&'static str> {
+    if !begins_in_name(rest) || !ends_in_parameters(front) {
+        return None;
+    }
+    if ends_in_name(front) && !ends_by(front, b"id") {
+        return Some(PARAMETERS);
+    }
+    Some(NAMES)
+}
+
+// Whether the bytes end where a statement or a function does, or with the begin of a block.
+fn ends_a_statement(front: &[u8]) -> bool {
+    matches!(front.last(), Some(b';' | b'{' | b'}'))
+}
+
+// Whether a `return` is in the middle: the parser stops at it, or behind its statement.
+fn is_return_early(front: &[u8], rest: &[u8]) -> bool {
+    if begins_by(rest, b"return") {
+        return ends_a_statement(front);
+    }
+    let follows_return = statement(front).is_some_and(|it| begins_by(it, b"return"));
+    follows_return && !begins_by(rest, b"}") && !begins_by(rest, b"fn")
+}
+
 // Whether a name follows a number without a gap.
 fn goes_on(text: &[u8], at: usize) -> bool
     requires { at ≤ length text.now }
@@ -146,15 +215,15 @@ fn goes_on(text: &[u8], at: usize) -> bool
 fn token_reason(text: &[u8], at: usize) -> Option<&'static str>
     requires { at ≤ length text.now }
 {
-    let (front, rest) = (front(text, at), &text[at..]);
+    let (front, rest) = (code_before(text, at), &text[at..]);
     if goes_on(text, at) {
-        return Some("a number is digits alone: 1000000, and no 1e6, 1_000_000 or 0xf4240");
+        return Some(NUMBERS);
     }
-    let follows_return = statement(front).is_some_and(|it| begins_by(it, b"return"));
-    if follows_return && !begins_by(rest, b"}") && !begins_by(rest, b"fn") {
-        return Some(
-            "return stands once, at the end of its function: set a variable before it, by an if",
-        );
+    if is_return_early(front, rest) {
+        return Some(RETURNS);
+    }
+    if let Some(reason) = parameter_reason(front, rest) {
+        return Some(reason);
     }
     match said(&TOKENS, front, rest) {
         Some(reason) => Some(reason),

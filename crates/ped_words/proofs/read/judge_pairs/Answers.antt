@@ -17,7 +17,7 @@ overflow_add-pair c = let few = count_le (option_values (map string_bytes c.args
 pub loop-pair-preserved : goal.loop-pair-preserved
 loop-pair-preserved c = record {
   within = let long = length-map c.args.words.now string_bytes in omega (arith, long);
-  whole = none_more (broken_pair c.args.verb (map string_bytes c.args.words.now)) c.loop-pair.pair c.loop-pair.invariant.whole c.in_ok-judge_pair.ensures.broken;
+  whole = none_more (broken_pair c.args.subcommand (map string_bytes c.args.words.now)) c.loop-pair.pair c.loop-pair.invariant.whole c.in_ok-judge_pair.ensures.broken;
   valued = let more = c.in_ok-judge_pair.ensures.valued in omega (arith, more);
   counted = c.in_ok-judge_pair.ensures.counted ∙ ap (λ n. n + 1) c.loop-pair.invariant.counted;
 }
@@ -27,7 +27,7 @@ returns-in_err-judge_pair-clause-err c =
     let long = length-map c.args.words.now string_bytes in
     let p = err_from_is_err_and c.from_residual.result c.from_residual.ensures.1 in
     rw (p.1, p.2)
-    (refused_first (broken_pair c.args.verb (map string_bytes c.args.words.now)) c.loop-pair.pair (pairs_in (map string_bytes c.args.words.now)) c.in_err-judge_pair.field-0.0
+    (refused_first (broken_pair c.args.subcommand (map string_bytes c.args.words.now)) c.loop-pair.pair (pairs_in (map string_bytes c.args.words.now)) c.in_err-judge_pair.field-0.0
     (omega (arith, long)) c.loop-pair.invariant.whole c.in_err-judge_pair.ensures.err)
 
 pub returns-clause-few : goal.returns-clause-few

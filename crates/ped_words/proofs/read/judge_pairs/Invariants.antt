@@ -9,7 +9,7 @@ use Rattle.ped_words.proofs.read.judge_pairs.Given as goal
 abbrev pub invariant-loop-pair : goal.invariant-loop-pair
 invariant-loop-pair l = record {
   within : l.pair ≤ pairs_in (map string_bytes l.words);
-  whole : first_below (broken_pair l.verb (map string_bytes l.words)) l.pair ≡ None;
+  whole : first_below (broken_pair l.subcommand (map string_bytes l.words)) l.pair ≡ None;
   valued : 2 * l.pair < length l.words;
   counted : given_count (option_values (map string_bytes l.words) l.pair) ≡ l.pair;
 }

@@ -13,4 +13,6 @@ returns g c =
     let fourth = c.show_some-4.new.err in
     let three = more called second third two c.show_some-3.ensures in
     let four = more called third fourth three c.show_some-4.ensures in
-    record { told = called; call = c.pedrun-status.ensures; notes = more called fourth c.show.new.err four c.show.ensures }
+    let fifth = c.show_some-5.new.err in
+    let five = more called fourth fifth four c.show_some-5.ensures in
+    record { told = called; call = c.pedrun-status.ensures; notes = more called fifth c.show.new.err five c.show.ensures }

@@ -3,7 +3,7 @@
 ghost use Rattle.std.specs.Prelude.{◌≡◌, IsFalse, codes};
 ghost use Rattle.engine.specs.Promise.{has_line, watched};
 ghost use Rattle.pedrun.specs.Calls.{Shows};
-ghost use Rattle.pedrun.specs.Edge.{WritesRefusal};
+ghost use Rattle.pedrun.specs.EarlyExit.{WritesRefusal};
 
 use engine::Status;
 use engine::call::put_text;

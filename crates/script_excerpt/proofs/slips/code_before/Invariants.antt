@@ -1,0 +1,8 @@
+use Rattle.std.proofs.Common.{length, ◌≤◌}
+use Rattle.script_excerpt.proofs.slips.code_before.Given as goal
+
+abbrev pub invariant-loop-start : goal.invariant-loop-start
+invariant-loop-start l = l.end ≤ length l.text
+
+abbrev pub decreases-loop-start : goal.decreases-loop-start
+decreases-loop-start l = l.end
