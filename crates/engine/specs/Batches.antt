@@ -25,7 +25,7 @@ settings_under b seed = record { gamma = coefficients seed b.limits.depth; limit
 abbrev pub plan_under : Batch → Script → ℕ → PlanView
 plan_under b script seed = plan_of (settings_under b seed) script
 
--- the command of a batch on so many workers
+-- the command of a batch on this many workers
 abbrev pub batch_command : Batch → ℕ → Command
 batch_command b workers = command.Batch b.seeds b.limits b.show b.rounds workers
 
@@ -50,7 +50,8 @@ abbrev pub batch_ending : Bool → ReportEnd
 batch_ending true = Faulted
 batch_ending false = Done
 
--- For each seed in order a line of it, and then what a run under it alone writes. It ends by a fault where at least one of these runs does.
+-- For each seed, in order, its line, and then what a run under it alone writes. It ends by a fault where at least one
+-- of these runs does.
 abbrev pub batch_report : Batch → Script → Report
 batch_report b script = record {
   output = batch (λ seed. (run_report (plan_under b script seed)).output) b.seeds;

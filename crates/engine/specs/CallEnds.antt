@@ -23,7 +23,8 @@ end_status (Refused Memory) = S.Memory
 end_status Write = S.Write
 end_status (NoStrand line) = S.NoStrand
 
--- It was told on the error output: by its line, or a front of it where that sink failed. A whole output is told by no line.
+-- The error output tells this end by its line, or by a prefix of the line where that sink failed. A whole output has no
+-- such line.
 abbrev pub TellsEnd : Watched → CallEnd → Type 0
 TellsEnd err Done = ⊤
 TellsEnd err Faulted = ⊤
@@ -35,23 +36,24 @@ TellsEnd err (Refused Memory) = WroteLine err (codes "out of memory\n")
 TellsEnd err Write = WroteLine err (codes "write fault\n")
 TellsEnd err (NoStrand line) = WroteLine err line.items
 
--- An output was written whole, and the call ends so, or a front of it, since the sink failed.
+-- An output was written whole and the call ends by `whole`, or a prefix of it was written and the call ends by `Write`,
+-- since the sink failed.
 abbrev pub Puts : List ℕ → CallEnd → Watched → CallEnd → Type 0
 Puts output whole out end = ((end ≡ whole) × Wrote out output) ⊎ ((end ≡ Write) × WroteFront out output)
 
--- The same, unless memory was wanting.
+-- The same, or there was no memory.
 abbrev pub PutsWhereRoom : List ℕ → CallEnd → Watched → CallEnd → Type 0
 PutsWhereRoom output whole out end = Puts output whole out end ⊎ (end ≡ Refused Memory)
 
--- The line tells of a report that ends so that there is no strand.
+-- The line says why there is no strand, where the report ends by that.
 abbrev pub IsNoStrandLine : List ℕ → ReportEnd → Type 0
 IsNoStrandLine line E.Done = ⊥
 IsNoStrandLine line E.Faulted = ⊥
 IsNoStrandLine line (E.NoStrand j) = line ≡ no_strand_line j
 IsNoStrandLine line (E.Blocked fault) = line ≡ blocked_line fault.at
 
--- A report was delivered: its output was written and the call ends so, or the sink failed; or the call ends by a line that there is no strand,
--- unless memory was wanting for it.
+-- A report was delivered: its output was written whole and the call ends as the report does, or a prefix was written
+-- since the sink failed; or the call ends by the line that there is no strand; or there was no memory.
 abbrev pub Delivers : List ℕ → ReportEnd → Watched → CallEnd → Type 0
 Delivers output ending out Done = (ending ≡ E.Done) × Wrote out output
 Delivers output ending out Faulted = (ending ≡ E.Faulted) × Wrote out output
@@ -63,14 +65,14 @@ Delivers output ending out (Refused Memory) = ⊤
 Delivers output ending out Write = HasOutput ending × WroteFront out output
 Delivers output ending out (NoStrand line) = IsNoStrandLine line.items ending
 
--- This is how a command's call may end, whatever becomes of the line that tells it.
+-- A command's call may end in this way, whether or not its error line is written.
 abbrev pub EndMeans : Command → Watched → Watched → CallEnd → Type 0
 EndMeans command source out end = (err : Watched) → TellsEnd err end → StatusMeans command source out err (end_status end)
 
--- The same of words that give no command.
+-- The same for words that give no command.
 abbrev pub EndRefuses : WordError → CallEnd → Type 0
 EndRefuses error end = (err : Watched) → TellsEnd err end → Refuses error err (end_status end)
 
--- The same of any words.
+-- The same for any words.
 abbrev pub EndKeeps : Result Command WordError → Watched → Watched → CallEnd → Type 0
 EndKeeps given source out end = (err : Watched) → TellsEnd err end → KeepsPromise given source out err (end_status end)

@@ -1,4 +1,4 @@
--- What a call of the program promises: its promise, the parts of it, each in words of its own, and what holds of every run.
+-- What a call of the program promises: the promise, its parts, each said by itself, and what holds of every run.
 use Rattle.std.specs.Prelude.{◌≡◌, ◌⊎◌, ◌<◌, ⊤, ℕ, List, length, Some, None, AllPairs, Contains, IsTrue, IsFalse, Result, Ok, Err}
 use Rattle.std.specs.declared.option.Option.{Option}
 use Rattle.ped_io.specs.Streams.{Appends, IsAtEnd}
@@ -25,7 +25,7 @@ abbrev pub SaysNothing : Result Command WordError → Type 0
 SaysNothing (Ok command) = ⊥
 SaysNothing (Err error) = ⊤
 
--- The words are refused exactly where they give no command, unless memory is wanting.
+-- The words are refused exactly where they give no command, unless there is no memory.
 abbrev pub RefusesWords : Result Command WordError → Status → Type 0
 RefusesWords given status = (status ≡ Words → SaysNothing given) × (SaysNothing given → (status ≡ Words) ⊎ (status ≡ Memory))
 
@@ -33,8 +33,8 @@ RefusesWords given status = (status ≡ Words → SaysNothing given) × (SaysNot
 abbrev pub IsBad : Command → List ℕ → Type 0
 IsBad command bytes = (most_bytes < length bytes) ⊎ ((script : Tree) → Text bytes script → AcceptsScript command script → ⊥)
 
--- A command that reads no script refuses none. Where a command reads one, and the source tells its bytes, they are refused exactly where they
--- are bad, unless a read failed or memory is wanting.
+-- A command that reads no script refuses none. Where a command reads one, and the source tells its bytes, they are
+-- refused exactly where they are bad, unless a read failed or there is no memory.
 abbrev pub RefusesScript : Result Command WordError → Option (List ℕ) → Status → Type 0
 RefusesScript (Ok command) (Some bytes) status =
     (status ≡ Script → IsTrue (takes_script command) × IsBad command bytes)
@@ -50,7 +50,7 @@ pub record WroteReport (command : Command) (bytes : List ℕ) (source out : Watc
   pub output : Appends out.before out.after report.output
   pub ends : status ≡ status_of report.ending
 
--- Where the source tells its bytes, a whole output is that of the report.
+-- Where the source tells its bytes, a whole output is that of the report on them.
 abbrev pub WritesReport : Result Command WordError → Watched → Option (List ℕ) → Watched → Status → Type 0
 WritesReport given source None out status = ⊤
 WritesReport given source (Some bytes) out status =
@@ -68,8 +68,8 @@ pub record FindsNoStrand (command : Command) (bytes : List ℕ) : Type 0 where
   pub reports : Reports command bytes report
   pub ends : status_of report.ending ≡ NoStrand
 
--- That there is no strand is told of a replay alone. Where the source tells its bytes it is told exactly where it is what they report, unless
--- a read failed or memory is wanting.
+-- Only a replay says that there is no strand. Where the source tells its bytes, it says so exactly where that is the
+-- report on them, unless a read failed or there is no memory.
 abbrev pub TellsNoStrand : Result Command WordError → Option (List ℕ) → Status → Type 0
 TellsNoStrand (Ok command) (Some bytes) status =
     (status ≡ NoStrand → FindsNoStrand command bytes)
@@ -78,7 +78,7 @@ TellsNoStrand (Ok command) (Some bytes) status =
 TellsNoStrand (Ok command) None status = status ≡ NoStrand → IsReplay command
 TellsNoStrand (Err error) told status = status ≡ NoStrand → ⊥
 
--- The whole report was written, or it is that there is no strand, or memory was wanting.
+-- The whole report was written, or it says that there is no strand, or there was no memory.
 abbrev pub IsComplete : Command → Status → Type 0
 IsComplete command status = (status ≡ Done) ⊎ ((status ≡ Faulted) ⊎ ((status ≡ Memory) ⊎ ((status ≡ NoStrand) × IsReplay command)))
 
@@ -88,14 +88,14 @@ abbrev pub Completes : Result Command WordError → Watched → Option (List ℕ
 Completes (Ok command) source (Some bytes) out status = (IsTrue (takes_script command) → IsBad command bytes → ⊥) → (HasFailed source → ⊥) → (HasFailed out → ⊥) → IsComplete command status
 Completes given source told out status = ⊤
 
--- What holds of a plan's run: the pedigrees of its events but printing rise strictly, so that no two are the same; each draw is DotMix of
--- its pedigree; and its fault is the least of the open tree's.
+-- What holds of a plan's run: the pedigrees of its events other than prints rise strictly, so no two are equal; each
+-- draw is DotMix of its pedigree; and its fault is the least of the open tree's.
 pub record FollowsPedigrees (plan : PlanView) : Type 0 where
   pub rise : AllPairs IsBefore (raising_pedigrees (elision plan).items)
   pub draws : (j : List ℕ) (n : ℕ) → Contains (elision plan).items (Draw j n) → n ≡ drawn plan j
   pub least : EndsByLeast (faults plan) (elision plan).ending
 
--- An object before a call and after it, and how it is seen: what it told, and how often it had failed.
+-- A source or a sink before a call and after it, with what it tells and how often it has failed.
 pub record ObjectChange (T : Type 0) : Type 0 where
   pub told : T → Option (List ℕ)
   pub faults : T → ℕ
@@ -108,10 +108,11 @@ change told faults old new = record { told = told; faults = faults; old = old; n
 abbrev pub watched_change : {T : Type 0} → ObjectChange T → Watched
 watched_change c = watched c.told c.faults c.old c.new
 
--- A call whose words say this, by what it did to its source and its sinks, and its status.
+-- A call with these words: what it did to its source and its sinks, and its status.
 pub record IsTopCall {S K E : Type 0} (given : Result Command WordError) (source : ObjectChange S) (out : ObjectChange K) (err : ObjectChange E) (status : Status) : Type 0 where
   pub promise : KeepsPromise given (watched_change source) (watched_change out) (watched_change err) status
-  -- Words that give no command that reads a script leave the source, and an answer without output or without a line leaves that sink.
+  -- The source stays where the words give no command that reads it, and a sink where the status comes without output or
+  -- without a line.
   pub untouched : ReadsNone given → source.new ≡ source.old
   pub no_output : IsFalse (has_output status) → out.new ≡ out.old
   pub no_line : IsFalse (has_line status) → err.new ≡ err.old

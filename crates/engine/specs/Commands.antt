@@ -53,7 +53,7 @@ abbrev pub AcceptsScript : Command → Script → Type 0
 AcceptsScript Fmt script = ⊤
 AcceptsScript command script = IsValid script
 
--- what is written for a script that the command takes, where one function says it
+-- what is written for a script that the command takes, where a function defines it
 abbrev pub report_of : Command → Script → Report
 report_of (Run settings workers) script = run_report (plan_of settings script)
 report_of (Serial settings) script = run_report (plan_of settings script)

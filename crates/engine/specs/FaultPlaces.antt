@@ -11,14 +11,14 @@ use Rattle.replay.specs.FaultPlaces.{FaultsAt}
 use Rattle.engine.specs.Report.{IsPlanOf}
 use Rattle.engine.specs.declared.place.FaultPlace.{FaultPlace}
 
--- this offset, in the function of this number in the script
+-- this offset, in the script's function with this number
 pub record IsPlaceIn (plan : PlanView) (number at : ℕ) (place : FaultPlace) : Type 0 where
   pub function : Function
   pub there : function_at (functions_of plan) number ≡ Some function
   pub named : place.function ≡ function.name.bytes
   pub offset : place.at ≡ at
 
--- The strand of the pedigree ended there by a fault of its own, in the plan of the script that these bytes are the text of.
+-- The strand with this pedigree ended at this place by a fault of its own, under the plan of the script with this text.
 pub record IsPlaceUnder (settings : Settings) (j bytes : List ℕ) (place : FaultPlace) : Type 0 where
   pub plan : PlanView
   pub of_text : IsPlanOf settings bytes plan
@@ -27,7 +27,7 @@ pub record IsPlaceUnder (settings : Settings) (j bytes : List ℕ) (place : Faul
   pub faults : FaultsAt plan j number at
   pub place_is : IsPlaceIn plan number at place
 
--- The same of the strand that these words replay.
+-- The same for the strand that these words replay.
 pub record IsPlaceBy (read : Result Command WordError) (bytes : List ℕ) (place : FaultPlace) : Type 0 where
   pub settings : Settings
   pub j : List ℕ

@@ -19,8 +19,8 @@ pub record IsDrawn (plan : PlanView) (j : List ℕ) (n : ℕ) : Type 0 where
   pub event : (m : ℕ) → Contains (elision plan).items (Draw j m) → n ≡ m
   pub replayed : (found : Strand) (m : ℕ) → strand_at plan j ≡ FoundStrand found → Contains found.events (Draw j m) → n ≡ m
 
--- Number i of a stream is the draw of the strand so many ranks later, under the same list or seed and as many rounds, of each depth that the
--- strand is within.
+-- Number i of a stream is the draw of the strand i ranks later, by the same list or seed and as many rounds, at each
+-- depth that the strand is within.
 abbrev pub StreamsAreDraws : Type 0
 StreamsAreDraws =
     (given : Option (List ℕ)) (seed : ℕ) (plan : PlanView) (j : List ℕ) (count i : ℕ) → IsPlanBy given seed plan → i < count → length (later j i) ≤ plan.limits.depth →

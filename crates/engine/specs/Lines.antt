@@ -13,7 +13,7 @@ words_line number at = codes "words: " ++ rule_text number ++ codes " at word " 
 abbrev pub syntax_line : ℕ → ℕ → List ℕ
 syntax_line number at = codes "script: " ++ fault_text number ++ codes " at byte " ++ decimal at ++ codes "\n"
 
--- the first condition that a script violates which isn't valid
+-- the first condition that an invalid script violates
 abbrev pub check_line : ℕ → ℕ → List ℕ
 check_line number at = codes "script: " ++ condition_text number ++ codes " at byte " ++ decimal at ++ codes "\n"
 

@@ -1,4 +1,4 @@
--- What each answer of the top call means.
+-- What each status of the top call means.
 use Rattle.std.specs.Prelude.{◌≡◌, ◌⊎◌, ⊤, ℕ, ◌+◌, ◌≤◌, List, length, Bool, true, false, IsTrue, IsFalse, Result, Ok, Err, codes}
 use Rattle.std.specs.declared.option.Option.{Option}
 use Rattle.ped_io.specs.Causes.{Rose}
@@ -17,49 +17,49 @@ use Rattle.engine.specs.Commands.{AcceptsScript, Reports, takes_script}
 use Rattle.engine.specs.Lines.{blocked_line, check_line, no_strand_line, syntax_line, words_line}
 use Rattle.engine.specs.Report.{Report}
 
--- a script has at most so many bytes
+-- the most bytes of a script
 abbrev pub most_bytes : ℕ
 most_bytes = 1048576
 
--- What an object told before a call and after it, and how often it had failed.
+-- A source or a sink across a call: what it told before and after, and how often it had failed.
 pub record Watched : Type 0 where
   pub before : Option (List ℕ)
   pub after : Option (List ℕ)
   pub failures_before : ℕ
   pub failures_after : ℕ
 
--- the same from an object's meanings, and its values before and after the call
+-- such a record, from what the object tells before and after the call
 abbrev pub watched : {T : Type 0} → (T → Option (List ℕ)) → (T → ℕ) → T → T → Watched
 watched told faults old new = record { before = told old; after = told new; failures_before = faults old; failures_after = faults new }
 
 abbrev pub HasFailed : Watched → Type 0
 HasFailed object = Rose object.failures_before object.failures_after
 
--- Bytes were written, whole.
+-- All the bytes were written.
 abbrev pub Wrote : Watched → List ℕ → Type 0
 Wrote object bytes = Appends object.before object.after bytes
 
--- A front of the bytes was written, since the object failed.
+-- A prefix of the bytes was written, since the sink failed.
 pub record WroteFront (object : Watched) (bytes : List ℕ) : Type 0 where
   pub front : AppendsFront object.before object.after bytes
   pub failed : HasFailed object
 
--- A line was written whole, or a front of it where the object failed.
+-- A line was written whole, or a prefix of it where the sink failed.
 abbrev pub WroteLine : Watched → List ℕ → Type 0
 WroteLine object line = Wrote object line ⊎ WroteFront object line
 
--- These bytes stood in the source, and were read to their end.
+-- The source had these bytes, and was read to its end.
 pub record ReadWhole (source : Watched) (bytes : List ℕ) : Type 0 where
   pub taken : Consumes source.before source.after bytes
   pub end : IsAtEnd source.after
   pub within : length bytes ≤ most_bytes
 
--- why these bytes are refused, by the line that tells it
+-- why these bytes are refused, and the line that says so
 pub data Why (bytes line : List ℕ) : Type 0 where
   NoText : (number at : ℕ) → SyntaxFault bytes number at → line ≡ syntax_line number at → Why bytes line
   Invalid : (script : Script) (number at : ℕ) → Text bytes script → CheckFault script number at → line ≡ check_line number at → Why bytes line
 
--- These bytes are the text of no script that is taken, and this line tells why.
+-- These bytes are the text of no script that the command takes, and this line says why.
 pub record IsUntaken (takes : Script → Type 0) (bytes line : List ℕ) : Type 0 where
   pub none : (script : Script) → Text bytes script → takes script → ⊥
   pub why : Why bytes line
@@ -70,30 +70,30 @@ HasNoScript command source err =
     (ConsumesJust source.before source.after (most_bytes + 1) × WroteLine err (codes "script: too long\n"))
     ⊎ ((bytes : List ℕ) × (line : List ℕ) × ReadWhole source bytes × IsUntaken (AcceptsScript command) bytes line × WroteLine err line)
 
--- The command reports this, of the bytes of the source where it takes a script.
+-- This is the command's report, on the source's bytes where it takes a script.
 abbrev pub HasReport : Command → Watched → Report → Type 0
 HasReport command source report =
     (bytes : List ℕ) × (IsTrue (takes_script command) → ReadWhole source bytes) × Reports command bytes report
 
--- The command's report ends so, and this holds of its output.
+-- The command's report ends in this way, and its output has this property.
 abbrev pub IsReported : Command → Watched → ReportEnd → (List ℕ → Type 0) → Type 0
 IsReported command source ending P = (report : Report) × HasReport command source report × (report.ending ≡ ending) × P report.output
 
--- There is no strand, and this line tells why.
+-- There is no such strand, and the error line says why.
 abbrev pub TellsNone : Watched → ReportEnd → Type 0
 TellsNone err E.Done = ⊥
 TellsNone err E.Faulted = ⊥
 TellsNone err (E.NoStrand j) = WroteLine err (no_strand_line j)
 TellsNone err (E.Blocked fault) = WroteLine err (blocked_line fault.at)
 
--- A report that ends so has an output.
+-- A report that ends in this way has an output.
 abbrev pub HasOutput : ReportEnd → Type 0
 HasOutput E.Done = ⊤
 HasOutput E.Faulted = ⊤
 HasOutput (E.NoStrand j) = ⊥
 HasOutput (E.Blocked fault) = ⊥
 
--- What each answer means for a command. Its words aren't refused.
+-- What each status means where the words give this command.
 abbrev pub StatusMeans : Command → Watched → Watched → Watched → Status → Type 0
 StatusMeans command source out err Done = IsReported command source E.Done (Wrote out)
 StatusMeans command source out err Faulted = IsReported command source E.Faulted (Wrote out)
@@ -104,7 +104,7 @@ StatusMeans command source out err Write = ((report : Report) × HasReport comma
 StatusMeans command source out err Memory = WroteLine err (codes "out of memory\n")
 StatusMeans command source out err NoStrand = (report : Report) × HasReport command source report × TellsNone err report.ending
 
--- What each answer means where the words give no command.
+-- What each status means where the words give no command.
 abbrev pub Refuses : WordError → Watched → Status → Type 0
 Refuses (words.Bad number at) err Words = WroteLine err (words_line number at)
 Refuses error err Memory = WroteLine err (codes "out of memory\n")
@@ -119,14 +119,14 @@ abbrev pub ReadsNone : Result Command WordError → Type 0
 ReadsNone (Ok command) = IsFalse (takes_script command)
 ReadsNone (Err error) = ⊤
 
--- The answer comes with output.
+-- The status comes with output.
 abbrev pub has_output : Status → Bool
 has_output Done = true
 has_output Faulted = true
 has_output Write = true
 has_output _ = false
 
--- The answer comes with a line on the error output.
+-- The status comes with an error line.
 abbrev pub has_line : Status → Bool
 has_line Done = false
 has_line Faulted = false

@@ -8,15 +8,15 @@ use Rattle.engine.specs.declared.refusal.Refusal.{Refusal}
 use Rattle.engine.specs.declared.refusal.Refusal.TheVariants.{TooLong, Untaken, Read, Memory}
 use Rattle.engine.specs.Promise.{Watched, HasFailed, ReadWhole, IsUntaken, most_bytes}
 
--- What a refusal means, by what it is that the source is too long, that this line tells why its text isn't taken, and that it wasn't read. Memory
--- may be wanting anywhere.
+-- What a refusal means, given what it is that the source is too long, that a line says why its text isn't taken, and
+-- that it wasn't read. There may be no memory at any time.
 abbrev pub Means : Type 0 → (List ℕ → Type 0) → Type 0 → Refusal → Type 0
 Means is_long is_untaken is_unread TooLong = is_long
 Means is_long is_untaken is_unread (Untaken line) = is_untaken (string_bytes line)
 Means is_long is_untaken is_unread Read = is_unread
 Means is_long is_untaken is_unread Memory = ⊤
 
--- The refusal tells this line.
+-- The refusal has this line.
 abbrev pub IsRefusalLine : List ℕ → Refusal → Type 0
 IsRefusalLine line = Means ⊥ (λ told. told ≡ line) ⊥
 
@@ -28,11 +28,11 @@ IsMisfit takes bytes = Means ⊥ (IsUntaken takes bytes) ⊥
 abbrev pub IsLong : Watched → Type 0
 IsLong source = ConsumesJust source.before source.after (most_bytes + 1)
 
--- Why the bytes of the source weren't had.
+-- Why the source's bytes aren't there.
 abbrev pub IsFetchRefusal : Watched → Refusal → Type 0
 IsFetchRefusal source = Means (IsLong source) (λ line. ⊥) (HasFailed source)
 
--- The bytes of the source are the text of no script that the command takes, and this line tells why.
+-- The source's bytes are the text of no script that the command takes, and this line says why.
 abbrev pub HasUntaken : Command → Watched → List ℕ → Type 0
 HasUntaken command source line = (bytes : List ℕ) × ReadWhole source bytes × IsUntaken (AcceptsScript command) bytes line
 

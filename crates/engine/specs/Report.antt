@@ -28,7 +28,7 @@ pub record Report : Type 0 where
   pub output : List ℕ
   pub ending : ReportEnd
 
--- an output that ends well
+-- a report that ends well
 abbrev pub said : List ℕ → Report
 said output = record { output = output; ending = Done }
 
@@ -50,8 +50,8 @@ run_report plan = record {
 abbrev pub worker_line : ℕ → List ℕ
 worker_line w = codes "worker " ++ decimal w ++ codes "\n"
 
--- The report is of a simulation on so many workers, whose events the words of this number pick: the line of the worker whose run answers main,
--- and then what a run writes.
+-- The report of a simulation on this many workers, whose events the words of this number pick: the line of the worker
+-- whose run answers main, and then what a run writes.
 pub record IsSimReport (plan : PlanView) (workers number : ℕ) (written : Report) : Type 0 where
   pub worker : ℕ
   pub answers : IsSimWorker plan workers number worker
@@ -61,7 +61,8 @@ pub record IsSimReport (plan : PlanView) (workers number : ℕ) (written : Repor
 abbrev pub span_lines : ℕ → ℕ → List ℕ
 span_lines work span = codes "work " ++ decimal work ++ codes "\nspan " ++ decimal span ++ codes "\n"
 
--- The report is of the serial elision: how many events it has, how many the longest chain of them, and then a line of its fault.
+-- The report of work and span: how many events the serial elision has, how many their longest chain, and then the line
+-- of its fault.
 pub record IsSpanReport (plan : PlanView) (written : Report) : Type 0 where
   pub span : ℕ
   pub longest : IsSpan (elision plan).items span
@@ -72,7 +73,7 @@ pub record IsSpanReport (plan : PlanView) (written : Report) : Type 0 where
 abbrev pub IsPlanOf : Settings → List ℕ → PlanView → Type 0
 IsPlanOf settings bytes plan = (script : Script) × Text bytes script × IsValid script × (plan ≡ plan_of settings script)
 
--- Of whatever script these bytes are the text, this is its plan.
+-- This is the plan of whatever script these bytes are the text of.
 abbrev pub IsPlanIn : Settings → List ℕ → PlanView → Type 0
 IsPlanIn settings bytes plan = (script : Script) → Text bytes script → plan ≡ plan_of settings script
 
@@ -110,18 +111,18 @@ IsSimOf settings workers number bytes report = (script : Script) × Text bytes s
 abbrev pub IsSpanOf : Settings → List ℕ → Report → Type 0
 IsSpanOf settings bytes report = (script : Script) × Text bytes script × IsValid script × IsSpanReport (plan_of settings script) report
 
--- the dot product of a pedigree, and its draw in so many rounds
+-- the dot product of a pedigree, and its draw in this many rounds
 abbrev pub hash_text : List ℕ → List ℕ → ℕ → List ℕ
 hash_text gamma j rounds = codes "dot " ++ decimal (dot gamma j) ++ codes "\ndraw " ++ decimal (dotmix gamma j rounds) ++ codes "\n"
 
--- how a report ends of an answer that ended so
+-- how the report of an answer with this outcome ends
 abbrev pub outcome_ending : Outcome → ReportEnd
 outcome_ending (outcome.Fault fault) = Faulted
 outcome_ending (outcome.Value value) = Done
 outcome_ending (outcome.Values values) = Done
 outcome_ending (outcome.Cut fault) = Done
 
--- with which status a report ends that was written whole, or told to be none
+-- the status after a report that was written whole, or that says that there is no strand
 abbrev pub status_of : ReportEnd → Status
 status_of Done = status.Done
 status_of Faulted = status.Faulted

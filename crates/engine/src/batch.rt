@@ -15,15 +15,15 @@ ghost use Rattle.engine.specs.Refusal.{IsMisfit};
 ghost use Rattle.engine.specs.Report.{report_view};
 
 use crate::output::Output;
-use crate::play::make_plan;
 use crate::refusal::Refusal;
 use crate::report::{Report, ReportEnd};
+use crate::run::make_plan;
 use crate::script::valid_script;
+use contract_views::Items;
 use crew::Gate;
 use dotmix::Gamma;
 use ped_words::Settings;
 use script_check::Checked;
-use script_grammar::Items;
 use seed_batch::{run_batch, run_batch_of_prints};
 use serial_meaning::{Answer, Keep, Limits, Outcome, Plan, Prints, Show};
 use std::alloc::{AllocError, Global};
@@ -33,7 +33,7 @@ use std::thread::Threads;
 /// The seeds of a batch, and what its runs have in common.
 #[derive(Drop)]
 pub struct Batch {
-    /// From 1 to 256 of them. One may stand twice.
+    /// From 1 to 256 seeds. One may occur twice.
     pub seeds: Items<u64>,
     pub limits: Limits,
     pub show: Show,
@@ -41,7 +41,7 @@ pub struct Batch {
     pub rounds: u32,
 }
 
-// The plan of the run under one seed. All of them have one script in memory.
+// The plan of the run under one seed. All plans share one script.
 fn plan_under(
     alloc: Global,
     batch: &Batch,
@@ -99,7 +99,7 @@ fn ending_for<K: Keep>(answers: &[Answer<K>]) -> ReportEnd
     }
 }
 
-// The report of the answers under all seeds, which keep their prints, where the plans show values alone.
+// The report of the answers under all seeds, which keep prints only, where the plans show values only.
 #[tactic(auto, using(crate::proofs::BatchLemmas::answers_whole, crate::proofs::BatchLemmas::answers_written))]
 fn prints_report(
     alloc: Global,
@@ -148,9 +148,10 @@ fn copied(alloc: Global, seeds: &Items<u64>) -> Result<Items<u64>, AllocError>
     Ok(Items(seeds.as_slice().to_vec(alloc)?))
 }
 
-/// What runs on so many workers write, of the script that these bytes are the text of, under each seed. The gate is told of their tasks.
+// The report of the runs of the script with this text under each seed, on this many workers. The gate hears of their
+// tasks.
 #[tactic(auto, using(crate::proofs::BatchLemmas::batch_is, crate::proofs::KeptLemmas::all_kept))]
-pub(crate) fn played_batch<R: Threads + Wait + Sync, G: Gate + Sync>(
+pub(crate) fn ran_batch<R: Threads + Wait + Sync, G: Gate + Sync>(
     rt: &R,
     alloc: Global,
     batch: &Batch,

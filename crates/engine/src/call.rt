@@ -1,5 +1,5 @@
-// What a call does, from its words to its end. None of this is lent the error output: what the call's line tells is decided before it is
-// written.
+// What a call does, from its words to its end. Nothing here has the error output: what its line says is decided before
+// it is written.
 
 ghost use Rattle.std.specs.Prelude.{◌≡◌, IfOk, IfErr, IsTrue, IsFalse, map, string_bytes};
 ghost use Rattle.draw_lines.specs.Lines.{CanDraw, lines_of};
@@ -12,14 +12,14 @@ ghost use Rattle.engine.specs.Promise.{HasReport, ReadWhole, ReadsNone, Watched,
 ghost use Rattle.engine.specs.Refusal.{IsCause, IsFetchRefusal};
 ghost use Rattle.engine.specs.Report.{report_view};
 
-use crate::batch::{Batch, played_batch};
+use crate::batch::{Batch, ran_batch};
 use crate::call_end::CallEnd;
 use crate::command::{is_whole, takes_script};
 use crate::line::{blocked_line, no_strand_line, words_line};
 use crate::output::Output;
-use crate::play::played_by_crew;
 use crate::refusal::Refusal;
 use crate::report::{Report, ReportEnd, alone_report, script_report};
+use crate::run::ran_by_crew;
 use crew::Gate;
 use draw_lines::{Stream, StreamError, write_stream};
 use ped_io::{ReadError, Sink, Source, read_all, write_all};
@@ -45,7 +45,7 @@ fn fetch<S: Source>(alloc: Global, source: &mut S) -> Result<Vec<u8>, Refusal>
     }
 }
 
-// What a command writes, of the script of the source where it takes one.
+// The report of a command, on the source's script where it takes one.
 fn prepare<S: Source>(alloc: Global, command: Command, source: &mut S) -> Result<Report, Refusal>
     requires lawful { IsLawful command }
     requires whole { IsTrue (is_whole command) }
@@ -62,7 +62,7 @@ fn prepare<S: Source>(alloc: Global, command: Command, source: &mut S) -> Result
     }
 }
 
-// What a run on so many workers writes, of the script of the source.
+// The report of a run of the source's script on this many workers.
 fn prepare_run<R: Threads + Wait + Sync, S: Source, G: Gate + Sync>(
     rt: &R,
     alloc: Global,
@@ -77,10 +77,10 @@ fn prepare_run<R: Threads + Wait + Sync, S: Source, G: Gate + Sync>(
     ensures refused { IfErr result (IsCause (Command.Run settings workers) (watched S.left S.faults source.old source.new)) }
 {
     let bytes = fetch(alloc, source)?;
-    played_by_crew(rt, alloc, settings, workers, &bytes, gate)
+    ran_by_crew(rt, alloc, settings, workers, &bytes, gate)
 }
 
-// What a batch on so many workers writes, of the script of the source.
+// The report of a batch of the source's script on this many workers.
 fn prepare_batch<R: Threads + Wait + Sync, S: Source, G: Gate + Sync>(
     rt: &R,
     alloc: Global,
@@ -95,10 +95,10 @@ fn prepare_batch<R: Threads + Wait + Sync, S: Source, G: Gate + Sync>(
     ensures refused { IfErr result (IsCause (batch_command batch.now workers) (watched S.left S.faults source.old source.new)) }
 {
     let bytes = fetch(alloc, source)?;
-    played_batch(rt, alloc, batch, workers, &bytes, gate)
+    ran_batch(rt, alloc, batch, workers, &bytes, gate)
 }
 
-/// Writes a text, and says how the call ends: so where it was written whole.
+/// Writes a text, and returns how the call ends: `whole` where all of it was written.
 pub fn put_text<K: Sink>(text: &[u8], whole: CallEnd, out: &mut K) -> CallEnd
     ensures { Puts text.now whole (watched K.written K.faults out.old out.new) result }
 {
@@ -108,7 +108,8 @@ pub fn put_text<K: Sink>(text: &[u8], whole: CallEnd, out: &mut K) -> CallEnd
     }
 }
 
-// Writes an output by pieces, and says how the call ends: so where it was written whole. The memory is taken before the first write.
+// Writes an output by pieces, and returns how the call ends: `whole` where all of it was written. The memory is taken
+// before the first write.
 fn put_output<K: Sink>(alloc: Global, output: &Output, whole: CallEnd, out: &mut K) -> CallEnd
     requires { IsTrue (has_output (end_status whole)) }
     ensures put { PutsWhereRoom output.now whole (watched K.written K.faults out.old out.new) result }
@@ -123,7 +124,7 @@ fn put_output<K: Sink>(alloc: Global, output: &Output, whole: CallEnd, out: &mut
     }
 }
 
-// Writes a report, unless it is that there is no strand, and says how the call ends.
+// Writes a report, unless it says that there is no strand, and returns how the call ends.
 fn put_report<K: Sink>(alloc: Global, report: &Report, out: &mut K) -> CallEnd
     ensures delivered { Delivers report.now.output report.now.ending (watched K.written K.faults out.old out.new) result }
     ensures no_output { IsFalse (has_output (end_status result)) → out.new ≡ out.old }
@@ -142,8 +143,8 @@ fn put_report<K: Sink>(alloc: Global, report: &Report, out: &mut K) -> CallEnd
     }
 }
 
-// The same. The report's memory is left to the end of the process, which is next: to give back each event takes a third of the time that a run
-// takes on four workers.
+// The same, without freeing the report: the process ends next, and freeing its events would take a third of the time of
+// a run on four workers.
 fn deliver<K: Sink>(alloc: Global, report: Report, out: &mut K) -> CallEnd
     ensures delivered { Delivers report.output report.ending (watched K.written K.faults out.old out.new) result }
     ensures no_output { IsFalse (has_output (end_status result)) → out.new ≡ out.old }
@@ -153,7 +154,7 @@ fn deliver<K: Sink>(alloc: Global, report: Report, out: &mut K) -> CallEnd
     end
 }
 
-// How a call ends whose words are refused.
+// The end of a call whose words are refused.
 fn refused_words(alloc: Global, error: WordError) -> CallEnd
     ensures { EndRefuses error result }
 {
@@ -167,7 +168,7 @@ fn refused_words(alloc: Global, error: WordError) -> CallEnd
 }
 
 // Runs a command whose report is made whole.
-fn serve_whole<S: Source, K: Sink>(
+fn answer_whole<S: Source, K: Sink>(
     alloc: Global,
     command: Command,
     source: &mut S,
@@ -187,7 +188,7 @@ fn serve_whole<S: Source, K: Sink>(
 }
 
 // Writes a stream, block by block.
-fn serve_stream<K: Sink>(alloc: Global, stream: Stream, count: u32, out: &mut K) -> CallEnd
+fn answer_stream<K: Sink>(alloc: Global, stream: Stream, count: u32, out: &mut K) -> CallEnd
     requires { CanDraw stream count }
     ensures delivered { Delivers (lines_of stream count) ReportEnd.Done (watched K.written K.faults out.old out.new) result }
     ensures no_output { IsFalse (has_output (end_status result)) → out.new ≡ out.old }
@@ -200,7 +201,7 @@ fn serve_stream<K: Sink>(alloc: Global, stream: Stream, count: u32, out: &mut K)
 }
 
 // Runs a command whose report is written in parts, which reads no source.
-fn serve_in_parts<K: Sink>(alloc: Global, command: Command, out: &mut K) -> CallEnd
+fn answer_in_parts<K: Sink>(alloc: Global, command: Command, out: &mut K) -> CallEnd
     requires lawful { IsLawful command }
     requires in_parts { IsFalse (is_whole command) }
     ensures answers { (source : Watched) → EndMeans command source (watched K.written K.faults out.old out.new) result }
@@ -220,14 +221,14 @@ fn serve_in_parts<K: Sink>(alloc: Global, command: Command, out: &mut K) -> Call
                 rounds,
                 below,
             };
-            serve_stream(alloc, stream, count, out)
+            answer_stream(alloc, stream, count, out)
         }
         _ => unreachable!(),
     }
 }
 
-// Runs a command that is no batch, on the caller's thread.
-fn serve<S: Source, K: Sink>(
+// Runs a command other than `batch` on the caller's thread.
+fn answer_command<S: Source, K: Sink>(
     alloc: Global,
     command: Command,
     source: &mut S,
@@ -240,14 +241,14 @@ fn serve<S: Source, K: Sink>(
     ensures no_output { IsFalse (has_output (end_status result)) → out.new ≡ out.old }
 {
     if is_whole(&command) {
-        serve_whole(alloc, command, source, out)
+        answer_whole(alloc, command, source, out)
     } else {
-        serve_in_parts(alloc, command, out)
+        answer_in_parts(alloc, command, out)
     }
 }
 
-// Runs a script on so many workers.
-fn serve_run<R: Threads + Wait + Sync, S: Source, K: Sink, G: Gate + Sync>(
+// Runs a script on this many workers.
+fn answer_run<R: Threads + Wait + Sync, S: Source, K: Sink, G: Gate + Sync>(
     rt: &R,
     alloc: Global,
     settings: Settings,
@@ -267,8 +268,8 @@ fn serve_run<R: Threads + Wait + Sync, S: Source, K: Sink, G: Gate + Sync>(
     }
 }
 
-// Runs a script under a list of seeds, on so many workers.
-fn serve_batch<R: Threads + Wait + Sync, S: Source, K: Sink, G: Gate + Sync>(
+// Runs a script under a list of seeds, on this many workers.
+fn answer_batch<R: Threads + Wait + Sync, S: Source, K: Sink, G: Gate + Sync>(
     rt: &R,
     alloc: Global,
     batch: &Batch,
@@ -289,7 +290,7 @@ fn serve_batch<R: Threads + Wait + Sync, S: Source, K: Sink, G: Gate + Sync>(
 }
 
 // Runs a command, `run` and `batch` by workers on threads.
-fn serve_by_crew<R: Threads + Wait + Sync, S: Source, K: Sink, G: Gate + Sync>(
+fn answer_command_by_crew<R: Threads + Wait + Sync, S: Source, K: Sink, G: Gate + Sync>(
     rt: &R,
     alloc: Global,
     command: Command,
@@ -304,7 +305,7 @@ fn serve_by_crew<R: Threads + Wait + Sync, S: Source, K: Sink, G: Gate + Sync>(
 {
     match command {
         Command::Run { settings, workers } => {
-            serve_run(rt, alloc, settings, workers, source, out, gate)
+            answer_run(rt, alloc, settings, workers, source, out, gate)
         }
         Command::Batch {
             seeds,
@@ -319,14 +320,14 @@ fn serve_by_crew<R: Threads + Wait + Sync, S: Source, K: Sink, G: Gate + Sync>(
                 show,
                 rounds,
             };
-            serve_batch(rt, alloc, &batch, workers, source, out, gate)
+            answer_batch(rt, alloc, &batch, workers, source, out, gate)
         }
-        command => serve(alloc, command, source, out),
+        command => answer_command(alloc, command, source, out),
     }
 }
 
-/// Reads the words and runs their command on the caller's thread. The first word isn't that of a command that runs on workers.
-pub(crate) fn perform<S: Source, K: Sink>(
+// Reads the words and runs their command on the caller's thread. The first word isn't that of a command that runs on workers.
+pub(crate) fn answer_words<S: Source, K: Sink>(
     alloc: Global,
     words: &[String],
     script: &mut S,
@@ -339,13 +340,13 @@ pub(crate) fn perform<S: Source, K: Sink>(
     ensures no_output { IsFalse (has_output (end_status result)) → out.new ≡ out.old }
 {
     match read_words(alloc, words) {
-        Ok(command) => serve(alloc, command, script, out),
+        Ok(command) => answer_command(alloc, command, script, out),
         Err(error) => refused_words(alloc, error),
     }
 }
 
-/// Reads the words and runs their command. `run` and `batch` go by workers on threads. The gate is told of their tasks.
-pub(crate) fn perform_by_crew<R: Threads + Wait + Sync, S: Source, K: Sink, G: Gate + Sync>(
+// Reads the words and runs their command. `run` and `batch` go by workers on threads. The gate hears of their tasks.
+pub(crate) fn answer_words_by_crew<R: Threads + Wait + Sync, S: Source, K: Sink, G: Gate + Sync>(
     rt: &R,
     alloc: Global,
     words: &[String],
@@ -359,7 +360,7 @@ pub(crate) fn perform_by_crew<R: Threads + Wait + Sync, S: Source, K: Sink, G: G
     ensures no_output { IsFalse (has_output (end_status result)) → out.new ≡ out.old }
 {
     match read_words(alloc, words) {
-        Ok(command) => serve_by_crew(rt, alloc, command, script, out, gate),
+        Ok(command) => answer_command_by_crew(rt, alloc, command, script, out, gate),
         Err(error) => refused_words(alloc, error),
     }
 }

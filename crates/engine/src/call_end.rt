@@ -1,4 +1,4 @@
-// How a call ends, and the line of the error output that tells it.
+// How a call ends, and the error line that says so.
 
 ghost use Rattle.std.specs.Prelude.{◌≡◌, IsFalse};
 ghost use Rattle.engine.specs.CallEnds.{TellsEnd, end_status};
@@ -8,20 +8,20 @@ use crate::refusal::Refusal;
 use crate::status::Status;
 use ped_io::{Sink, write_all};
 
-/// How a call ends. It is decided before the error output is lent, so whether that takes the line changes no status.
+/// How a call ends. It is decided before the error line is written, so a failed write of that line changes no status.
 #[derive(Drop)]
 pub enum CallEnd {
     /// The whole output was written.
     Done,
     /// The whole output was written, and its last line is a fault's.
     Faulted,
-    /// The words are no command; the line that tells why.
+    /// The words are no command; the line that says why.
     Words(String),
     /// The command has no report, or there was no memory.
     Refused(Refusal),
     /// A write of the output failed. A prefix of it was written.
     Write,
-    /// There is no strand; the line that tells why.
+    /// There is no strand; the line that says why.
     NoStrand(Vec<u8>),
 }
 
@@ -48,11 +48,12 @@ impl CallEnd {
 pub fn write_error_line<E: Sink>(err: &mut E, line: &[u8])
     ensures { WroteLine (watched E.written E.faults err.old err.new) line.now }
 {
-    // What becomes of the line is told by the sink's faults.
+    // The sink's faults tell whether the line was written.
     let _ = write_all(err, line);
 }
 
-/// Tells on the error output how a call ended. Where that was with the whole output, it leaves the sink as it is.
+/// Writes the line that says how a call ended. Where the whole output was written there is no such line, and the sink
+/// stays as it is.
 pub fn tell<E: Sink>(end: &CallEnd, err: &mut E)
     ensures told { TellsEnd (watched E.written E.faults err.old err.new) end.now }
     ensures no_line { IsFalse (has_line (end_status end.now)) → err.new ≡ err.old }

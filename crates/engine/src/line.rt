@@ -51,7 +51,7 @@ pub fn no_strand_line(alloc: Global, at: &Pedigree) -> Result<Vec<u8>, Memory>
     pedigree_line(alloc, b"no strand ", at)
 }
 
-/// The line of a strand that isn't known, since a fault of this pedigree stands before it.
+/// The line of a strand that isn't known, since a fault with this pedigree comes before it.
 pub fn blocked_line(alloc: Global, at: &Pedigree) -> Result<Vec<u8>, Memory>
     ensures { IfOk result (λ line. line.items ≡ blocked_line at.now) }
 {

@@ -10,28 +10,29 @@ ghost use Rattle.serial_meaning.specs.KeptLines.{KeepsLines};
 ghost use Rattle.serial_meaning.specs.Prints.{is_print};
 ghost use Rattle.serial_meaning.specs.Render.{IsWhole, answer_text};
 
+use contract_views::Items;
 use ped_io::{Failed, Sink};
 use run_lines::{Page, put_answer};
-use script_grammar::Items;
 use seed_batch::put_batch;
 use serial_meaning::{Answer, Prints};
 use std::alloc::Global;
 use std::marker::Model;
 
-/// The bytes for the output: a text, and after it the lines of runs, which stand nowhere in memory. It is seen as the list of all these bytes.
+/// The bytes for the output: a text, and after it the lines of runs, which are made as they are written. Contracts see
+/// the list of all these bytes.
 #[derive(Drop)]
 pub struct Output {
     text: Vec<u8>,
     runs: Runs,
 }
 
-/// Runs by their answers, each of which keeps the events that have a line.
+// Runs by their answers, each of which keeps the events that have a line.
 #[derive(Drop)]
 enum Runs {
     Nothing,
     Prints(Answer<Prints>),
     Log(Answer),
-    /// Those under these seeds.
+    // The runs under these seeds.
     SeedsPrints(Items<u64>, Items<Answer<Prints>>),
     SeedsLogs(Items<u64>, Items<Answer>),
 }
@@ -58,7 +59,7 @@ impl Output {
         }
     }
 
-    /// What a run prints of an answer that keeps its prints alone.
+    /// The lines of a run whose answer keeps prints only.
     pub fn prints(alloc: Global, answer: Answer<Prints>) -> Output
         requires whole { IsWhole answer.outcome }
         requires lines { KeepsLines is_print answer.plan.show }
@@ -70,7 +71,7 @@ impl Output {
         }
     }
 
-    /// A text, and then what a run prints of an answer that keeps all events.
+    /// A text, and then the lines of a run whose answer keeps all events.
     pub fn log(text: Vec<u8>, answer: Answer) -> Output
         requires { IsWhole answer.outcome }
         ensures { result ≡ text.items ++ answer_text answer }
@@ -81,7 +82,7 @@ impl Output {
         }
     }
 
-    /// What a batch prints of answers that keep their prints alone.
+    /// The lines of a batch whose answers keep prints only.
     pub fn batch_of_prints(
         alloc: Global,
         seeds: Items<u64>,
@@ -98,7 +99,7 @@ impl Output {
         }
     }
 
-    /// What a batch prints of answers that keep all events.
+    /// The lines of a batch whose answers keep all events.
     pub fn batch_of_logs(alloc: Global, seeds: Items<u64>, answers: Items<Answer>) -> Output
         requires count { length answers ≡ length seeds }
         requires whole { All (λ (answer : AnswerView). IsWhole answer.outcome) answers }
@@ -122,7 +123,7 @@ impl Output {
     /// Writes all bytes, through a page on which nothing waits. It takes no memory.
     ///
     /// # Errors
-    /// `Failed` where a write failed. A front of the bytes was written.
+    /// `Failed` where a write failed. A prefix of the bytes was written.
     pub fn write<S: Sink>(&self, page: &mut Page, out: &mut S) -> Result<(), Failed>
         requires { page.old ≡ [] }
         ensures all { OnOk result (Appends (S.written out.old) (S.written out.new) self.now) }

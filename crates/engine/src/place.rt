@@ -6,17 +6,17 @@ ghost use Rattle.ped_words.specs.Reading.{reading};
 ghost use Rattle.engine.specs.FaultPlaces.{IsPlaceBy, IsPlaceIn, IsPlaceUnder};
 ghost use Rattle.engine.specs.Promise.{most_bytes};
 
-use crate::play::planned;
+use crate::run::planned;
 use ped_path::Pedigree;
 use ped_words::{Command, Settings, read_words};
 use script_grammar::NameText;
 use serial_meaning::Plan;
 use std::alloc::Global;
 
-/// A script's text has no more bytes.
+// The most bytes of a script's text.
 const MOST_BYTES: usize = 1048576;
 
-/// Where an instance stood that met a fault of its own.
+/// Where an instance stood when it met a fault of its own.
 #[derive(Drop)]
 pub struct FaultPlace {
     /// The name of the function.
@@ -25,7 +25,7 @@ pub struct FaultPlace {
     pub at: u32,
 }
 
-// The place in a function of the plan, by its place in the script.
+// The place in the plan's function with this index.
 fn place_in(plan: &Plan, function: u32, at: u32) -> Option<FaultPlace>
     ensures { IfSome result (IsPlaceIn plan.now function at) }
 {
@@ -36,7 +36,7 @@ fn place_in(plan: &Plan, function: u32, at: u32) -> Option<FaultPlace>
     })
 }
 
-// Of the strand of this pedigree.
+// The place of the fault of the strand with this pedigree.
 fn place_under(alloc: Global, settings: Settings, at: &Pedigree, bytes: &[u8]) -> Option<FaultPlace>
     requires lawful { AreLawful settings }
     requires within { length bytes.now ≤ most_bytes }
@@ -51,8 +51,9 @@ fn place_under(alloc: Global, settings: Settings, at: &Pedigree, bytes: &[u8]) -
     }
 }
 
-/// Where the fault came from of the strand that these words of a `replay` call name, in the script that these bytes are the text of. None
-/// where they are no such words or no valid script, where the strand has no fault of its own, and where there was no memory.
+/// Where the fault of a strand came from: the strand that the words of this `replay` call name, in the script with this
+/// text. None where the words or the script aren't valid, where the strand has no fault of its own, and where there was
+/// no memory.
 ///
 /// It takes as long as the replay, and the run of the strand's instance once more.
 pub fn fault_place(alloc: Global, words: &[String], bytes: &[u8]) -> Option<FaultPlace>

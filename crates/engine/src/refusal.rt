@@ -12,7 +12,7 @@ use std::alloc::{AllocError, AllocFailed, Global};
 pub enum Refusal {
     /// The source has more than 1048576 bytes.
     TooLong,
-    /// The source has the text of no script that the command takes; the line that tells why.
+    /// The source's text isn't a script that the command takes; the line that says why.
     Untaken(String),
     /// A read failed.
     Read,
@@ -50,7 +50,7 @@ impl From<AllocError> for Refusal {
     }
 }
 
-/// The value that found no room is dropped.
+/// The value for which there was no memory is dropped.
 impl<T: Drop> From<AllocFailed<T>> for Refusal {
     ghost use Rattle.engine.specs.declared.refusal.Refusal.TheVariants as R;
 

@@ -9,8 +9,8 @@ ghost use Rattle.engine.specs.Refusal.{IsMisfit};
 ghost use Rattle.engine.specs.Report.{hash_text, said, report_view};
 
 use crate::output::Output;
-use crate::play::{measured, played, replayed, simulated};
 use crate::refusal::Refusal;
+use crate::run::{measured, ran, replayed, simulated};
 use crate::script::{any_script, valid_script};
 use dotmix::{Gamma, dot, dotmix};
 use ped_gen::gen_script;
@@ -43,7 +43,7 @@ pub struct Report {
 }
 
 impl Report {
-    // An output that ends well.
+    // A report that ends well.
     fn said(output: Vec<u8>) -> Report
         ensures { report_view result ≡ said output.items }
     {
@@ -54,7 +54,7 @@ impl Report {
     }
 }
 
-// The lines of a pedigree's dot product, and of its draw in so many rounds.
+// The lines of a pedigree's dot product, and of its draw in this many rounds.
 fn hash_report(alloc: Global, gamma: &Gamma, at: &Pedigree, rounds: u32) -> Result<Report, Memory>
     requires within { length at.now ≤ length gamma.now }
     requires rounds { rounds ≤ most_rounds }
@@ -66,8 +66,8 @@ fn hash_report(alloc: Global, gamma: &Gamma, at: &Pedigree, rounds: u32) -> Resu
     Ok(Report::said(text.into_bytes()))
 }
 
-/// What a command that is no batch writes, on the caller's thread, of the script that these bytes are the text of. It is refused as
-/// `Untaken` where they are the text of no script that the command takes, and as `Memory` where there was none.
+/// The report of a command other than `batch`, made on the caller's thread, on the script with this text. `Untaken`
+/// where the text isn't a script that the command takes, `Memory` where there was none.
 pub fn script_report(alloc: Global, command: Command, bytes: &[u8]) -> Result<Report, Refusal>
     requires script { IsTrue (takes_script command) }
     requires alone { IsFalse (is_batch command) }
@@ -77,8 +77,8 @@ pub fn script_report(alloc: Global, command: Command, bytes: &[u8]) -> Result<Re
     ensures refused { IfErr result (IsMisfit (AcceptsScript command) bytes.now) }
 {
     match command {
-        Command::Run { settings, .. } => played(alloc, settings, bytes),
-        Command::Serial { settings } => played(alloc, settings, bytes),
+        Command::Run { settings, .. } => ran(alloc, settings, bytes),
+        Command::Serial { settings } => ran(alloc, settings, bytes),
         Command::Sim {
             settings,
             workers,
@@ -98,7 +98,7 @@ pub fn script_report(alloc: Global, command: Command, bytes: &[u8]) -> Result<Re
     }
 }
 
-/// What a command writes that is about no script, and whose report is made whole.
+/// The report of a command that takes no script and whose report is made whole.
 pub fn alone_report(alloc: Global, command: Command) -> Result<Report, Memory>
     requires alone { IsFalse (takes_script command) }
     requires whole { IsTrue (is_whole command) }

@@ -1,4 +1,4 @@
-// The script that bytes are the text of.
+// The script with a given text.
 
 ghost use Rattle.std.specs.Prelude.{◌≡◌, ◌≤◌, ⊤, length, IfErr, IfOk};
 ghost use Rattle.script_check.specs.Valid.{IsValid};

@@ -5,7 +5,7 @@ ghost use Rattle.ped_words.specs.Reading.{reading};
 ghost use Rattle.engine.specs.Clauses.{IsTopCall, change};
 ghost use Rattle.engine.specs.Commands.{RunsOnWorkers, IsRunWord};
 
-use crate::call::{perform, perform_by_crew};
+use crate::call::{answer_words, answer_words_by_crew};
 use crate::call_end::tell;
 use crate::status::Status;
 use crew::Gate;
@@ -34,9 +34,11 @@ pub fn is_run(words: &[String]) -> bool
 /// All that the program does, over any source of the script, sink of the output and sink of the error line.
 ///
 /// `words` are those of the command line without the program's name. The clauses are the fields of `IsTopCall`. What each status means, and
-/// which bytes were read and written then, is `promise`; `words` to `complete` say its parts. Statuses 2 to 7 come with one line on `err`.
-/// Status and line are decided before `err` is lent to anything (`call_end`), so whether it takes the line changes no status. `events` says
-/// what holds of each run.
+/// which bytes were read and written then, is `promise`; `words` to `complete` say its parts. Statuses 2 to 7 come with one line on `err`,
+/// or a prefix of it where `err` failed. `events` says what holds of each run.
+///
+/// Status and line are decided by calls that aren't lent `err`, and the one that writes the line returns nothing. So whether `err` takes it
+/// changes no status; that is read off the bodies, and no clause says it.
 ///
 /// The commands `run` and `batch` go by workers on threads of `rt`, and `gate` is told of their tasks. No clause speaks of the gate, or of the
 /// number of workers beyond the words.
@@ -71,7 +73,7 @@ pub fn pedrun_plain<S: Source, K: Sink, E: Sink>(
     ensures { IsTopCall (reading (map string_bytes words.now)) (change S.left S.faults script.old script.new)
         (change K.written K.faults out.old out.new) (change E.written E.faults err.old err.new) result }
 {
-    let end = perform(alloc, words, script, out);
+    let end = answer_words(alloc, words, script, out);
     tell(&end, err);
     end.status()
 }
@@ -90,7 +92,7 @@ pub fn pedrun_run<R: Threads + Wait + Sync, S: Source, K: Sink, E: Sink, G: Gate
     ensures { IsTopCall (reading (map string_bytes words.now)) (change S.left S.faults script.old script.new)
         (change K.written K.faults out.old out.new) (change E.written E.faults err.old err.new) result }
 {
-    let end = perform_by_crew(rt, alloc, words, script, out, gate);
+    let end = answer_words_by_crew(rt, alloc, words, script, out, gate);
     tell(&end, err);
     end.status()
 }

@@ -8,4 +8,4 @@ pub returns-clause-refused : goal.returns-clause-refused
 returns-clause-refused g c =
     let source = watched g.S.Source.left g.S.Source.faults c.args.source.now c.fetch.new.source in
     let same : c.deref.result.now ≡ c.in_ok-bytes.bytes.items = search rules in
-    misfit_cause (batch_command c.args.batch.now c.args.workers) source c.deref.result.now refl (subst (ReadWhole source) (sym same) c.in_ok-bytes.ensures.whole) c.played_batch.result c.played_batch.ensures.refused
+    misfit_cause (batch_command c.args.batch.now c.args.workers) source c.deref.result.now refl (subst (ReadWhole source) (sym same) c.in_ok-bytes.ensures.whole) c.ran_batch.result c.ran_batch.ensures.refused

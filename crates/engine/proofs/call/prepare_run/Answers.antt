@@ -8,4 +8,4 @@ pub returns-clause-refused : goal.returns-clause-refused
 returns-clause-refused g c =
     let source = watched g.S.Source.left g.S.Source.faults c.args.source.now c.fetch.new.source in
     let same : c.deref.result.now ≡ c.in_ok-bytes.bytes.items = search rules in
-    misfit_cause (Run c.args.settings c.args.workers) source c.deref.result.now refl (subst (ReadWhole source) (sym same) c.in_ok-bytes.ensures.whole) c.played_by_crew.result c.played_by_crew.ensures.refused
+    misfit_cause (Run c.args.settings c.args.workers) source c.deref.result.now refl (subst (ReadWhole source) (sym same) c.in_ok-bytes.ensures.whole) c.ran_by_crew.result c.ran_by_crew.ensures.refused

@@ -6,10 +6,10 @@ use Rattle.engine.specs.Refusal.{IsMisfit}
 use Rattle.engine.proofs.report.script_report.Goals as goal
 
 pub returns-in-Run-clause-refused : goal.returns-in-Run-clause-refused
-returns-in-Run-clause-refused c = let P : Command → Type 0 = λ command. IfErr c.played.result (IsMisfit (AcceptsScript command) c.args.bytes.now) in subst P (sym c.in-Run.is) c.played.ensures.refused
+returns-in-Run-clause-refused c = let P : Command → Type 0 = λ command. IfErr c.ran.result (IsMisfit (AcceptsScript command) c.args.bytes.now) in subst P (sym c.in-Run.is) c.ran.ensures.refused
 
 pub returns-in-Serial-clause-refused : goal.returns-in-Serial-clause-refused
-returns-in-Serial-clause-refused c = let P : Command → Type 0 = λ command. IfErr c.played-in-Serial.result (IsMisfit (AcceptsScript command) c.args.bytes.now) in subst P (sym c.in-Serial.is) c.played-in-Serial.ensures.refused
+returns-in-Serial-clause-refused c = let P : Command → Type 0 = λ command. IfErr c.ran-in-Serial.result (IsMisfit (AcceptsScript command) c.args.bytes.now) in subst P (sym c.in-Serial.is) c.ran-in-Serial.ensures.refused
 
 pub returns-in-Sim-clause-refused : goal.returns-in-Sim-clause-refused
 returns-in-Sim-clause-refused c = let P : Command → Type 0 = λ command. IfErr c.simulated.result (IsMisfit (AcceptsScript command) c.args.bytes.now) in subst P (sym c.in-Sim.is) c.simulated.ensures.refused
