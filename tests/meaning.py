@@ -1,7 +1,10 @@
-"""What scripts mean, worked out from docs/LANGUAGE.md and from no code of the program: bench/random compares `pedrun` with it.
+"""What scripts mean, worked out from docs/LANGUAGE.md and from no code of the program: tests/random and tests/simulations compare `pedrun` with it.
 
 A script is its functions by name. Statements and expressions are tuples that begin with a word for what they are, as Instance and `evaluated`
 have them. A pedigree or a path is a tuple of ranks, and so is an Id. A fault is a pair of its pedigree and its text.
+
+An instance runs from stop to stop. A stop is the origin of a child, a Call or a Loop, or None where it waits: then the nodes of the children since
+the wait before are sent to it. Here a child is worked out at once, which gives the open tree; tests/simulations works out tasks by turns.
 """
 from typing import NamedTuple
 
@@ -25,12 +28,32 @@ class Event(NamedTuple):
     value: object = None
 
 
+class Call(NamedTuple):
+    """The origin of an instance."""
+
+    name: str
+    args: list
+    path: tuple
+
+
+class Loop(NamedTuple):
+    """The origin of iterations of a loop. The first argument of iteration k is `first + k`, and `rest` are the others."""
+
+    name: str
+    first: int
+    rest: list
+    path: tuple
+    low: int
+    high: int
+
+
 class Node:
     """What an instance or a loop shows in the open tree: its events and children in order, the strands that it came to, and how it ended."""
 
     def __init__(self, path, is_loop=False):
         self.path, self.is_loop = path, is_loop
         self.items, self.strands = [], set()
+        # the value of an instance, or the list of a loop's values
         self.value = self.own_fault = self.child_fault = None
         # the least fault of it and of all below it, and the steps that an instance took
         self.fault, self.steps = None, 0
@@ -41,8 +64,8 @@ class Node:
     def events(self):
         return [it for it in self.items if isinstance(it, Event)]
 
-    def least_fault(self):
-        return min([it.fault for it in self.children() if it.fault] + [it for it in (self.own_fault,) if it], default=None)
+    def is_faulty(self):
+        return self.own_fault is not None or self.child_fault is not None
 
 
 # Draws
@@ -154,43 +177,74 @@ class Plan:
         self.spawning = {name for name, it in functions.items() if has_spawn(it.body)}
 
     def tree(self):
-        return instance_node(self, "main", [], ())
+        return node_of(self, Call("main", [], ()))
 
 
-def instance_node(plan, name, args, path):
-    node = Node(path)
-    instance = Instance(plan, node)
-    try:
-        node.value = instance.function(name, args)
-    except OwnFault as fault:
-        node.own_fault = (instance.here(), str(fault))
-    except ChildFault as fault:
-        node.child_fault = fault.args[0]
-    node.fault, node.steps = node.least_fault(), plan.budget - instance.steps
-    return node
+def node_of(plan, origin):
+    """The open tree of an origin."""
+    if isinstance(origin, Loop):
+        node = Node(origin.path, is_loop=True)
+        node.items = [node_of(plan, iteration(origin, k)) for k in range(origin.low, origin.high)]
+        node.value = [it.value for it in node.items]
+        node.fault = min((it.fault for it in node.items if it.fault), default=None)
+        return node
+    instance = Instance(plan, origin.path)
+    stops, children, answers = instance.run(origin.name, origin.args), [], None
+    while True:
+        try:
+            stop = stops.send(answers)
+        except StopIteration:
+            return instance.node
+        answers = None
+        if stop is None:
+            answers, children = children, []
+        else:
+            children.append(node_of(plan, stop))
+            instance.node.items.append(children[-1])
 
 
-def loop_node(plan, name, first, rest, path, count):
-    node = Node(path, is_loop=True)
-    node.items = [instance_node(plan, name, [first + k, *rest], (*path, k)) for k in range(count)]
-    node.fault = node.least_fault()
-    return node
+def iteration(loop, k):
+    return Call(loop.name, [loop.first + k, *loop.rest], (*loop.path, k))
 
 
 class Frame:
-    """A function that was begun: its variables, and the faults of the children that it spawned since its last sync."""
+    """A function that was begun: its variables, whether it spawned since its last sync, and the faults of those children that it heard of."""
 
-    def __init__(self, variables):
-        self.variables, self.faults = variables, []
+    def __init__(self, variables=None):
+        self.variables, self.spawned, self.faults = variables, False, []
 
 
 class Instance:
-    """Runs a function. A child is run at once, and where it faults its parent goes on until the sync that waits for it."""
-
-    def __init__(self, plan, node):
-        self.plan, self.node = plan, node
-        self.path, self.rank, self.steps, self.calls = node.path, 0, plan.budget, 0
+    def __init__(self, plan, path):
+        self.plan, self.node = plan, Node(path)
+        self.path, self.rank, self.steps, self.calls = path, 0, plan.budget, 0
+        # for each child since the last wait its frame and what takes its value, and the faults of all children before that
+        self.handed, self.faults = [], []
         self.begin_strand()
+
+    def run(self, name, args, handed=()):
+        """Its stops. `handed` are children from before it, which it waits for too. It ends with its value or its faults in its node."""
+        self.handed = list(handed)
+        try:
+            self.node.value = yield from self.function(name, args)
+        except OwnFault as fault:
+            self.node.own_fault = (self.here(), str(fault))
+            self.faults.append(self.node.own_fault)
+        except ChildFault as fault:
+            self.node.child_fault = fault.args[0]
+        if self.handed and self.node.is_faulty():
+            yield from self.wait()
+        self.node.fault, self.node.steps = min(self.faults, default=None), self.plan.budget - self.steps
+
+    def wait(self):
+        nodes = yield None
+        for (frame, take), node in zip(self.handed, nodes, strict=True):
+            if node.fault:
+                frame.faults.append(node.fault)
+                self.faults.append(node.fault)
+            else:
+                take(node.value)
+        self.handed = []
 
     def here(self):
         return (*self.path, self.rank)
@@ -220,30 +274,37 @@ class Instance:
     def function(self, name, args):
         function = self.plan.functions[name]
         frame = Frame({param: arg for (param, _), arg in zip(function.params, args)})
-        self.block(frame, function.body)
+        yield from self.block(frame, function.body)
         self.pay()
         if name in self.plan.spawning:
-            self.sync(frame)
+            yield from self.sync(frame)
         return evaluated(frame.variables, function.result)
 
     def sync(self, frame):
         self.show("sync")
-        if frame.faults:
-            raise ChildFault(min(frame.faults))
+        if frame.spawned:
+            yield from self.wait()
+            frame.spawned = False
+            if frame.faults:
+                raise ChildFault(min(frame.faults))
         self.rise()
+
+    # What a statement does. One that may come to a stop gives its stops.
 
     def block(self, frame, body):
         for kind, *rest in body:
             self.pay()
-            getattr(self, "do_" + kind)(frame, *rest)
+            yield from getattr(self, "do_" + kind)(frame, *rest) or ()
 
     def do_let(self, frame, name, right):
-        self.do_set(frame, name, right)
+        return self.do_set(frame, name, right)
 
     def do_set(self, frame, name, right):
-        value = getattr(self, "right_" + right[0])(frame, *right[1:])
-        if name is not None:
-            frame.variables[name] = value
+        kind, *rest = right
+        if kind in ("call", "spawn"):
+            return getattr(self, kind)(frame, name, *rest)
+        frame.variables[name] = getattr(self, "right_" + kind)(frame, *rest)
+        return ()
 
     def right_value(self, frame, e):
         return evaluated(frame.variables, e)
@@ -260,27 +321,28 @@ class Instance:
         self.rise()
         return made
 
-    def right_call(self, frame, name, args):
+    def put(self, frame, name, value):
+        if name is not None:
+            frame.variables[name] = value
+
+    def call(self, frame, target, name, args):
         args = [evaluated(frame.variables, e) for e in args]
         if self.calls == OPEN_CALLS:
             raise OwnFault("calls")
         self.calls += 1
-        value = self.function(name, args)
+        value = yield from self.function(name, args)
         self.calls -= 1
-        return value
+        self.put(frame, target, value)
 
-    def right_spawn(self, frame, name, args):
+    def spawn(self, frame, target, name, args):
         args = [evaluated(frame.variables, e) for e in args]
         self.need_depth(2)
         self.show("spawn")
-        child = instance_node(self.plan, name, args, self.here())
-        self.node.items.append(child)
-        if child.fault:
-            frame.faults.append(child.fault)
+        self.handed.append((frame, lambda value: self.put(frame, target, value)))
+        frame.spawned = True
+        child = Call(name, args, self.here())
         self.rise()
-
-        # nobody reads what a child that faulted left here: its parent ends at the sync
-        return child.value
+        yield child
 
     def do_array(self, frame, name, length):
         frame.variables[name] = [0] * length
@@ -294,14 +356,14 @@ class Instance:
         self.show("print", evaluated(frame.variables, e))
 
     def do_sync(self, frame):
-        self.sync(frame)
+        return self.sync(frame)
 
     def do_if(self, frame, condition, then, other):
-        self.block(frame, then if evaluated(frame.variables, condition) else other)
+        return self.block(frame, then if evaluated(frame.variables, condition) else other)
 
     def do_while(self, frame, condition, body):
         while evaluated(frame.variables, condition):
-            self.block(frame, body)
+            yield from self.block(frame, body)
             self.pay()
 
     def do_scope(self, frame, body):
@@ -309,8 +371,8 @@ class Instance:
         outside = self.path, self.rank
         self.path, self.rank = self.here(), 0
         self.begin_strand()
-        self.block(frame, body)
-        self.sync(frame)
+        yield from self.block(frame, body)
+        yield from self.sync(frame)
         self.path, self.rank = outside
         self.rise()
 
@@ -324,13 +386,23 @@ class Instance:
         if count > 0:
             self.need_depth(3)
         self.show("loop")
-        loop = loop_node(self.plan, name, low, rest, self.here(), count)
-        self.node.items.append(loop)
-        if loop.fault:
-            raise ChildFault(loop.fault)
-        if target is not None:
-            frame.variables[target][:count] = [it.value for it in loop.items]
+        if count > 0:
+            yield from self.loop(Loop(name, low, rest, self.here(), 0, count), frame.variables[target] if target is not None else [])
+        else:
+            self.node.items.append(Node(self.here(), is_loop=True))
         self.rise()
+
+    def loop(self, loop, target):
+        def take(values):
+            if target:
+                target[: len(values)] = values
+
+        inside = Frame()
+        self.handed.append((inside, take))
+        yield loop
+        yield from self.wait()
+        if inside.faults:
+            raise ChildFault(min(inside.faults))
 
 
 # What is printed
