@@ -27,15 +27,15 @@ swap_halves z = z % 2 ^ 32 * 2 ^ 32 + z / 2 ^ 32
 abbrev pub round : ℕ → ℕ
 round z = swap_halves ((2 * z * z + z) % 2 ^ 64)
 
--- so many rounds
+-- this many rounds
 abbrev pub mix : ℕ → ℕ → ℕ
 mix z zero = z
 mix z (suc n) = round (mix z n)
 
--- a draw takes at most so many rounds
+-- the most rounds of a draw
 abbrev pub most_rounds : ℕ
 most_rounds = 8
 
--- so many rounds of the dot product
+-- the dot product, mixed by this many rounds
 abbrev pub dotmix : List ℕ → List ℕ → ℕ → ℕ
 dotmix gamma ranks rounds = mix (dot gamma ranks) rounds

@@ -4,7 +4,7 @@ use Rattle.dotmix.specs.Draws.{dotmix}
 use Rattle.dotmix.specs.GammaState.{padded}
 use Rattle.dotmix.specs.Words.{coefficients}
 
--- Both draw the same at each pedigree of at most so many ranks, in any number of rounds.
+-- Both draw the same at each pedigree of at most `depth` ranks, in any number of rounds.
 abbrev pub DrawAlike : List ℕ → List ℕ → ℕ → Type 0
 DrawAlike gamma other depth = (j : List ℕ) (rounds : ℕ) → length j ≤ depth → dotmix gamma j rounds ≡ dotmix other j rounds
 

@@ -3,14 +3,14 @@ use Rattle.std.specs.Prelude.{ℕ, ◌+◌, ◌*◌, ◌/◌, ◌%◌, ◌^◌, 
 use Rattle.std.specs.List.{range_with_len}
 use Rattle.dotmix.specs.Draws.{modulus}
 
--- xor with its own high bits, and then a product
-abbrev pub stirred : ℕ → ℕ → ℕ → ℕ
-stirred z shift factor = bit_xor z (z / 2 ^ shift) * factor % 2 ^ 64
+-- a step of SplitMix64's mixing: the xor with its own high bits, times this factor
+abbrev pub xor_shift_multiply : ℕ → ℕ → ℕ → ℕ
+xor_shift_multiply z shift factor = bit_xor z (z / 2 ^ shift) * factor % 2 ^ 64
 
 -- what SplitMix64 gives at this state
 abbrev pub split_mix : ℕ → ℕ
 split_mix state =
-    let z = stirred (stirred state 30 0xBF58476D1CE4E5B9) 27 0x94D049BB133111EB in bit_xor z (z / 2 ^ 31)
+    let z = xor_shift_multiply (xor_shift_multiply state 30 0xBF58476D1CE4E5B9) 27 0x94D049BB133111EB in bit_xor z (z / 2 ^ 31)
 
 -- word i of a seed, from 1
 abbrev pub seed_word : ℕ → ℕ → ℕ

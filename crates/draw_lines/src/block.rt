@@ -10,7 +10,7 @@ use ped_io::{Failed, Sink, write_all};
 // The longest line: twenty digits and a line feed.
 pub(crate) const LINE: usize = 21;
 
-// Writes a number's line so that it ends at `end`, and returns where it starts.
+// Writes a number's line so that it ends before `end`, and returns where it starts.
 fn write_line(number: u64, text: &mut [u8], end: usize) -> usize
     requires room { 21 ≤ end }
     requires within { end ≤ length text.old }
@@ -22,8 +22,8 @@ fn write_line(number: u64, text: &mut [u8], end: usize) -> usize
     write_digits(number, text, end - 1)
 }
 
-// Writes these numbers' lines at the end of the text, and returns where they start. It goes from the last to the first, as digits
-// are written.
+// Writes the numbers' lines so that they end where the text ends, and returns where they start. It goes from the last
+// to the first, since digits are made from the last to the first.
 fn write_lines(numbers: &[u64], text: &mut [u8]) -> usize
     requires { 21 * length numbers.now ≤ length text.old }
     ensures within { result ≤ length text.old }
@@ -38,7 +38,7 @@ fn write_lines(numbers: &[u64], text: &mut [u8]) -> usize
     start
 }
 
-// Fills `numbers` with draws, and writes their lines.
+// Fills `numbers` with the stream's next draws, and writes their lines.
 pub(crate) fn write_draws<K: Sink>(
     stream: &Stream,
     numbers: &mut [u64],

@@ -1,7 +1,7 @@
-//! Streams of draws as text: a decimal line for each number, drawn and written block by block.
+//! Writes streams of draws as text, a line in decimal for each number, block by block.
 //!
-//! A block is some thousand numbers, so a stream of a million takes no more memory than a short one. Each block is one write, where
-//! the sink takes it whole.
+//! A block is some thousand numbers, so that a long stream takes no more memory than a short one. Each block is one
+//! write, unless the sink takes only part of it.
 #![tactic(auto)]
 
 mod block;

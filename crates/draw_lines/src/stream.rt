@@ -6,7 +6,7 @@ use bulk_draw::{draw_run, reduce};
 use dotmix::Gamma;
 use ped_path::Pedigree;
 
-/// A stream of draws, from its next number on.
+/// A stream of draws, which begins at the draw of a pedigree and goes on rank by rank.
 #[derive(Drop)]
 pub struct Stream {
     /// At least as many coefficients as the pedigree has ranks.
@@ -20,7 +20,7 @@ pub struct Stream {
 }
 
 impl Stream {
-    // Fills `numbers` with draws.
+    // Fills `numbers` with the next draws. The stream stays where it is.
     pub(crate) fn draw(&self, numbers: &mut [u64])
         requires { CanDraw self.now (length numbers.old) }
         ensures { numbers.new ≡ each_modulo self.now.below (stream self.now.gamma self.now.at (length numbers.old) self.now.rounds) }
@@ -31,7 +31,7 @@ impl Stream {
         }
     }
 
-    // Skips this many numbers. At least one more must be left.
+    // Skips this many numbers. At least one more must be left, so that the rank stays in range.
     pub(crate) fn skip(&mut self, count: u64)
         requires { last_rank self.old.at + count < 2 ^ 32 }
         ensures { self.new ≡ later_stream self.old count }

@@ -18,7 +18,7 @@ pub enum StreamError {
     /// A write failed, and the sink's count of faults rose.
     #[error("a write failed")]
     Fault,
-    /// There was no memory for a block. Nothing was written.
+    /// There was no memory for one block. Nothing was written.
     #[error("out of memory")]
     Memory,
 }
@@ -48,10 +48,12 @@ fn write_blocks<K: Sink>(
     write_draws(stream, &mut numbers[..left as usize], text, out)
 }
 
-/// Writes the lines of `count` numbers of a stream, block by block. The memory is taken before the first write.
+/// Writes the lines of the first `count` numbers of a stream, block by block. All memory is taken before the first
+/// write.
 ///
 /// # Errors
-/// `Fault` where a write failed: a prefix of the lines was written. `Memory` where there is none for a block: nothing was written.
+/// `Fault` where a write failed: a prefix of the lines was written. `Memory` where there is none for one block: nothing
+/// was written.
 pub fn write_stream<K: Sink>(
     alloc: Global,
     mut stream: Stream,

@@ -18,11 +18,11 @@ TakesSome result bytes = IfOk result (λ n. (0 < n) × (n ≤ length bytes))
 abbrev pub Writes : {E : Type 0} → Option (List ℕ) → Option (List ℕ) → Result ℕ E → List ℕ → Type 0
 Writes old new result bytes = MatchResult result (λ n. Appends old new (take n bytes)) (λ _. Keeps old new)
 
--- A front of what was left was taken, of at most so many bytes.
+-- A front of what was left was taken, of at most `most` bytes.
 abbrev pub ConsumesAtMost : Option (List ℕ) → Option (List ℕ) → ℕ → Type 0
 ConsumesAtMost old new most = (front : List ℕ) × (length front ≤ most) × Consumes old new front
 
--- A front of what was left was taken, of just so many bytes.
+-- A front of what was left was taken, of exactly `count` bytes.
 abbrev pub ConsumesJust : Option (List ℕ) → Option (List ℕ) → ℕ → Type 0
 ConsumesJust old new count = (front : List ℕ) × (length front ≡ count) × Consumes old new front
 

@@ -1,7 +1,7 @@
-// Sources and sinks of bytes that count their faults, and whole transfers over them.
-//
-// A fault of reading or writing is believed only where the count of the object that was lent rose in the
-// call. So a transfer can't answer a fault that the device didn't have.
+//! Sources and sinks of bytes that count their faults, and whole transfers over them.
+//!
+//! A fault of reading or writing is believed only where the count of the object that was lent rose in the
+//! call. So a transfer can't answer a fault that the device didn't have.
 #![tactic(auto)]
 
 pub mod mem;

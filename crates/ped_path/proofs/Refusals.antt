@@ -11,7 +11,7 @@ use Rattle.std.proofs.lemmas.Str.Parse.{digit_from_value, digits_value-take-le}
 use Rattle.ped_path.specs.Path.{IsRank}
 use Rattle.ped_path.specs.Text.{stopped}
 use Rattle.ped_path.specs.Parsing.{begins_with_digit, has_needless_zero, BeginsTooBig, IsAfterRanks, IsRankThen, IsRefused, LacksStop, RankDueAt}
-use Rattle.ped_path.specs.Laws.{RefusalsAreUnique, WritesTooBig, Breaks, number_of, place_of, LeastRuleIsTold}
+use Rattle.ped_path.specs.Laws.{RefusalsAreUnique, WritesTooBig, Breaks, number_of, place_of, LeastRuleIsReported}
 use Rattle.ped_path.specs.declared.parse.PedTextError.{PedTextError}
 use Rattle.ped_path.specs.declared.parse.PedTextError.TheVariants.{Empty, BadByte, Zeros, TooBig, TooLong, Memory}
 use Rattle.ped_path.proofs.ParseLemmas.{digit_passes, no_needless_zero, numerals}
@@ -312,7 +312,7 @@ refusals_unique text e f m n r s =
     go (inr a) (inl b) = sym b
     go (inr a) (inr b) = let x = a.1 in let y = b.2 in cc
 
-pub least_rule : LeastRuleIsTold
+pub least_rule : LeastRuleIsReported
 least_rule text e f m n r s = go (among text e f (told text e m r) (broken text f n s))
   where
     go : Among e f → (place_of e ≡ place_of f) × (number_of e ≤ number_of f)

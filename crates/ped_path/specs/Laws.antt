@@ -37,7 +37,7 @@ place_of (TooBig at) = at
 place_of _ = 0
 
 -- all rules that a text breaks are broken at one offset, and the refusal names the one with the least number
-abbrev pub LeastRuleIsTold : Type 0
-LeastRuleIsTold =
+abbrev pub LeastRuleIsReported : Type 0
+LeastRuleIsReported =
     (text : List ℕ) (told broken : PedTextError) → told ≢ Memory → broken ≢ Memory → IsRefused text told → Breaks text broken →
     (place_of told ≡ place_of broken) × (number_of told ≤ number_of broken)

@@ -135,7 +135,7 @@ impl RankBlocks {
     }
 }
 
-// A new list of these blocks, with room for so many more.
+// A new list of these blocks, with room for this many more.
 fn shared_blocks(alloc: Global, blocks: &[RankBlock], more: usize) -> Result<Vec<RankBlock>, Memory>
     ensures { IfOk result (λ list. list.items ≡ blocks.now) }
 {

@@ -58,8 +58,8 @@ impl Ped {
         })
     }
 
-    /// Moves the path to memory of its own, which it shares with no copy but for the full blocks of ranks: then its children count no
-    /// owners of memory that those of the other copies count. Where there is no memory for that it stays as it is.
+    /// Moves the path to memory of its own, so that it shares only the full blocks of ranks with its copies. Its children then don't count
+    /// references where the children of the copies count theirs. Where there is no memory for that it stays as it is.
     pub fn unshare(&mut self, alloc: Global)
         ensures { self.new ≡ self.old }
     {

@@ -29,7 +29,7 @@ condition_of =
     (NoMain ∷ MainHasParameters ∷ FunctionTwice ∷ VariableTwice ∷ UnknownFunction ∷ UnknownVariable ∷ WrongNumberOfArguments
     ∷ WrongKind ∷ PendingVariable ∷ LetInABlock ∷ TooManyVariables ∷ [])
 
--- its name
+-- a condition's name
 abbrev pub condition_name : Condition → List ℕ
 condition_name NoMain = codes "no main"
 condition_name MainHasParameters = codes "main has parameters"

@@ -36,7 +36,7 @@ abbrev pub all_wanted : Kind → List Reading → Violations
 all_wanted kind [] known p = []
 all_wanted kind (r ∷ rs) known p = wanted kind r known p ++ all_wanted kind rs known p
 
--- one node, of the readings of its parts
+-- one node, from the readings of its parts
 abbrev pub read_at : Expr-F Reading Reading Reading → Reading
 read_at (node.Number n) = int_at n.at (λ known p. [])
 read_at (node.Var x) = record { at = x.at; kind = λ known. kind_of_variable (known.what x.bytes); violations = λ known p. scalar_use (known.what x.bytes) p x }

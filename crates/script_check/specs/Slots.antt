@@ -17,7 +17,7 @@ use Rattle.script_grammar.specs.declared.tree.Act.TheOpen as act
 use Rattle.script_grammar.specs.declared.tree.Act.TheOpen.{Act-F}
 use Rattle.script_grammar.specs.declared.tree.Act.TheFolds.{fold-Stmt}
 
--- The variables that a script names, in the order of the text. The name of a called function is none, nor is a parallel loop's
+-- The variables that a script names, in the order of the text. The name of a called function isn't one, nor is a parallel loop's
 -- variable.
 
 abbrev pub joined : List (List Name) → List Name
@@ -58,7 +58,7 @@ abbrev pub named_in_target : Option Name → List Name
 named_in_target None = []
 named_in_target (Some x) = x ∷ []
 
--- one statement, of the names in those inside it
+-- one statement, from the names in those inside it
 abbrev pub named_in_act : Act-F (List Name) (List Name) → List Name
 named_in_act (act.Let x r) = x ∷ named_in_right r
 named_in_act (act.Array x n) = x ∷ []
@@ -91,7 +91,7 @@ called_in_right (right.New at) = []
 called_in_right (right.Call at c) = c.name ∷ []
 called_in_right (right.Spawn at c) = c.name ∷ []
 
--- one statement, of the names in those inside it
+-- one statement, from the names in those inside it
 abbrev pub called_in_act : Act-F (List Name) (List Name) → List Name
 called_in_act (act.Let x r) = called_in_right r
 called_in_act (act.Array x n) = []
@@ -179,7 +179,7 @@ module _ (is : Name → Bool) where
   every_in_target None = true
   every_in_target (Some x) = is x
 
-  -- and each name of a called function that one
+  -- and each name of a called function passes that test
   module _ (calls : Name → Bool) where
     abbrev pub every_in_right : Right → Bool
     every_in_right (right.Value e) = every_in e
@@ -188,7 +188,7 @@ module _ (is : Name → Bool) where
     every_in_right (right.Call at c) = calls c.name && every_in_all c.args
     every_in_right (right.Spawn at c) = calls c.name && every_in_all c.args
 
-    -- one statement, of the results for those inside it
+    -- one statement, from the results for those inside it
     abbrev pub every_in_act : Act-F Bool Bool → Bool
     every_in_act (act.Let x r) = is x && every_in_right r
     every_in_act (act.Array x n) = is x
@@ -216,7 +216,7 @@ stand_from i names (q ∷ params) = agree (Some i) (slot_in names q.name.bytes) 
 
 -- A table that is made, one name after another
 
--- a slot at an offset behind the table's end
+-- a slot at an offset after the table's end
 abbrev pub with_entry : List ℕ → ℕ → ℕ → List ℕ
 with_entry table at slot = (table ++ replicate (at - length table) 0) ++ slot ∷ []
 
@@ -224,7 +224,7 @@ abbrev pub with_entries : List (List ℕ) → List ℕ → List Name → List �
 with_entries names table [] = table
 with_entries names table (x ∷ xs) = with_entries names (with_entry table x.at (unwrap_or (slot_in names x.bytes) 0)) xs
 
--- The table of callees: it has, at the offset of the name by which a function is called, the function's number
+-- The table of callees has, at the offset of the name by which a function is called, the function's index
 
 abbrev pub function_names : List Function → List (List ℕ)
 function_names = map (λ f. f.name.bytes)

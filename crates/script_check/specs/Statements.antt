@@ -145,7 +145,7 @@ violations_act (act.Pfor x lo hi target c) at context known p =
     ++ loop_call_of (function_named context.functions c.name.bytes) (is_some target) c known p
 violations_act (act.Scope a) at context known p = block_violations a context known p
 
--- one statement, of the judgements on those inside it
+-- one statement, from the judgements on those inside it
 abbrev pub judge_act : Act-F (ℕ → Judged) Judged → ℕ → Judged
 judge_act d at = record { after = after_act (λ (j : Judged). j.after) d; known = known_act d; violations = violations_act d at }
 

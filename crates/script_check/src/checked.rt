@@ -26,7 +26,7 @@ use std::alloc::Global;
 use std::marker::Model;
 use std::sync::Arc;
 
-/// A valid script, one that a text is of. Contracts see the script. It never changes, so all its copies share one place in memory.
+/// A valid script that was read from a text. Contracts see the script. It never changes, so all its copies share one allocation.
 #[derive(Drop)]
 pub struct Checked {
     kept: Arc<CheckedScript>,
@@ -65,8 +65,8 @@ impl Model for Checked {
     ghost invariant = { λ c. let k = arc_value c.kept in IsChecked k.script (table_of k.first.map) k.spawns k.names k.slots k.callees };
 }
 
-/// Checks a script that a text is of. It is `Ok` exactly for valid scripts, unless memory runs out; else the error has the first
-/// violated condition: of those at the least offset the one with the least number. On `Err` the script is dropped.
+/// Checks a script that was read from a text. It is `Ok` exactly for valid scripts, unless memory runs out. Else the error has the first
+/// violated condition: the one at the least offset, and of several there the one with the least number. On `Err` the script is dropped.
 pub fn check(alloc: Global, script: Script) -> Result<Checked, CheckError>
     requires { IsOfText script }
     ensures ok { IfOk result (λ checked. checked ≡ script) }
@@ -117,7 +117,7 @@ fn checked_of(alloc: Global, kept: CheckedScript) -> Result<Checked, Memory>
     })
 }
 
-// All conditions of a script but that no function is declared twice.
+// All conditions of a script, except that no function is declared twice.
 fn judge_script(
     alloc: Global,
     found: &mut Findings,
@@ -138,7 +138,7 @@ fn judge_script(
 }
 
 impl Checked {
-    /// The script, which is valid and which some text is of.
+    /// The script. It is valid, and was read from a text.
     pub fn script(&self) -> &Script
         ensures script { result.now ≡ self.now }
         ensures valid { IsValid self.now }

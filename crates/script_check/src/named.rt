@@ -8,7 +8,7 @@ use contract_views::Items;
 use script_grammar::{Act, CallText, Expr, Function, Name, ProductPart, Right, Stmt, SumPart};
 use std::alloc::Global;
 
-// Those of a whole function, but for its parameters.
+// Those of a whole function, without its parameters.
 pub(crate) fn named_in(alloc: Global, f: &Function) -> Result<Items<Name>, Memory>
     ensures { IfOk result (λ named. named ≡ named_in_function f.now) }
 {

@@ -58,7 +58,7 @@ fn put_each(table: &mut Vec<u16>, variables: &Variables, named: &[Name]) -> Resu
     Ok(())
 }
 
-// Adds a slot behind the table's end, with zeros up to it.
+// Adds a slot after the table's end, with zeros up to it.
 pub(crate) fn set_entry(table: &mut Vec<u16>, at: usize, slot: u16) -> Result<(), Memory>
     ensures { OnOk result (table.new.items ≡ with_entry table.old.items at slot) }
 {

@@ -45,8 +45,8 @@ pub record TextEnd : Type 0 where
   pub end : ℕ
   pub stop : LexEnd
 
--- The fault behind all tokens, its number and its offset: an unexpected end where the text ends and they are no script yet, else
--- what stopped them.
+-- The fault after the last token, its number and its offset: an unexpected end, where the text ends and the tokens aren't a script;
+-- else the byte that ended the tokens.
 abbrev pub FaultAtStop : Version → ℕ → LexEnd → List Terminal → ℕ → ℕ → Type 0
 FaultAtStop version end End tokens number at = (number ≡ fault.unexpected_end) × (at ≡ end) × ((functions : List Function) → IsScriptOf version tokens functions → ⊥)
 FaultAtStop version end (NotAscii place) tokens number at = (number ≡ fault.not_ascii) × (at ≡ place)

@@ -1,5 +1,5 @@
--- The nesting at each token of a derivation, where n are open around it: the brackets that are open there, itself included, and the
--- unary minuses whose operand hasn't ended.
+-- The nesting at each token of a derivation inside of n open brackets and minuses: how many brackets are open there, the token itself
+-- included, and how many unary minuses whose operand hasn't ended.
 use Rattle.std.specs.Prelude.{ℕ, suc, List, [], ◌∷◌, ◌++◌, Option}
 use Rattle.script_grammar.specs.declared.tree.Name.{Name}
 use Rattle.script_grammar.specs.declared.tree.Expr.{Expr}

@@ -17,7 +17,7 @@ token_of bytes l = tok l.start l.word (text_of bytes l)
 abbrev pub tokens_of : List ℕ → List Lexeme → List Terminal
 tokens_of bytes ls = map (token_of bytes) ls
 
--- The bytes are the text of this script: they are of its version, the tokens behind the version line reach to the end of the text,
+-- The bytes are the text of this script: they are of its version, the tokens after the version line reach to the end of the text,
 -- and they are the script, within the limits. Offsets are those in the bytes.
 pub record Text (bytes : List ℕ) (script : Script) : Type 0 where
   pub lexemes : List Lexeme

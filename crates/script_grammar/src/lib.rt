@@ -1,4 +1,4 @@
-//! Scripts as trees, and the grammar: which text is which tree's.
+//! Scripts as trees, and the grammar, which says what texts a tree has.
 //!
 //! The tree types are in [`tree`]. `NameText` holds a name's bytes, which contracts see as a list.
 #![tactic(auto)]

@@ -12,8 +12,8 @@ pub const LONGEST_NAME: usize = 32;
 // How many of them are compared as one number.
 const COMPARED_FIRST: u8 = 8;
 
-/// A name's bytes, stored inline, so that a copy takes no memory and two names are mostly compared as two numbers. Contracts see
-/// the list of the bytes.
+/// A name's bytes, stored inline, so that a copy allocates nothing and comparing two names mostly compares two numbers. Contracts
+/// see the list of the bytes.
 #[derive(Drop)]
 pub struct NameText {
     // The bytes, filled up with zeros.

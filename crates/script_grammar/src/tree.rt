@@ -114,7 +114,7 @@ pub enum Act {
     If(Expr, Items<Stmt>, Items<Stmt>),
     /// `while E { .. }`
     While(Expr, Items<Stmt>),
-    /// `pfor i in E..E into a call f(i, ..);`, where `args` are those behind the loop variable.
+    /// `pfor i in E..E into a call f(i, ..);`, where `args` are those after the loop variable.
     Pfor {
         var: Name,
         lo: Expr,

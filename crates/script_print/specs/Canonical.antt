@@ -68,7 +68,7 @@ product_sign_text Modulo = codes "%"
 abbrev pub spaced : List ℕ → List ℕ
 spaced sign = codes " " ++ sign ++ codes " "
 
--- the text of one node, of the texts of its parts
+-- the text of one node, from the texts of its parts
 abbrev pub expr_at : Expr-F Printed (List ℕ) (List ℕ) → Printed
 expr_at (node.Number n) = at_precedence 5 (signed_decimal n.value)
 expr_at (node.Var x) = at_precedence 5 x.bytes
@@ -143,7 +143,7 @@ abbrev pub else_text : List Indented → Indented
 else_text [] margin = []
 else_text (stmt ∷ stmts) margin = codes " else " ++ block_text (stmt ∷ stmts) margin
 
--- the text of a statement behind its margin
+-- the text of a statement after its margin
 abbrev pub act_at : Act-F Indented Indented → Indented
 act_at (act.Let x r) margin = codes "let " ++ x.bytes ++ codes " = " ++ right_text r ++ codes ";"
 act_at (act.Array a n) margin = codes "let " ++ a.bytes ++ codes "[" ++ signed_decimal n.value ++ codes "];"

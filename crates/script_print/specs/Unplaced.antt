@@ -1,4 +1,4 @@
--- A script without its offsets: with each of them 0. Its version stays.
+-- A script without its offsets: each of them is 0. Its version stays.
 use Rattle.std.specs.Prelude.{◌≡◌, ℕ, List, map, Option, Some, None}
 use Rattle.script_grammar.specs.declared.tree.Name.{Name}
 use Rattle.script_grammar.specs.declared.tree.Number.{Number}
@@ -29,7 +29,7 @@ unplaced_name x = record { bytes = x.bytes; at = 0 }
 abbrev pub unplaced_number : Number → Number
 unplaced_number n = record { at = 0; value = n.value }
 
--- one node, of parts that are already without offsets
+-- one node, from parts that have no offsets any more
 abbrev pub expr_unplaced_at : Expr-F Expr ProductPart SumPart → Expr
 expr_unplaced_at (node.Number n) = expr.Number (unplaced_number n)
 expr_unplaced_at (node.Var x) = expr.Var (unplaced_name x)
@@ -70,7 +70,7 @@ abbrev pub unplaced_target : Option Name → Option Name
 unplaced_target None = None
 unplaced_target (Some x) = Some (unplaced_name x)
 
--- what a statement does, of statements that are already without offsets
+-- what a statement does, from inner statements that have no offsets any more
 abbrev pub act_unplaced_at : Act-F Act Stmt → Act
 act_unplaced_at (part.Let x r) = act.Let (unplaced_name x) (unplaced_right r)
 act_unplaced_at (part.Array a n) = act.Array (unplaced_name a) (unplaced_number n)

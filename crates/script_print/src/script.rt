@@ -13,9 +13,9 @@ use std::alloc::Global;
 
 /// The canonical text of a script.
 ///
-/// Of a script that some text is of, it is a text of the same tree but for offsets, and so its own canonical text. A tree that no
-/// text gives, such as a sum of one term, has one too. It can be longer than the text that the script was read from, and longer
-/// than a text may be. The time is linear in its length. Only running out of memory makes it `Err`.
+/// For a script that was read from a text, it is a text of the same tree, apart from offsets, and so it is its own canonical text. A
+/// tree that no text has, such as a sum of one term, has a canonical text too. It can be longer than the text that the script was read
+/// from, and longer than a text may be. The time is linear in its length. Only running out of memory makes it `Err`.
 pub fn print_script(alloc: Global, script: &Script) -> Result<Vec<u8>, Memory>
     ensures text { IfOk result (λ text. text.items ≡ canonical script.now) }
     ensures same_tree { IfOk result (λ text. IsOfText script.now → IsTextOf text.items script.now) }

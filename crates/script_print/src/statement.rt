@@ -78,7 +78,7 @@ fn write_print(e: &Expr, text: &mut Vec<u8>) -> Result<(), Memory>
     Ok(())
 }
 
-// `x = R;`, with what comes before it.
+// `x = R;`, after this head: `let ` or nothing.
 fn write_set(head: &[u8], name: &Name, right: &Right, text: &mut Vec<u8>) -> Result<(), Memory>
     ensures { OnOk result (text.new.items ≡ text.old.items ++ head.now ++ name.now.bytes ++ codes " = " ++ right_text right.now ++ codes ";") }
 {
@@ -170,7 +170,7 @@ fn inner_margin(alloc: Global, margin: &[u8]) -> Result<Vec<u8>, Memory>
     Ok(inner)
 }
 
-// Appends the lines of these statements, each behind the margin.
+// Appends the lines of these statements, each after the margin.
 #[cycle(statements)]
 #[tactic(auto, using(crate::proofs::Computing::act_rules))]
 pub(crate) fn write_stmts(

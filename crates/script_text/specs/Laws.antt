@@ -22,7 +22,7 @@ FaultIsUnique = (bytes : List ℕ) (number at other place : ℕ) → SyntaxFault
 abbrev pub FaultIsFirst : Type 0
 FaultIsFirst = (bytes : List ℕ) (number at : ℕ) → SyntaxFault bytes number at ↔ IsFirstFault bytes number at
 
--- A text of a script has none.
+-- The text of a script has none.
 abbrev pub TreeExcludesFault : Type 0
 TreeExcludesFault = (bytes : List ℕ) (script : Script) (number at : ℕ) → Text bytes script → SyntaxFault bytes number at → ⊥
 

@@ -236,7 +236,7 @@ nestings (t ∷ ts) s = onward (consume t.word t.text s) (nestings ts)
 abbrev pub PlacedFault : Type 0
 PlacedFault = ℕ × ℕ
 
--- the limit that an expected token breaks, behind n functions, and nested d deep
+-- the limit that an expected token breaks, where n functions have begun and the nesting is d
 abbrev pub broken : ℕ → Terminal → ℕ → Option ℕ
 broken n t d =
     if same_word t.word word.Number && nat_lt 9223372036854775807 (decimal 0 t.text) then Some fault.number_out_of_range

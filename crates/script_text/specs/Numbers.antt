@@ -21,7 +21,7 @@ fault_among (fault ∷ faults) number = if nat_eq number (number_of fault) then 
 abbrev pub fault_of : ℕ → TextFault
 fault_of = fault_among (NotAscii ∷ UnexpectedToken ∷ NumberOutOfRange ∷ NameTooLong ∷ NestedTooDeep ∷ UnexpectedEnd ∷ [])
 
--- its name
+-- a fault's name
 abbrev pub fault_name : TextFault → List ℕ
 fault_name NotAscii = codes "not ASCII"
 fault_name UnexpectedToken = codes "unexpected token"

@@ -32,12 +32,12 @@ terminals_of source ls = tokens_of source.bytes.now ls
 abbrev pub text_end : LexedText → TextEnd
 text_end source = record { end = source.end; stop = source.stop }
 
--- the machine gets from the symbols before to those after by the lexemes between
+-- reading the lexemes from `old` up to `rest` takes the machine from the symbols `front` to the symbols `back`
 abbrev pub ReadsTo : List Sym → List Sym → LexedText → ℕ → List Lexeme → List Lexeme → Type 0
 ReadsTo front back source d old rest =
     (n : ℕ) (s : List Sym) → nesting s ≡ d → judge (text_end source) n (front ++ s) (terminals_of source old) ≡ judge (text_end source) n (back ++ s) (terminals_of source rest)
 
--- the machine finds this fault
+-- the machine, which expects these symbols, finds this fault
 abbrev pub Finds : List Sym → LexedText → ℕ → List Lexeme → ℕ → ℕ → Type 0
 Finds front source d old number at =
     (n : ℕ) (s : List Sym) → nesting s ≡ d → judge (text_end source) n (front ++ s) (terminals_of source old) ≡ Some (number, at)
@@ -47,7 +47,8 @@ abbrev pub Errs : List Sym → LexedText → ℕ → List Lexeme → SyntaxError
 Errs front source d old Memory = Unit {0}
 Errs front source d old (Bad number at) = Finds front source d old number at
 
--- What was read derives so, and takes the symbols before off the machine's stack. Or the machine finds the fault.
+-- What was read is derived by this rule of the grammar, and reading it took these symbols off the machine's stack. On an error the
+-- machine finds the same fault.
 abbrev pub Reads : {X : Type 0} → (List Terminal → X → List Terminal → Type 0) → List Sym → LexedText → ℕ → List Lexeme → Result (X × Bor (List Lexeme)) SyntaxError → Type 0
 Reads R front source d old (Ok p) = R (terminals_of source old) p.0 (terminals_of source p.1.now) × ReadsTo front [] source d old p.1.now
 Reads R front source d old (Err e) = Errs front source d old e
@@ -62,7 +63,7 @@ abbrev pub unexpected_in : LexedText → List Lexeme → SyntaxError
 unexpected_in source [] = stopped_at source.end source.stop
 unexpected_in source (l ∷ ls) = Bad fault.unexpected_token l.start
 
--- this word comes next, at this offset and with these lexemes behind it; or it doesn't
+-- this word comes next, at this offset and with these lexemes after it; or it doesn't
 abbrev pub NextIs : Word → ℕ → List Lexeme → List Lexeme → Type 0
 NextIs w at old rest = (l : Lexeme) × (old ≡ l ∷ rest) × (l.word ≡ w) × (l.start ≡ at)
 
@@ -81,7 +82,7 @@ abbrev pub PassesWord : Word → LexedText → ℕ → List Lexeme → Result (B
 PassesWord w source d old (Ok rest) = ((at : ℕ) × NextIs w at old rest.now) × ReadsTo (only w ∷ []) [] source d old rest.now
 PassesWord w source d old (Err e) = Errs (only w ∷ []) source d old e
 
--- a symbol that must be a bracket, with these symbols behind it
+-- a symbol that must be a bracket, with these symbols after it
 pub record IsBracket (a : Sym) (w : Word) (inside : List Sym) : Type 0 where
   pub needed : is_empty a ≡ false
   pub only_rule : rules a ≡ rule w inside ∷ []
@@ -116,7 +117,7 @@ abbrev pub Signs : {X : Type 0} → Sym → (Word → X → Type 0) → Word →
 Signs a R w None = (text : List ℕ) → find_rule w text (rules a) ≡ None
 Signs a R w (Some sign) = R w sign
 
--- a sign comes next, and what is behind it; or the symbol has no rule for what comes next
+-- a sign comes next, and what is after it; or the symbol has no rule for what comes next
 abbrev pub SignNext : {X : Type 0} → Sym → (Word → X → Type 0) → List Lexeme → Option (X × Bor (List Lexeme)) → Type 0
 SignNext a R [] None = Unit {0}
 SignNext a R (l ∷ ls) None = (text : List ℕ) → find_rule l.word text (rules a) ≡ None
@@ -193,7 +194,7 @@ abbrev pub NoStmt : List Lexeme → Type 0
 NoStmt [] = Unit {0}
 NoStmt (l ∷ ls) = begins_stmt l.word ≡ false
 
--- What was read behind a lexeme makes with it a statement that does this.
+-- A lexeme and what was read after it are a statement that does this.
 abbrev pub ReadsAct : LexedText → ℕ → Lexeme → List Lexeme → Result (Act × Bor (List Lexeme)) SyntaxError → Type 0
 ReadsAct source d first rest (Ok p) =
     IsStmt (terminals_of source (first ∷ rest)) (stmt_at first.start p.0) (terminals_of source p.1.now) × ReadsTo (stmts ∷ []) (stmts ∷ []) source d (first ∷ rest) p.1.now
@@ -244,7 +245,7 @@ ReadsBody source d old (Err e) = Errs (body ∷ []) source d old e
 abbrev pub IsRestOfFunction : List Terminal → Function → List Terminal → Type 0
 IsRestOfFunction ts f rest = (a : ℕ) (t : List ℕ) → IsFunction (tok a word.Fn t ∷ ts) f rest
 
--- All functions were read, and then the machine expects nothing. Or it finds the fault.
+-- All functions were read, and the machine expects nothing more. On an error it finds the same fault.
 abbrev pub ReadsFunctions : LexedText → List Lexeme → Result (List Function × Bor (List Lexeme)) SyntaxError → Type 0
 ReadsFunctions source old (Ok p) =
     IsFunctions (terminals_of source old) p.0 (terminals_of source p.1.now)

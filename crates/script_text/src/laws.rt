@@ -7,8 +7,8 @@ pub fn tree_is_unique()
     ensures { TreeIsUnique }
 {}
 
-/// A text has at most one fault: at the first offset at which it has one, there is one number. A name, a number and a word `fn`
-/// nest no deeper than what comes before them, so the first token at fault breaks only one limit.
+/// A text has at most one fault, with one number. The first token at fault breaks only one limit: a name, a number and the word `fn`,
+/// which have limits of their own, don't nest deeper than what comes before them.
 pub fn fault_is_unique()
     ensures { FaultIsUnique }
 {}
@@ -19,7 +19,7 @@ pub fn fault_is_first()
     ensures { FaultIsFirst }
 {}
 
-/// A text of a script has no fault.
+/// The text of a script has no fault.
 pub fn tree_excludes_fault()
     ensures { TreeExcludesFault }
 {}
@@ -30,7 +30,8 @@ pub fn gaps_are_blanks_and_comments()
 {}
 
 /// The nesting at each token of a script counts what is open there: the closing brackets that are still to come, and the unary
-/// minuses whose operand hasn't ended. A machine that reads the tokens from left to right keeps what may come next.
+/// minuses whose operand hasn't ended. Both are counted by a machine that reads the tokens from left to right and knows what may come
+/// next.
 pub fn nesting_counts_open()
     ensures { NestingCountsOpen }
 {}

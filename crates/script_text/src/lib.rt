@@ -2,7 +2,7 @@
 //!
 //! The tree, and the grammar that says of which tree a text is, stand in `script_grammar`; the tree's types are given here again.
 //!
-//! A script, and a text that ends before it is one. `a_text_has_a_tree_or_a_first_fault` in the tests of `test_texts` runs it:
+//! A script, and a text that ends too early. The test `a_text_has_a_tree_or_a_first_fault` of `test_texts` runs both:
 //!
 //! ```
 //! let script = parse(alloc, b"fn main() { print 1; return 0; }")?;

@@ -18,7 +18,7 @@ use crate::fault::TextFault;
 use crate::parser::function::script;
 use crate::parser::source::LexedText;
 use script_grammar::Script;
-use script_tokens::{MAX_BYTES, Misfit, Token, Version, lexemes};
+use script_tokens::{MAX_BYTES, Token, TokenError, Version, lexemes};
 use std::alloc::Global;
 
 /// The tree of a script.
@@ -28,7 +28,7 @@ use std::alloc::Global;
 /// limits: names of at most 32 bytes, numbers up to 9223372036854775807, at most 1024 functions, and at most 64 open brackets and
 /// unary minuses at once. There is never more than one tree.
 ///
-/// [`SyntaxError::Bad`] names the first fault, and nothing behind it is judged. A token is unexpected where no script of the
+/// [`SyntaxError::Bad`] names the first fault, and nothing after it is judged. A token is unexpected where no script of the
 /// version begins with the tokens before it and this one; limits are judged only of a token that is expected.
 /// [`SyntaxError::Memory`] says that memory ran out.
 ///
@@ -56,12 +56,12 @@ pub fn parse(alloc: Global, bytes: &[u8]) -> Result<Script, SyntaxError>
     script(&source, lexed.lexemes.as_slice())
 }
 
-/// The next token of a version from the offset `from` on, behind blanks and comments. Where none follows it is `End`, which begins
+/// The next token of a version from the offset `from` on, after blanks and comments. Where none follows it is `End`, which begins
 /// and ends at the length of the text. An offset inside a token is taken as the start of a text: what follows is judged from there
 /// on. The call takes no memory, and its error is never [`SyntaxError::Memory`].
 ///
-/// The error is `Bad` 1 exactly where a byte from 128 on is among these blanks and comments or right behind them, at the first such
-/// byte, and else `Bad` 2 exactly where right behind them is a byte with which no token begins, at that byte. The length of names
+/// The error is `Bad` 1 exactly where a byte from 128 on is among these blanks and comments or right after them, at the first such
+/// byte, and else `Bad` 2 exactly where right after them is a byte with which no token begins, at that byte. The length of names
 /// and the size of numbers isn't judged here.
 ///
 /// For reading a text token by token, as an editor's highlighting does: the tokens of `a..b` from 0 on are `a` at 0 to 1, `..` at 1
@@ -73,7 +73,7 @@ pub fn next_token(bytes: &[u8], from: u32, version: Version) -> Result<Token, Sy
 {
     match script_tokens::next_token(bytes, from, version) {
         Ok(token) => Ok(token),
-        Err(Misfit::NotAscii(at)) => Err(TextFault::NotAscii.at(at)),
-        Err(Misfit::NoToken(at)) => Err(TextFault::UnexpectedToken.at(at)),
+        Err(TokenError::NotAscii(at)) => Err(TextFault::NotAscii.at(at)),
+        Err(TokenError::NoToken(at)) => Err(TextFault::UnexpectedToken.at(at)),
     }
 }

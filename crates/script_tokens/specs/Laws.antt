@@ -7,12 +7,12 @@ use Rattle.script_tokens.specs.declared.token.Word.{Word}
 use Rattle.script_tokens.specs.declared.token.Lexeme.{Lexeme}
 use Rattle.script_tokens.specs.declared.token.Token.{Token}
 use Rattle.script_tokens.specs.declared.lexing.LexEnd.{LexEnd}
-use Rattle.script_tokens.specs.declared.lexing.Misfit.{Misfit}
+use Rattle.script_tokens.specs.declared.lexing.TokenError.{TokenError}
 use Rattle.script_tokens.specs.Version.{version_line, version_of}
 use Rattle.script_tokens.specs.Word.{word_of, is_scope}
 use Rattle.script_tokens.specs.Lexing.{IsLongest, Lexes, NextToken, text_of}
 
--- a token at the start of some bytes is the longest there, where one more byte makes it no token
+-- a token that some bytes begin with is the longest one there if it and the byte after it are no token
 abbrev pub OneMoreByteDecides : Type 0
 OneMoreByteDecides =
     (version : Version) (bytes : List ℕ) (n : ℕ) (w : Word) → n ≤ length bytes → word_of version (take n bytes) ≡ Some w →
@@ -31,7 +31,7 @@ LexingIsUnique =
 -- `next_token` has one answer
 abbrev pub NextTokenIsUnique : Type 0
 NextTokenIsUnique =
-    (version : Version) (bytes : List ℕ) (from : ℕ) (r s : Result Token Misfit) → NextToken version bytes from r → NextToken version bytes from s → r ≡ s
+    (version : Version) (bytes : List ℕ) (from : ℕ) (r s : Result Token TokenError) → NextToken version bytes from r → NextToken version bytes from s → r ≡ s
 
 -- no lexeme is empty, each begins where the one before it ended or later, and all are between `from` and `end`
 abbrev pub InOrder : (from end : ℕ) → List Lexeme → Type 0

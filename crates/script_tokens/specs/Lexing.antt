@@ -5,8 +5,8 @@ use Rattle.script_tokens.specs.declared.token.Word.{Word}
 use Rattle.script_tokens.specs.declared.token.Lexeme.{Lexeme}
 use Rattle.script_tokens.specs.declared.lexing.LexEnd.{LexEnd}
 use Rattle.script_tokens.specs.declared.lexing.LexEnd.TheVariants.{End, NotAscii, NoToken}
-use Rattle.script_tokens.specs.declared.lexing.Misfit.{Misfit}
-use Rattle.script_tokens.specs.declared.lexing.Misfit.TheVariants as misfit
+use Rattle.script_tokens.specs.declared.lexing.TokenError.{TokenError}
+use Rattle.script_tokens.specs.declared.lexing.TokenError.TheVariants as token_error
 use Rattle.script_tokens.specs.declared.token.Token.{Token}
 use Rattle.script_tokens.specs.declared.token.TokenKind.TheVariants as kinds
 use Rattle.script_tokens.specs.Version.{version_of, begins_at}
@@ -23,7 +23,7 @@ abbrev mutual
   gap_length [] = 0
   gap_length (b ∷ bs) = if is_blank b then suc (gap_length bs) else if b == 35 then suc (comment_length bs) else 0
 
-  -- the same behind the `#`
+  -- the same after the `#`
   pub comment_length : List ℕ → ℕ
   comment_length [] = 0
   comment_length (b ∷ bs) = if b == 10 then suc (gap_length bs) else if nat_lt b 128 then suc (comment_length bs) else 0
@@ -63,7 +63,7 @@ pub data Lexes (version : Version) : (from : ℕ) → (left : List ℕ) → List
   goes_on : {from : ℕ} {left : List ℕ} {l : Lexeme} {ls : List Lexeme} {stop : LexEnd} →
       Comes version from left (Ok l) → Lexes version l.end (drop (l.end - from) left) ls stop → Lexes version from left (l ∷ ls) stop
 
--- The text is of this version. Behind its version line these are the lexemes, and this is why they end.
+-- The text is of this version. After its version line these are the lexemes, and this is why they end.
 pub record IsLexed (text : List ℕ) (version : Version) (ls : List Lexeme) (stop : LexEnd) : Type 0 where
   pub told : version ≡ version_of text
   pub cut : Lexes version (begins_at version) (drop (begins_at version) text) ls stop
@@ -73,12 +73,12 @@ abbrev pub text_of : List ℕ → Lexeme → List ℕ
 text_of bytes l = slice_range bytes l.start l.end
 
 -- what `next_token` returns, of what comes next in a text of that length
-abbrev pub token_of : (length : ℕ) → Result Lexeme LexEnd → Result Token Misfit
+abbrev pub token_of : (length : ℕ) → Result Lexeme LexEnd → Result Token TokenError
 token_of length (Ok l) = Ok (record { kind = kind_of l.word; start = l.start; end = l.end })
 token_of length (Err End) = Ok (record { kind = kinds.End; start = length; end = length })
-token_of length (Err (NotAscii at)) = Err (misfit.NotAscii at)
-token_of length (Err (NoToken at)) = Err (misfit.NoToken at)
+token_of length (Err (NotAscii at)) = Err (token_error.NotAscii at)
+token_of length (Err (NoToken at)) = Err (token_error.NoToken at)
 
-abbrev pub NextToken : (version : Version) → (bytes : List ℕ) → (from : ℕ) → Result Token Misfit → Type 0
+abbrev pub NextToken : (version : Version) → (bytes : List ℕ) → (from : ℕ) → Result Token TokenError → Type 0
 NextToken version bytes from result =
     (next : Result Lexeme LexEnd) × Comes version from (drop from bytes) next × (result ≡ token_of (length bytes) next)

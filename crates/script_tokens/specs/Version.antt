@@ -10,7 +10,7 @@ version_line = codes "version 2\n"
 abbrev pub version_of : List ℕ → Version
 version_of bytes = if bytes_eq (take 10 bytes) version_line then Two else One
 
--- the offset behind the version line
+-- the offset after the version line
 abbrev pub begins_at : Version → ℕ
 begins_at One = 0
 begins_at Two = 10

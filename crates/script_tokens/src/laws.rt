@@ -2,7 +2,7 @@
 
 ghost use Rattle.script_tokens.specs.Laws.{EveryTextIsCut, LexemesAreTokens, LexemesStandInOrder, LexingIsUnique, NextTokenIsUnique, OneMoreByteDecides, VersionOneHasNoScope, VersionsBegin};
 
-/// A token at the start of some bytes is the longest there, where one more byte makes it no token.
+/// A token that some bytes begin with is the longest one there if it and the byte after it are no token.
 pub fn one_more_byte_decides()
     ensures { OneMoreByteDecides }
 {}

@@ -25,10 +25,10 @@ pub enum LexEnd {
 
 /// Why there is no next token: a [`LexEnd`] other than the end.
 #[derive(Clone, Copy, Debug, PartialEq, Eq)]
-pub enum Misfit {
-    /// There is a byte from 128 on at this offset, in the gap or right behind it.
+pub enum TokenError {
+    /// There is a byte from 128 on at this offset, in the gap or right after it.
     NotAscii(u32),
-    /// There is a byte below 128 at this offset, right behind the gap, with which no token begins.
+    /// There is a byte below 128 at this offset, right after the gap, with which no token begins.
     NoToken(u32),
 }
 
@@ -76,7 +76,7 @@ fn next_lexeme(version: Version, bytes: &[u8], from: u32) -> Result<Lexeme, LexE
     lexeme_at(version, from + gap as u32, &left[gap..])
 }
 
-/// Cuts a text into the lexemes of its version, from behind the version line to the text's end or to the first byte that fits
+/// Cuts a text into the lexemes of its version, from after the version line to the text's end or to the first byte that fits
 /// nowhere. Offsets are those in the whole text.
 ///
 /// The time is linear in the length of the text, and the memory in the number of its lexemes. Only running out of memory makes it
@@ -105,17 +105,17 @@ pub fn lexemes(alloc: Global, bytes: &[u8]) -> Result<Lexed, Memory>
     }
 }
 
-/// The next token of a version from the offset `from` on, behind the blanks and comments there. It takes no memory, and doesn't
+/// The next token of a version from the offset `from` on, after the blanks and comments there. It takes no memory, and doesn't
 /// look for the text's version.
 ///
 /// At the end of the text this is the token [`TokenKind::End`], whose `start` and `end` are the text's length. It is `Err` exactly
-/// where a byte from 128 on is among these blanks and comments or right behind them (`NotAscii`, with the offset of the first such
-/// byte), or else where the byte right behind them begins no token (`NoToken`, with its offset). An offset inside a token or a
+/// where a byte from 128 on is among these blanks and comments or right after them (`NotAscii`, with the offset of the first such
+/// byte), or else where the byte right after them begins no token (`NoToken`, with its offset). An offset inside a token or a
 /// comment is taken as the start of a text.
 ///
 /// For reading a text token by token, as an editor's highlighting does: the tokens of `a..b` from 0 on are `a` at 0 to 1, `..` at 1
 /// to 3, `b` at 3 to 4, and `End` at 4 to 4, each from where the one before it ended.
-pub fn next_token(bytes: &[u8], from: u32, version: Version) -> Result<Token, Misfit>
+pub fn next_token(bytes: &[u8], from: u32, version: Version) -> Result<Token, TokenError>
     requires size { length bytes.now ≤ MAX_BYTES }
     requires within { from ≤ length bytes.now }
     ensures { NextToken version bytes.now from result }
@@ -134,7 +134,7 @@ pub fn next_token(bytes: &[u8], from: u32, version: Version) -> Result<Token, Mi
                 end,
             })
         }
-        Err(LexEnd::NotAscii(at)) => Err(Misfit::NotAscii(at)),
-        Err(LexEnd::NoToken(at)) => Err(Misfit::NoToken(at)),
+        Err(LexEnd::NotAscii(at)) => Err(TokenError::NotAscii(at)),
+        Err(LexEnd::NoToken(at)) => Err(TokenError::NoToken(at)),
     }
 }

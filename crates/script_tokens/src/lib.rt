@@ -28,7 +28,7 @@ mod spelling;
 pub mod token;
 mod version;
 
-pub use lexing::{LexEnd, Lexed, MAX_BYTES, Misfit, lexemes, next_token};
+pub use lexing::{LexEnd, Lexed, MAX_BYTES, TokenError, lexemes, next_token};
 pub use memory::Memory;
 pub use token::{Lexeme, Token, TokenKind, Word};
 pub use version::Version;

@@ -27,7 +27,7 @@ impl Version {
         }
     }
 
-    /// The offset at which the script begins in a text of this version, behind the version line.
+    /// The offset at which the script begins in a text of this version, after the version line.
     pub fn begins_at(self) -> u32
         ensures { result ≡ begins_at self }
     {

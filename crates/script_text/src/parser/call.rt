@@ -32,7 +32,7 @@ pub(crate) fn more_args<'t>(
     Ok((Items(found), left))
 }
 
-// The arguments behind an opening parenthesis, and the closing one.
+// The arguments after an opening parenthesis, and the closing one.
 fn arguments<'t>(
     source: &LexedText<'_>,
     tokens: &'t [Lexeme],

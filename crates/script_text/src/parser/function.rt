@@ -63,7 +63,7 @@ fn more_params<'t>(
     Ok((Items(found), left))
 }
 
-// The parameters behind an opening parenthesis, and the closing one.
+// The parameters after an opening parenthesis, and the closing one.
 fn params<'t>(
     source: &LexedText<'_>,
     tokens: &'t [Lexeme],

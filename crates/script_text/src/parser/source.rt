@@ -160,7 +160,7 @@ pub(crate) fn open<'t>(
     }
 }
 
-// What was read before, with what was read now. It is dropped where there is a fault.
+// What was read before, paired with what was read now. Where reading met a fault, what was read before is dropped.
 pub(crate) fn zip<A: Drop, B>(before: A, now: Result<B, SyntaxError>) -> Result<(A, B), SyntaxError>
     ensures { Zips before now result }
 {

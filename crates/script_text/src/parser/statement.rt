@@ -329,7 +329,7 @@ fn block<'t>(
     Ok((body, rest))
 }
 
-// The block behind `else`. Where there is no `else`, it is empty.
+// The block after `else`. Where there is no `else`, it is empty.
 #[cycle(statements)]
 fn otherwise<'t>(
     source: &LexedText<'_>,

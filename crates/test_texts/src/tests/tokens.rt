@@ -2,7 +2,7 @@
 
 use super::same;
 use script_tokens::{
-    LexEnd, Lexed, MAX_BYTES, Misfit, Token, TokenKind, Version, Word, lexemes, next_token,
+    LexEnd, Lexed, MAX_BYTES, Token, TokenError, TokenKind, Version, Word, lexemes, next_token,
 };
 use std::alloc::{AllocError, Global};
 use std::process::Abort;
@@ -171,13 +171,13 @@ static NEXT_TOKENS: [(&[u8], u32, TokenKind, u32, u32); 9] = [
     (b"==", 1, TokenKind::Symbol, 1, 2),
 ];
 
-static MISFITS: [(&[u8], u32, Misfit); 3] = [
-    (b"x # \xff", 1, Misfit::NotAscii(4)),
-    (b"\xff!", 0, Misfit::NotAscii(0)),
-    (b"x !\xff", 1, Misfit::NoToken(2)),
+static TOKEN_ERRORS: [(&[u8], u32, TokenError); 3] = [
+    (b"x # \xff", 1, TokenError::NotAscii(4)),
+    (b"\xff!", 0, TokenError::NotAscii(0)),
+    (b"x !\xff", 1, TokenError::NoToken(2)),
 ];
 
-fn assert_next(rt: &impl Abort, text: &[u8], from: u32, wanted: Result<Token, Misfit>) {
+fn assert_next(rt: &impl Abort, text: &[u8], from: u32, wanted: Result<Token, TokenError>) {
     assert!(rt; text.len() <= MAX_BYTES);
     assert!(rt; from as usize <= text.len());
     let found = next_token(text, from, Version::One);
@@ -189,8 +189,8 @@ fn the_next_token_stands_after_the_gap(rt: HostRuntime) {
     for &(text, from, kind, start, end) in &NEXT_TOKENS {
         assert_next(&rt, text, from, Ok(Token { kind, start, end }));
     }
-    for &(text, from, misfit) in &MISFITS {
-        assert_next(&rt, text, from, Err(misfit));
+    for &(text, from, token_error) in &TOKEN_ERRORS {
+        assert_next(&rt, text, from, Err(token_error));
     }
 }
 
