@@ -41,6 +41,7 @@ impl<A: Drop> ReservedBox<A> {
         ReservedBox { content }
     }
 
+    /// The value in it, if any. The box is freed.
     pub fn into_value(self) -> Option<A>
         ensures { result ≡ self }
     {
