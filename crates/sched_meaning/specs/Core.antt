@@ -47,9 +47,9 @@ new_core plan n = record {
 abbrev pub awaited : Task → List Origin
 awaited t = map (λ p. p.child) t.trace.unmerged
 
--- a task that has taken the evaluations of these children
-abbrev pub gone_on : Task → Task
-gone_on t = on (evaluations (eval t.plan) t.trace.unmerged) t
+-- the task once it has taken the evaluations of its children
+abbrev pub resumed_task : Task → Task
+resumed_task t = on (evaluations (eval t.plan) t.trace.unmerged) t
 
 abbrev pub current_tasks : Option Task → List Task
 current_tasks None = []

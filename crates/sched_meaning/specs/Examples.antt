@@ -6,7 +6,7 @@ use Rattle.serial_meaning.specs.declared.event.Event.{Event}
 use Rattle.serial_meaning.specs.declared.origin.Origin.{Origin}
 use Rattle.serial_meaning.specs.declared.answer.Outcome.{Outcome}
 use Rattle.strand_meaning.specs.Task.{Task, start, Spawn, Wait, End, IsNext}
-use Rattle.sched_meaning.specs.Core.{Core, free_worker, new_core, awaited, gone_on, IsRootAnswered}
+use Rattle.sched_meaning.specs.Core.{Core, free_worker, new_core, awaited, resumed_task, IsRootAnswered}
 use Rattle.sched_meaning.specs.Simulation.{choices}
 use Rattle.sched_meaning.specs.Steps.{Step, Leads}
 use Rattle.sched_meaning.specs.declared.event.CoreEvent.{CoreEvent}
@@ -25,10 +25,10 @@ pub record OneChild (plan : PlanView) : Type 0 where
   pub waits : IsNext rest (Wait waiting)
   pub child_ends : IsNext (start rest.plan child) (End own_events childs_end)
   pub awaits : awaited waiting ≡ child ∷ []
-  pub ends : IsNext (gone_on waiting) (End out ended)
+  pub ends : IsNext (resumed_task waiting) (End out ended)
   pub other : child ≢ main_origin plan
 
--- the newest first
+-- the events of this run, the newest first
 abbrev pub stolen_rest : List CoreEvent
 stolen_rest = Run 1 ∷ Look 1 0 ∷ Run 0 ∷ Look 1 0 ∷ Run 1 ∷ Steal 1 0 ∷ Run 0 ∷ []
 

@@ -6,20 +6,20 @@ use Rattle.serial_meaning.specs.declared.origin.Origin.{Origin}
 use Rattle.sched_meaning.specs.Core.{Core, all_tasks, origins_of, IsAnswered, IsRootAnswered}
 use Rattle.sched_meaning.specs.Segments.{IsSegments}
 use Rattle.sched_meaning.specs.Simulation.{choices, IsSimWorker}
-use Rattle.sched_meaning.specs.Sound.{AreEvaluations, IsFruitful, IsLively, StandsOnce}
+use Rattle.sched_meaning.specs.Sound.{AreEvaluations, MakesProgress, IsLively, OccursOnce}
 use Rattle.sched_meaning.specs.Steps.{Step, Leads}
 use Rattle.sched_meaning.specs.declared.event.CoreEvent.{CoreEvent}
 
 -- An event leads to at most one core.
-abbrev pub StepsAreOne : Type 0
-StepsAreOne = (e : CoreEvent) (c next other : Core) → Step e c next → Step e c other → next ≡ other
+abbrev pub StepsAreUnique : Type 0
+StepsAreUnique = (e : CoreEvent) (c next other : Core) → Step e c next → Step e c other → next ≡ other
 
 -- A valid script has a number of segments, and only one.
-abbrev pub SegmentsCome : Type 0
-SegmentsCome = (plan : PlanView) → IsValid plan.script → (n : ℕ) × IsSegments plan n
+abbrev pub SegmentsExist : Type 0
+SegmentsExist = (plan : PlanView) → IsValid plan.script → (n : ℕ) × IsSegments plan n
 
-abbrev pub SegmentsAreOne : Type 0
-SegmentsAreOne = (plan : PlanView) (n m : ℕ) → IsSegments plan n → IsSegments plan m → n ≡ m
+abbrev pub SegmentsAreUnique : Type 0
+SegmentsAreUnique = (plan : PlanView) (n m : ℕ) → IsSegments plan n → IsSegments plan m → n ≡ m
 
 -- Of each core to which events lead from a new core, whatever the events and however many workers:
 
@@ -47,21 +47,21 @@ CoresBeginOnce =
 abbrev pub CoresKeepTasksOnce : Type 0
 CoresKeepTasksOnce =
     (plan : PlanView) (workers : ℕ) (events : List CoreEvent) (c : Core) → IsValid plan.script → Leads plan workers events c → (o : Origin) → Contains c.begun o →
-    (IsAnswered c o → ⊥) → StandsOnce o (origins_of (all_tasks c))
+    (IsAnswered c o → ⊥) → OccursOnce o (origins_of (all_tasks c))
 
 -- The choices of a core are the events that may happen and make progress.
-abbrev pub ChoicesGoOn : Type 0
-ChoicesGoOn = (c : Core) (e : CoreEvent) → Contains (choices c) e ↔ ((next : Core) × Step e c next × IsFruitful e c)
+abbrev pub ChoicesMakeProgress : Type 0
+ChoicesMakeProgress = (c : Core) (e : CoreEvent) → Contains (choices c) e ↔ ((next : Core) × Step e c next × MakesProgress e c)
 
 -- No choice is listed twice.
-abbrev pub ChoicesStandOnce : Type 0
-ChoicesStandOnce = (c : Core) (e : CoreEvent) (j k : ℕ) → slice_get (choices c) j ≡ Some e → slice_get (choices c) k ≡ Some e → j ≡ k
+abbrev pub ChoicesAreDistinct : Type 0
+ChoicesAreDistinct = (c : Core) (e : CoreEvent) (j k : ℕ) → slice_get (choices c) j ≡ Some e → slice_get (choices c) k ≡ Some e → j ≡ k
 
 -- In a simulation at most one worker answers the root.
-abbrev pub SimWorkersAreOne : Type 0
-SimWorkersAreOne =
+abbrev pub SimWorkersAreUnique : Type 0
+SimWorkersAreUnique =
     (plan : PlanView) (workers number v w : ℕ) → IsSimWorker plan workers number v → IsSimWorker plan workers number w → v ≡ w
 
 -- And one does.
-abbrev pub SimWorkersCome : Type 0
-SimWorkersCome = (plan : PlanView) (workers number : ℕ) → IsValid plan.script → (w : ℕ) × IsSimWorker plan workers number w
+abbrev pub SimWorkersExist : Type 0
+SimWorkersExist = (plan : PlanView) (workers number : ℕ) → IsValid plan.script → (w : ℕ) × IsSimWorker plan workers number w

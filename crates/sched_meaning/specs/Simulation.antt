@@ -34,9 +34,9 @@ abbrev pub has_task : List Task → Bool
 has_task [] = false
 has_task (t ∷ ts) = true
 
-abbrev pub may_give : Option Worker → Bool
-may_give None = false
-may_give (Some w) = has_task w.deque
+abbrev pub has_ready : Option Worker → Bool
+has_ready None = false
+has_ready (Some w) = has_task w.deque
 
 abbrev pub may_resume : Core → ℕ → Option Worker → Bool
 may_resume c place None = false
@@ -45,8 +45,8 @@ may_resume c place (Some w) = is_ready c (slice_get w.stalled place)
 -- whether an event may happen now and makes progress
 abbrev pub is_progress : Core → CoreEvent → Bool
 is_progress c (Run w) = may_run (slice_get c.workers w)
-is_progress c (Pop w) = is_free (slice_get c.workers w) && may_give (slice_get c.workers w)
-is_progress c (Steal thief victim) = not (nat_eq thief victim) && (is_free (slice_get c.workers thief) && may_give (slice_get c.workers victim))
+is_progress c (Pop w) = is_free (slice_get c.workers w) && has_ready (slice_get c.workers w)
+is_progress c (Steal thief victim) = not (nat_eq thief victim) && (is_free (slice_get c.workers thief) && has_ready (slice_get c.workers victim))
 is_progress c (Look w place) = is_free (slice_get c.workers w) && may_resume c place (slice_get c.workers w)
 is_progress c (Idle w) = false
 
@@ -80,13 +80,13 @@ picked c word = picked_of (choices c) word
 -- Runs of a simulation
 
 -- step i, from 1: what word i of the seed picks happens, or nothing where there is no choice
-abbrev pub PlaysWord : ℕ → ℕ → Core → Core → Type 0
-PlaysWord number i c next = MatchOption (picked c (seed_word number i)) (next ≡ c) (λ e. Step e c next)
+abbrev pub StepsByWord : ℕ → ℕ → Core → Core → Type 0
+StepsByWord number i c next = MatchOption (picked c (seed_word number i)) (next ≡ c) (λ e. Step e c next)
 
 -- this many steps lead from a new core to this one
 abbrev pub Simulates : PlanView → ℕ → ℕ → ℕ → Core → Type 0
 Simulates plan workers number zero c = c ≡ new_core plan workers
-Simulates plan workers number (suc n) c = (before : Core) × Simulates plan workers number n before × PlaysWord number (n + 1) before c
+Simulates plan workers number (suc n) c = (before : Core) × Simulates plan workers number n before × StepsByWord number (n + 1) before c
 
 -- the worker whose run answered the root
 pub record IsSimWorker (plan : PlanView) (workers number w : ℕ) : Type 0 where

@@ -13,22 +13,22 @@ abbrev pub AreEvaluations : PlanView → List AnswerView → Type 0
 AreEvaluations plan answers = All (λ a. (a.plan ≡ plan) × IsEval plan a.origin a.out a.outcome) answers
 
 -- neither idle nor a fruitless look
-abbrev pub IsFruitful : CoreEvent → Core → Type 0
-IsFruitful (Run w) c = Unit {0}
-IsFruitful (Pop w) c = Unit {0}
-IsFruitful (Steal thief victim) c = Unit {0}
-IsFruitful (Look w place) c = (next : Core) × Resumes w place c next
-IsFruitful (Idle w) c = ⊥
+abbrev pub MakesProgress : CoreEvent → Core → Type 0
+MakesProgress (Run w) c = Unit {0}
+MakesProgress (Pop w) c = Unit {0}
+MakesProgress (Steal thief victim) c = Unit {0}
+MakesProgress (Look w place) c = (next : Core) × Resumes w place c next
+MakesProgress (Idle w) c = ⊥
 
 -- Some event makes progress.
 pub record IsLively (c : Core) : Type 0 where
   pub event : CoreEvent
   pub next : Core
   pub step : Step event c next
-  pub fruitful : IsFruitful event c
+  pub fruitful : MakesProgress event c
 
 -- An origin is exactly once among these.
-pub record StandsOnce (o : Origin) (os : List Origin) : Type 0 where
+pub record OccursOnce (o : Origin) (os : List Origin) : Type 0 where
   pub place : ℕ
   pub there : slice_get os place ≡ Some o
   pub alone : (k : ℕ) → slice_get os k ≡ Some o → k ≡ place

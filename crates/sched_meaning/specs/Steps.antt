@@ -2,7 +2,7 @@
 use Rattle.std.specs.Prelude.{◌≡◌, ◌≢◌, ℕ, ◌+◌, ◌⊎◌, List, [], ◌∷◌, ◌++◌, Some, None, slice_get, slice_set, remove}
 use Rattle.serial_meaning.specs.Plan.{PlanView}
 use Rattle.strand_meaning.specs.Task.{Task, start, Stop, Spawn, Wait, End, IsNext}
-use Rattle.sched_meaning.specs.Core.{Worker, Core, free_worker, new_core, gone_on, IsRootAnswered, IsReady}
+use Rattle.sched_meaning.specs.Core.{Worker, Core, free_worker, new_core, resumed_task, IsRootAnswered, IsReady}
 use Rattle.sched_meaning.specs.declared.event.CoreEvent.{CoreEvent}
 use Rattle.sched_meaning.specs.declared.event.CoreEvent.TheVariants.{Run, Pop, Steal, Look, Idle}
 
@@ -43,7 +43,7 @@ pub record WorkerTakes (t : Task) (w next : Worker) : Type 0 where
 pub record WorkerResumes (place : ℕ) (t : Task) (w next : Worker) : Type 0 where
   pub free : w.current ≡ None
   pub there : slice_get w.stalled place ≡ Some t
-  pub after : next ≡ record w { current = Some (gone_on t); stalled = remove w.stalled place }
+  pub after : next ≡ record w { current = Some (resumed_task t); stalled = remove w.stalled place }
 
 -- The stalled task with this index can't continue, and goes to the end of the stalled tasks.
 pub record WorkerPasses (place : ℕ) (t : Task) (w next : Worker) : Type 0 where

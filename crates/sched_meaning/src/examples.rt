@@ -3,7 +3,7 @@
 ghost use Rattle.sched_meaning.specs.Examples.{NoLookWhereNoneIsStalled, NobodyStealsFromItself, OneChoiceAtFirst, StealsGoByThief, StolenRestAnswers};
 
 // Two workers, and a main that begins one child and waits for it: main's run begins the child, worker 1 steals main's rest and runs
-// it to its wait, looks at it in vain, worker 0 answers the child, and then worker 1's look makes main current and its run answers
+// it to its wait, its look is fruitless, worker 0 answers the child, and then worker 1's look makes main current and its run answers
 // the root.
 fn stolen_rest_answers()
     ensures { StolenRestAnswers }

@@ -1,20 +1,20 @@
 //! Laws of the machine, each the contract of a function that does nothing. A proof that needs a law calls it.
 
-ghost use Rattle.sched_meaning.specs.Laws.{ChoicesGoOn, ChoicesStandOnce, CoresAnswerByEvaluations, CoresAreLively, CoresBeginOnce, CoresKeepTasksOnce, CoresRunWithinSegments, SegmentsAreOne, SegmentsCome, SimWorkersAreOne, SimWorkersCome, StepsAreOne};
+ghost use Rattle.sched_meaning.specs.Laws.{ChoicesMakeProgress, ChoicesAreDistinct, CoresAnswerByEvaluations, CoresAreLively, CoresBeginOnce, CoresKeepTasksOnce, CoresRunWithinSegments, SegmentsAreUnique, SegmentsExist, SimWorkersAreUnique, SimWorkersExist, StepsAreUnique};
 
 /// An event leads to at most one core.
-pub fn steps_are_one()
-    ensures { StepsAreOne }
+pub fn steps_are_unique()
+    ensures { StepsAreUnique }
 {}
 
 /// The segments of a valid script can be counted.
-pub fn segments_come()
-    ensures { SegmentsCome }
+pub fn segments_exist()
+    ensures { SegmentsExist }
 {}
 
 /// There is only one such number.
-pub fn segments_are_one()
-    ensures { SegmentsAreOne }
+pub fn segments_are_unique()
+    ensures { SegmentsAreUnique }
 {}
 
 /// Each answer of a core is the evaluation of its origin, whatever the events before.
@@ -44,21 +44,21 @@ pub fn cores_keep_tasks_once()
 {}
 
 /// The choices of a simulation are exactly the events that may happen and are neither idle nor fruitless looks.
-pub fn choices_go_on()
-    ensures { ChoicesGoOn }
+pub fn choices_make_progress()
+    ensures { ChoicesMakeProgress }
 {}
 
 /// No choice is listed twice.
-pub fn choices_stand_once()
-    ensures { ChoicesStandOnce }
+pub fn choices_are_distinct()
+    ensures { ChoicesAreDistinct }
 {}
 
 /// At most one worker answers the root in a simulation.
-pub fn sim_workers_are_one()
-    ensures { SimWorkersAreOne }
+pub fn sim_workers_are_unique()
+    ensures { SimWorkersAreUnique }
 {}
 
 /// And one does: each simulation of a valid script ends.
-pub fn sim_workers_come()
-    ensures { SimWorkersCome }
+pub fn sim_workers_exist()
+    ensures { SimWorkersExist }
 {}

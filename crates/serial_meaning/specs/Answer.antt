@@ -19,12 +19,12 @@ pub record AnswerView : Type 0 where
   pub out : List Event
   pub outcome : Outcome
 
--- what an answer answers
+-- what an answer is the answer to
 pub record AnswerTag : Type 0 where
   pub plan : PlanView
   pub origin : Origin
 
--- how an origin ends whose evaluation ended so
+-- how an origin ends, by how its evaluation ended
 abbrev pub outcome_of : Origin → Result (List Value) Fault → Outcome
 outcome_of (Instance function args path) (Ok vs) = outcome.Value (first_value vs)
 outcome_of (Loop function rest first path range) (Ok vs) = outcome.Values vs

@@ -17,7 +17,7 @@ kept_events Nothing = []
 kept_events (One _ event) = event ∷ []
 kept_events (Listed s) = chunks_events s
 
--- Whether one event stands alone.
+-- whether it is a single event, stored inline
 abbrev pub has_one : Kept → Bool
 has_one Nothing = false
 has_one (One _ _) = true

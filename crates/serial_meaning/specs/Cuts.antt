@@ -18,6 +18,6 @@ WholeAnswersAreEvals = (plan : PlanView) (o : Origin) (out : List Event) (ended 
 abbrev pub MainIsNotCut : Type 0
 MainIsNotCut = (plan : PlanView) (out : List Event) (ended : Outcome) → IsAnswer plan (main_origin plan) out ended → IsWhole ended
 
--- What an origin is cut by stands before every pedigree that the origin answers for.
+-- The fault by which an origin is cut stands before every pedigree that the origin answers for.
 abbrev pub CutsStandBefore : Type 0
 CutsStandBefore = (plan : PlanView) (o : Origin) (by : Fault) (j : List ℕ) → IsCut plan o by → AnswersFor o j → IsBefore by.at j

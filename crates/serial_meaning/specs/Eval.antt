@@ -35,7 +35,7 @@ serial child = record {
   sync = λ k. done k;
 }
 
--- iteration k of a loop: its number is the first one and k, as the language adds
+-- iteration k of a loop: its number is `first` plus k, by the language's addition
 abbrev pub iteration : ℕ → List Value → ℤ → List ℕ → ℕ → Origin
 iteration function rest first path k = Instance function (Int (int_wrapping_add w64 first (pos k)) ∷ rest) (path ++ k ∷ [])
 
@@ -45,7 +45,7 @@ loop_evaluation child function rest first path k zero = done []
 loop_evaluation child function rest first path k (suc n) =
     child (iteration function rest first path k) then λ vs. loop_evaluation child function rest first path (k + 1) n then λ ws. done (vs ++ ws)
 
--- an origin, where children give what child says
+-- an origin's evaluation, where `child` gives those of its children
 abbrev pub eval_with : PlanView → (Origin → Evaluation) → Origin → Evaluation
 eval_with plan child (Instance function args path) =
     instance (serial child) plan path (function_at (functions_of plan) function) args then λ v. done (v ∷ [])
@@ -59,8 +59,8 @@ path_of (Loop function rest first path range) = path
 abbrev pub depth_left : PlanView → Origin → ℕ
 depth_left plan o = plan.limits.depth - length (path_of o)
 
--- What origins give that have fewer than so many ranks left, by what an origin gives where its children give what they do. A child has fewer
--- ranks left than its parent: nothing is spawned and no scope or loop begun where that would leave none, by the test of the depth.
+-- What an origin gives that has fewer than this many ranks left, by recursion on them: `gives` says what it gives by what its children give.
+-- A child has fewer ranks left than its parent: by the test of the depth nothing is spawned and no scope or loop begins where none would be left.
 abbrev pub by_depth : {A : Type 0} → PlanView → A → ((Origin → A) → Origin → A) → ℕ → Origin → A
 by_depth plan none gives zero o = none
 by_depth plan none gives (suc left) o = (if depth_left plan o == left then gives (by_depth plan none gives left) else by_depth plan none gives left) o

@@ -41,8 +41,8 @@ pub record State (K : Type 0) : Type 0 where
   pub steps : ℕ
   pub spawned : K
 
--- how events, faults, children, loops, syncs and the ends of scopes are taken: I are a run's items, E its bad ends, and K what is known of
--- spawned children; a scope is given by the pedigree of the strand that came to it
+-- how events, faults, children, loops, syncs and the ends of scopes are taken. I is the type of a run's items, E of what ends it early, and K of
+-- what is known of spawned children. A scope is given by the pedigree of the strand that came to it.
 pub record Interpretation (I E K : Type 0) : Type 0 where
   pub event : Event → I
   pub opens : List ℕ → List I
@@ -116,11 +116,11 @@ module _ {K : Type 0} where
   abbrev pub strand : List ℕ → State K → List ℕ
   strand path s = path ++ s.rank ∷ []
 
--- an instance has at most so many open calls
+-- the most open calls of an instance
 abbrev pub most_calls : ℕ
 most_calls = 256
 
--- what statements do at a present path, with so many open calls; the present path is the instance's path and then the ranks of the open scopes
+-- what statements do, by the present path and how many calls are open; the present path is the instance's path and then the ranks of the open scopes
 abbrev pub BlockMeaning : Type 0 → Type 0 → Type 0 → Type 0
 BlockMeaning I E K = List ℕ → ℕ → List Stmt → State K → Run I E (State K)
 
@@ -138,12 +138,12 @@ module _ {I E K : Type 0} (how : Interpretation I E K) (plan : PlanView) (path :
   abbrev pub emit_and_raise : (List ℕ → Event) → State K → Run I E (State K)
   emit_and_raise e s = happens (how.event (e (strand path s))) (record s { rank = s.rank + 1 })
 
-  -- goes on with what a calculation gives here, unless that is a fault
+  -- goes on with the value of a calculation, unless that is a fault
   abbrev pub unless_fault : {A B : Type 0} → Result A FaultKind → State K → (A → Run I E B) → Run I E B
   unless_fault (Ok v) s go = go v
   unless_fault (Err kind) s go = fault kind s
 
-  -- goes on with one step less, unless there is none
+  -- goes on with one step less, or ends by the fault Budget where no step is left
   abbrev pub paid_from : {A : Type 0} → ℕ → State K → (State K → Run I E A) → Run I E A
   paid_from zero s go = fault Budget s
   paid_from (suc n) s go = go (record s { steps = n })
@@ -151,12 +151,12 @@ module _ {I E K : Type 0} (how : Interpretation I E K) (plan : PlanView) (path :
   abbrev pub paid : {A : Type 0} → State K → (State K → Run I E A) → Run I E A
   paid s go = paid_from s.steps s go
 
-  -- goes on where a test holds
+  -- goes on where a test holds, and else ends by this fault
   abbrev pub tested : {A : Type 0} → Bool → FaultKind → State K → Run I E A → Run I E A
   tested true kind s go = go
   tested false kind s go = fault kind s
 
-  -- arguments, the depth, the event, the child
+  -- a spawn: its arguments, the test of the depth, the event, the child
   abbrev pub spawn : CallText → State K → Run I E (Value × State K)
   spawn c s =
       unless_fault (values_of c.args s.env) s λ vs.
@@ -197,7 +197,7 @@ module _ {I E K : Type 0} (how : Interpretation I E K) (plan : PlanView) (path :
       done (v, s)
 
   -- a frame of a function in this instance: variables and syncs of its own, and the instance's rank and steps; a valid script
-  -- calls only functions that there are
+  -- calls only functions that exist
   abbrev pub frame : BlockMeaning I E K → ℕ → Option Function → List Value → State K → Run I E (Value × State K)
   frame block calls (Some f) vs s =
       block path calls f.body (record s { env = bound f.params vs; spawned = how.none }) then function_end f
@@ -252,7 +252,7 @@ module _ {I E K : Type 0} (how : Interpretation I E K) (plan : PlanView) (path :
       tested (nat_lt (length path + 1) plan.limits.depth) Depth s
       (all_happen (how.opens (strand path s)) (record s { rank = 0 }) then block (strand path s) calls sts then leaves s.rank)
 
-  -- one statement whose step is paid; block runs what stands inside it
+  -- one statement whose step is paid; `block` runs what is inside it
   abbrev pub does : BlockMeaning I E K → ℕ → Stmt → Act-F Act Stmt → State K → Run I E (State K)
   does block calls st (act.Let x r) s = right_side block calls r s then λ p. done (set_scalar p.1 x p.0)
   does block calls st (act.Array x n) s = done (set_array s x (zeros (count_of n.value)))

@@ -5,7 +5,7 @@ use Rattle.std.specs.Prelude.{ℕ, suc, List, [], ◌∷◌, Option, codes, slic
 use Rattle.std.specs.Str.{bytes_eq}
 use Rattle.script_grammar.specs.declared.tree.Function.{Function}
 
--- the place of the first function of this name, or the number of functions where there is none
+-- the index of the first function with this name, or the number of functions where there is none
 abbrev pub function_number : List Function → List ℕ → ℕ
 function_number [] name = 0
 function_number (f ∷ fs) name = if bytes_eq f.name.bytes name then 0 else suc (function_number fs name)

@@ -16,7 +16,7 @@ use Rattle.serial_meaning.specs.Names.{names_in}
 use Rattle.serial_meaning.specs.Plan.{PlanView, drawn}
 use Rattle.serial_meaning.specs.Exec.{State, Interpretation, statement, exec}
 use Rattle.serial_meaning.specs.Eval.{Evaluation, serial, eval, main_origin, elision}
-use Rattle.serial_meaning.specs.Open.{Child, put_off_all, loop_end, node_of, faults}
+use Rattle.serial_meaning.specs.Open.{Child, deferring, loop_end, node_of, faults}
 use Rattle.serial_meaning.specs.declared.value.Value.{Value}
 use Rattle.serial_meaning.specs.declared.event.Fault.{Fault}
 use Rattle.serial_meaning.specs.declared.event.Event.{Event}
@@ -27,8 +27,8 @@ use Rattle.serial_meaning.specs.declared.plan.Show.TheVariants.{Plain}
 
 -- The equations of statements
 
--- Statements in a row are the first and then the others, and an iteration of a `while` puts its body and the loop before them. No number
--- of levels stands here.
+-- A list of statements is its first statement and then the others, and an iteration of a `while` puts its body and the loop before the
+-- others. The number of levels doesn't appear.
 pub record Equations {I E K : Type 0} (how : Interpretation I E K) (plan : PlanView) (path : List ℕ) : Type 0 where
   pub nothing : (calls : ℕ) (s : State K) → exec how plan path calls [] s ≡ done s
   pub first : (calls : ℕ) (st : Stmt) (sts : List Stmt) (s : State K) →
@@ -42,11 +42,11 @@ abbrev pub ElisionHasEquations : Type 0
 ElisionHasEquations = (plan : PlanView) (path : List ℕ) (child : Origin → Evaluation) → Equations (serial child) plan path
 
 abbrev pub OpenTreeHasEquations : Type 0
-OpenTreeHasEquations = (plan : PlanView) (path : List ℕ) (child : Origin → Evaluation) → Equations (put_off_all plan child) plan path
+OpenTreeHasEquations = (plan : PlanView) (path : List ℕ) (child : Origin → Evaluation) → Equations (deferring plan child) plan path
 
 -- Pedigrees
 
--- the pedigrees of all events but printing
+-- the pedigrees of all events but prints
 abbrev pub raising_pedigrees : List Event → List (List ℕ)
 raising_pedigrees [] = []
 raising_pedigrees (event.Print j v ∷ es) = raising_pedigrees es
@@ -56,7 +56,7 @@ raising_pedigrees (event.Spawn j ∷ es) = j ∷ raising_pedigrees es
 raising_pedigrees (event.Sync j ∷ es) = j ∷ raising_pedigrees es
 raising_pedigrees (event.Loop j ∷ es) = j ∷ raising_pedigrees es
 
--- Of two events of the elision that are no printing, the earlier one's pedigree is before the later one's.
+-- Of two events of the elision that aren't prints, the earlier one's pedigree is before the later one's.
 abbrev pub PedigreesRise : Type 0
 PedigreesRise = (plan : PlanView) → AllPairs IsBefore (raising_pedigrees (elision plan).items)
 
@@ -73,7 +73,7 @@ ValuesDependOnNames =
 
 -- Faults
 
--- No fault where the list has none, and else one of the list that none of it is before.
+-- No fault where the list is empty, and else its least fault: one that none of the list is before.
 abbrev pub EndsByLeast : List Fault → Result (List Value) Fault → Type 0
 EndsByLeast fs (Ok vs) = fs ≡ []
 EndsByLeast fs (Err f) = Contains fs f × All (λ g. IsBefore g.at f.at → ⊥) fs
@@ -82,7 +82,7 @@ EndsByLeast fs (Err f) = Contains fs f × All (λ g. IsBefore g.at f.at → ⊥)
 abbrev pub FaultIsLeast : Type 0
 FaultIsLeast = (plan : PlanView) → EndsByLeast (faults plan) (elision plan).ending
 
--- A loop that a node goes by ends by the first fault of its iterations, and the loop's own node by the least: these are one.
+-- In a node that goes past it, a loop ends by the first fault of its iterations, and its own node ends by the least one: they are the same.
 abbrev pub LoopsEndAlike : Type 0
 LoopsEndAlike =
     (plan : PlanView) (function : ℕ) (rest : List Value) (first : ℤ) (path : List ℕ) (range : Range) →

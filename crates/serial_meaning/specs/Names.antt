@@ -14,7 +14,7 @@ abbrev pub joined_names : List Names → Names
 joined_names [] = []
 joined_names (names ∷ more) = names ++ joined_names more
 
--- one node, with the names of its parts in their places
+-- one node, from the names of its parts
 abbrev pub names_at : Expr-F Names Names Names → Names
 names_at (node.Number n) = []
 names_at (node.Var x) = x.bytes ∷ []

@@ -56,9 +56,9 @@ placeholder plan (Instance function args path) = answer_placeholder (function_at
 placeholder plan (Loop function rest first path range) = Int (pos 0)
 
 -- the value of a spawned child, and the least fault of the children so far
-abbrev pub put_off : Value → Option Fault → Result (List Value) Fault → Value × Option Fault
-put_off instead faulted (Ok vs) = (first_value vs, faulted)
-put_off instead faulted (Err f) = (instead, Some (least faulted f))
+abbrev pub deferred : Value → Option Fault → Result (List Value) Fault → Value × Option Fault
+deferred instead faulted (Ok vs) = (first_value vs, faulted)
+deferred instead faulted (Err f) = (instead, Some (least faulted f))
 
 abbrev pub unless_child_faulted : Option Fault → Run Item NodeFault (Option Fault)
 unless_child_faulted None = done None
@@ -76,15 +76,16 @@ abbrev pub is_empty_loop : Origin → Bool
 is_empty_loop (Instance function args path) = false
 is_empty_loop (Loop function rest first path range) = is_zero (range.hi - range.lo)
 
--- A child is an item. What is known of spawned children is the least fault among them. A loop without an iteration is no item.
-abbrev pub put_off_all : PlanView → (Origin → Evaluation) → Interpretation Item NodeFault (Option Fault)
-put_off_all plan child = record {
+-- A child is an item, and its fault is deferred to the next sync: what is known of spawned children is the least fault among them. A loop without
+-- an iteration is no item.
+abbrev pub deferring : PlanView → (Origin → Evaluation) → Interpretation Item NodeFault (Option Fault)
+deferring plan child = record {
   event = Happened;
   opens = λ j. Opened j ∷ [];
   closes = λ j. Closed j ∷ [];
   own = Own;
   none = None;
-  spawn = λ o faulted. happens (Child o) (put_off (placeholder plan o) faulted (child o).ending);
+  spawn = λ o faulted. happens (Child o) (deferred (placeholder plan o) faulted (child o).ending);
   loop = λ o. if is_empty_loop o then done [] else record { items = Child o ∷ []; ending = loop_end (child o).ending };
   sync = unless_child_faulted;
 }
@@ -105,10 +106,10 @@ abbrev pub gathered : (Origin → Evaluation) → List Origin → Result (List V
 gathered child [] = Ok []
 gathered child (o ∷ os) = both (child o).ending (gathered child os)
 
--- a node, where children give what child says
+-- an origin's node, where `child` gives the evaluations of its children
 abbrev pub node_with : PlanView → (Origin → Evaluation) → Origin → Node
 node_with plan child (Instance function args path) =
-    instance (put_off_all plan child) plan path (function_at (functions_of plan) function) args then λ v. done (v ∷ [])
+    instance (deferring plan child) plan path (function_at (functions_of plan) function) args then λ v. done (v ∷ [])
 node_with plan child (Loop function rest first path range) =
     let os = iterations function rest first path range.lo (range.hi - range.lo) in record { items = map Child os; ending = loop_end (gathered child os) }
 
@@ -128,7 +129,7 @@ faults_of below (Child o ∷ items) = below o ++ faults_of below items
 faults_of below (Opened j ∷ items) = faults_of below items
 faults_of below (Closed j ∷ items) = faults_of below items
 
--- the faults below a node, where those of a child's part are what below says, and the instance's own
+-- the faults of an origin: those of its children, which `below` gives, and its instance's own
 abbrev pub faults_with : PlanView → (Origin → List Fault) → Origin → List Fault
 faults_with plan below o = faults_of below (node_of plan o).items ++ own_fault (node_of plan o).ending
 
@@ -144,7 +145,7 @@ faults plan = faults_in plan (main_origin plan)
 
 -- Strands
 
--- the pedigree after a rise of the rank
+-- the pedigree once the rank was raised
 abbrev pub raised : List ℕ → List ℕ
 raised [] = []
 raised (rank ∷ []) = (rank + 1) ∷ []

@@ -14,7 +14,7 @@ pub record PlanView : Type 0 where
   pub show : Show
   pub rounds : ℕ
 
--- a pedigree has at most so many ranks
+-- the most ranks of a pedigree
 abbrev pub most_depth : ℕ
 most_depth = 512
 

@@ -19,7 +19,7 @@ happens i a = record { items = i ∷ []; ending = Ok a }
 abbrev pub after_items : {I E A : Type 0} → List I → Run I E A → Run I E A
 after_items items r = record { items = items ++ r.items; ending = r.ending }
 
--- goes on after a run, unless it was stopped
+-- goes on after a run, unless that ended early
 infixl 10 ◌then◌
 abbrev pub continued : {I E A B : Type 0} → List I → Result A E → (A → Run I E B) → Run I E B
 continued items (Ok a) go = after_items items (go a)

@@ -119,7 +119,7 @@ products env v [] = Ok v
 products env v (p ∷ ps) =
     p.1 env >>= λ y. product p.0 (as_integer v) (as_integer y) >>= λ z. products env z ps
 
--- one node, with what its parts give in their places
+-- one node, from what its parts give
 abbrev pub value_at : Expr-F Meaning (ProductSign × Meaning) (Bool × Meaning) → Meaning
 value_at (node.Number n) env = Ok (Int n.value)
 value_at (node.Var x) env = Ok (scalar (content_of env x.bytes))

@@ -3,9 +3,9 @@
 ghost use Rattle.serial_meaning.specs.Cuts.{CutsStandBefore, MainIsNotCut, WholeAnswersAreEvals};
 ghost use Rattle.serial_meaning.specs.Laws.{DrawsAreDotMix, ElisionHasEquations, FaultIsLeast, LoopsEndAlike, OpenTreeHasEquations, OriginsEndWithinFaults, PedigreesRise, PlainTextDependsOnPrints, ValuesDependOnNames};
 
-/// In the serial elision, statements do what the first does and then what the others do, and blocks and calls follow
-/// the same equations at any level. The meaning is total by its form: it is a function, by recursion on the steps and
-/// the depth.
+/// In the serial elision, a list of statements does what its first statement does and then what the others do; blocks and
+/// calls follow the same equations at every level. The meaning is total by its form: it is a function, by recursion on
+/// the steps and the depth.
 #[tactic(auto, using(crate::proofs::Equations::ExecLaws::elision_has_equations))]
 pub fn elision_has_equations()
     ensures { ElisionHasEquations }
@@ -32,7 +32,7 @@ pub fn fault_is_least()
     ensures { FaultIsLeast }
 {}
 
-/// A loop ends by the first fault of its iterations, in the elision and in a node of the open tree that passes it; its
+/// In the elision, and in a node of the open tree that goes past it, a loop ends by the first fault of its iterations; its
 /// own node ends by the least one. Both are the same fault, or none.
 pub fn loops_end_alike()
     ensures { LoopsEndAlike }

@@ -20,8 +20,8 @@ pub record AreJoinNames (name : Option ℕ) (joins : JoinNames) : Type 0 where
   pub parents : joins.parents ≡ name
   pub own : is_none joins.own ≡ is_none name
 
--- The origins of all children begun, in order, and whose answers were taken; whether all were seen to have answered; the numbers that
--- looks have loaded; and the names of the task's joins.
+-- A task's links: the origins of all children that it began, in order, and which of their answers it has taken; whether a look found that
+-- all have answered; the numbers that looks have loaded; and the names of the task's joins.
 pub record LinksView : Type 0 where
   pub plan : PlanView
   pub origin : Origin

@@ -106,7 +106,7 @@ impl<K: Keep> Links<K> {
         self.plan = plan;
     }
 
-    /// Moves the path of a loop's task, which its parts share, to memory of its own, where there is some.
+    /// Copies the path of a loop's task, which the loop's parts share, to memory of its own, where there is some.
     pub fn unshare_path(&mut self, alloc: Global)
         ensures { self.new ≡ self.old }
     {

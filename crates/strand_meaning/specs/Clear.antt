@@ -1,5 +1,5 @@
--- Statements that don't touch pending variables (docs/LANGUAGE.md, "Pending variables"): those that a child's value is still to
--- fill.
+-- Statements that don't touch pending variables (docs/LANGUAGE.md, "Pending variables"): those that still wait for a child's
+-- value.
 use Rattle.std.specs.Prelude.{◌≡◌, List, [], ◌∷◌, ◌++◌, Option, Some, None, Contains}
 use Rattle.script_grammar.specs.declared.tree.Name.{Name}
 use Rattle.script_grammar.specs.declared.tree.Expr.{Expr}

@@ -19,7 +19,7 @@ use Rattle.strand_meaning.specs.Rest.{GaveValues, evaluations}
 abbrev pub merged_of : Task → List AwaitedChild → Trace
 merged_of t ps = merged_answers ps (evaluations (eval t.plan) ps) (record t.trace { unmerged = [] })
 
--- A child's cut may be its parent's, where the children before it gave values.
+-- The fault that cuts a child may cut its parent too, where the children before it gave values.
 abbrev pub CutsPass : Type 0
 CutsPass =
     (t : Task) (front : List AwaitedChild) (p : AwaitedChild) (later : List AwaitedChild) (by : Fault) → IsTask t → t.trace.fault ≡ None → t.trace.unmerged ≡ front ++ p ∷ later →

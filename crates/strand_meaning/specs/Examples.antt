@@ -17,7 +17,7 @@ pub data Mark : Type 0 where
   ToWait : Mark
   ToEnd : Mark
 
--- The stops of a task, where each wait ends with the evaluations of the children, for as many moves and stops as are given.
+-- The stops of a task, where each wait ends with the evaluations of the children, within the given number of moves and stops.
 abbrev pub marked : (Task → List Mark) → PlanView → MoveOrStop → List Mark
 marked go plan (Passes next) = go next
 marked go plan (Stops (Spawn child rest)) = ToChild ∷ go rest

@@ -1,4 +1,4 @@
--- The slots of the variables that the values of a task's children go to are in the plan's tables.
+-- The plan's tables have the slots of the variables that take the values of a task's children.
 use Rattle.std.specs.Prelude.{◌≡◌, ℕ, true, List, [], ◌∷◌, Option, Some, None, length, map}
 use Rattle.script_check.specs.Slots.{every_in_target, finds_all, has_slot, table_of_slots, variable_names}
 use Rattle.script_grammar.specs.declared.tree.Function.{Function}

@@ -78,7 +78,7 @@ MovesLeaveUnfilledAlone =
     move plan path (changed owner (frame_with_answer target ended) m) ≡ changed_run (changed owner (frame_with_answer target ended)) (move plan path m)
 
 -- The unfilled variables of each frame of a task are in the set with which validity judges the statement that the frame is at; at
--- an implied sync, and at the `return` that implies it, in the set that validity has behind the statements before it.
+-- an implied sync, and at the `return` that implies it, in the set that validity has after the statements before it.
 abbrev pub UnfilledIsPending : Type 0
 UnfilledIsPending = (t : Task) → IsTask t → UnfilledArePendingIn t.plan t.trace.unmerged t.remaining
 
@@ -91,13 +91,13 @@ KeepsOrigin t (Spawn child rest) = IsSameTask t rest
 KeepsOrigin t (Wait rest) = IsSameTask t rest
 KeepsOrigin t (End out ended) = Unit {0}
 
--- fewer stops are left behind this one
+-- fewer stops are left after this one
 abbrev pub LeavesFewer : Task → Stop → Type 0
 LeavesFewer t (Spawn child rest) = (stops_left rest < stops_left t) × (rest.waiting ≡ false)
 LeavesFewer t (Wait rest) = (stops_left rest < stops_left t) × (rest.waiting ≡ true)
 LeavesFewer t (End out ended) = Unit {0}
 
--- Each stop of a task that isn't waiting leaves fewer.
+-- Each stop of a task that isn't waiting leaves fewer stops.
 abbrev pub StopsFall : Type 0
 StopsFall = (t : Task) (stop : Stop) → IsTask t → t.waiting ≡ false → IsNext t stop → LeavesFewer t stop
 
@@ -114,13 +114,13 @@ abbrev pub StopsKeepOrigins : Type 0
 StopsKeepOrigins = (t : Task) (stop : Stop) → IsNext t stop → KeepsOrigin t stop
 
 -- There is only one next stop.
-abbrev pub StopsAreOne : Type 0
-StopsAreOne = (t : Task) (stop other : Stop) → IsNext t stop → IsNext t other → stop ≡ other
+abbrev pub StopsAreUnique : Type 0
+StopsAreUnique = (t : Task) (stop other : Stop) → IsNext t stop → IsNext t other → stop ≡ other
 
-abbrev pub StopsCome : Type 0
-StopsCome = (t : Task) → (stop : Stop) × IsNext t stop
+abbrev pub StopsExist : Type 0
+StopsExist = (t : Task) → (stop : Stop) × IsNext t stop
 
--- Each move leaves fewer before the next stop.
+-- Each move leaves fewer moves before the next stop.
 abbrev pub MovesFall : Type 0
 MovesFall = (t next : Task) → step t ≡ Passes next → moves_left next < moves_left t
 

@@ -1,4 +1,4 @@
--- A bound on the stops that a task has left, and on the moves before the next one. The stops are a number of the open run of what
+-- A bound on the stops that a task has left, and on the moves before the next one. The stops are counted in the open tree of what
 -- remains: a sync is a wait, and a child is a spawn and, if it is a loop, a wait too.
 use Rattle.std.specs.Prelude.{ℕ, ◌+◌, ◌-◌, ◌*◌, Bool, true, false, List, [], ◌∷◌, length, if◌then◌else◌}
 use Rattle.serial_meaning.specs.Plan.{PlanView}
@@ -45,7 +45,7 @@ module _ (plan : PlanView) (child : Origin → Evaluation) (path : List ℕ) (wa
   stage_stops (AtLoop m) = at_wait waiting + (3 + item_stops (rest_open plan child path awaiting (AtLoop m)).items)
   stage_stops (Ended e) = at_end waiting awaiting
 
--- what a loop's last iteration will come to
+-- the stops of what remains; of a loop that is still split only its end
 abbrev pub remaining_stops : PlanView → Origin → Bool → List AwaitedChild → Remaining → ℕ
 remaining_stops plan o waiting awaiting (Splits left) = 1
 remaining_stops plan o waiting awaiting (Runs stage) = 2 + stage_stops plan (children_of plan (own_instance o)) (path_of (own_instance o)) waiting awaiting stage

@@ -1,6 +1,6 @@
--- An instance as a machine: a stack of frames that makes one move at a time. A statement's meaning is the one text of the serial
--- elision and of the open tree, in a third interpretation: children are begun, and what is inside a block, an iteration or a callee
--- is left for the machine's next moves.
+-- An instance as a machine: a stack of frames that makes one move at a time. A statement means what it does in the serial elision and
+-- in the open tree, by the same definitions in a third interpretation: children are begun, and what is inside a block, an iteration or a
+-- callee is left for the machine's next moves.
 use Rattle.std.specs.Prelude.{ℕ, Bool, true, false, List, [], ◌∷◌, ◌++◌, Option, Some, None, Result, Ok, Err, length}
 use Rattle.std.specs.Prelude.{pos}
 use Rattle.script_grammar.specs.declared.tree.Name.{Name}
@@ -71,7 +71,7 @@ parallel plan destination = record {
   sync = λ k. record { items = sync_effects k; ending = Ok false };
 }
 
--- what is inside isn't run, but left for the next moves
+-- what is inside a statement isn't run, but left for the next moves
 abbrev pub inside : BlockMeaning Effect Exit Bool
 inside here calls sts s = run_ends_by (Inside here calls sts s)
 
@@ -89,9 +89,9 @@ child_destination height (act.While e a) = Spawned height None
 child_destination height (act.Pfor x lo hi target c) = Looped target
 child_destination height (act.Scope a) = Spawned height None
 
--- The stack
+-- The stack of frames
 
--- An open scope of a frame: the rank of the strand that came to it, and the statements left behind it.
+-- An open scope of a frame: the rank of the strand that came to it, and the statements left after it.
 pub record Level : Type 0 where
   pub rank : ℕ
   pub left : List Stmt
@@ -146,7 +146,7 @@ here_of path m = inside_of (present path m.below) m.top.levels
 abbrev pub with_left : Machine → List Stmt → State Bool → Machine
 with_left m left s = record m { rank = s.rank; steps = s.steps; top = record m.top { left = left; env = s.env; spawned = s.spawned } }
 
--- it continues in a scope, behind which these statements are left
+-- the innermost frame continues in a scope, after which these statements are left
 abbrev pub into_level : Machine → List Stmt → List Stmt → State Bool → Machine
 into_level m after inner s = record m {
   rank = s.rank;
@@ -154,15 +154,15 @@ into_level m after inner s = record m {
   top = record m.top { left = inner; levels = record { rank = m.rank; left = after } ∷ m.top.levels; env = s.env; spawned = s.spawned };
 }
 
--- it is past the sync at the end of its innermost scope
+-- the innermost frame is past the sync at the end of its innermost scope
 abbrev pub with_leaving : Machine → State Bool → Machine
 with_leaving m s = record m { rank = s.rank; steps = s.steps; top = record m.top { leaving = true; env = s.env; spawned = s.spawned } }
 
--- it continues behind its innermost scope
+-- the innermost frame continues after its innermost scope
 abbrev pub out_of_level : Machine → Level → List Level → State Bool → Machine
 out_of_level m l ls s = record m { rank = s.rank; steps = s.steps; top = record m.top { left = l.left; levels = ls; leaving = false; env = s.env; spawned = s.spawned } }
 
--- its return's step is taken, and it is past its last sync
+-- the innermost frame has paid its return's step, and is past its last sync
 abbrev pub with_returning : Machine → State Bool → Machine
 with_returning m s = record m { rank = s.rank; steps = s.steps; top = record m.top { returning = true; env = s.env; spawned = s.spawned } }
 

@@ -91,7 +91,7 @@ places_unless None js = js
 places_unless (Some f) js = without_last js
 
 -- The pedigrees that an instance with this path is observed to have come to. While it waits for children it is already at the one
--- behind the wait; where it ends by a child's fault it never came there.
+-- after the wait; where it ends by a child's fault it never comes there.
 abbrev pub places_observed : List ℕ → Observation → List (List ℕ)
 places_observed path observation = places_unless observation.child_fault ((path ++ 0 ∷ []) ∷ led_to (path ++ 0 ∷ []) observation.items)
 

@@ -20,7 +20,7 @@ abbrev pub act_of : Stmt → Act-F Act Stmt
 act_of st = out-Act (out-Stmt st).act
 
 -- A block of a statement before which `before` is pending; the set with which validity judges the block; and what follows the
--- block, in front of the statements behind that one: a `while` comes again.
+-- block, before the statements after that one: a `while` comes again.
 pub data HasBlock (st : Stmt) (before : check.NameSet) : List Stmt → check.NameSet → List Stmt → Type 0 where
   Then : (e : Expr) (yes no : List Stmt) → act_of st ≡ act.If e yes no → HasBlock st before yes before []
   Else : (e : Expr) (yes no : List Stmt) → act_of st ≡ act.If e yes no → HasBlock st before no before []

@@ -9,7 +9,7 @@ use Rattle.serial_meaning.specs.Functions.{function_at}
 use Rattle.serial_meaning.specs.Plan.{PlanView, functions_of}
 use Rattle.serial_meaning.specs.Exec.{State, unless_fault, paid, implied, goes_out, leaves, exec}
 use Rattle.serial_meaning.specs.Eval.{Evaluation, path_of, loop_evaluation, eval_below, eval, depth_left}
-use Rattle.serial_meaning.specs.Open.{Item, Happened, Child, Opened, Closed, NodeFault, Own, ChildFaulted, put_off_all}
+use Rattle.serial_meaning.specs.Open.{Item, Happened, Child, Opened, Closed, NodeFault, Own, ChildFaulted, deferring}
 use Rattle.serial_meaning.specs.declared.value.Value.{Value}
 use Rattle.serial_meaning.specs.declared.value.Value.TheVariants.{Int}
 use Rattle.serial_meaning.specs.declared.event.Fault.{Fault}
@@ -44,36 +44,36 @@ GaveValues child (p ∷ ps) = GaveValue (child p.child).ending × GaveValues chi
 module _ (plan : PlanView) (child : Origin → Evaluation) (path : List ℕ) where
   -- at the present path of a frame, outside its scopes
   abbrev pub valued : List ℕ → Option Function → State (Option Fault) → Run Item NodeFault (Value × State (Option Fault))
-  valued here (Some f) s = unless_fault (put_off_all plan child) plan here (value_of f.result s.env) s λ v. done (v, s)
+  valued here (Some f) s = unless_fault (deferring plan child) plan here (value_of f.result s.env) s λ v. done (v, s)
   valued here None s = done (Int (pos 0), s)
 
-  -- a return, or its rest behind its sync
+  -- a return, or what is left of it after its sync
   abbrev pub closes : List ℕ → Bool → Option Function → State (Option Fault) → Run Item NodeFault (Value × State (Option Fault))
   closes here false f s =
-      paid (put_off_all plan child) plan here s λ s. implied (put_off_all plan child) plan here (spawns_in f) s then valued here f
+      paid (deferring plan child) plan here s λ s. implied (deferring plan child) plan here (spawns_in f) s then valued here f
   closes here true f s = valued here f s
 
-  -- the end of a scope that is at this rank: its sync, unless that is done, and the way out
+  -- the end of a scope at this rank: its sync, unless that is done, and the way out
   abbrev pub level_end : Bool → List ℕ → ℕ → State (Option Fault) → Run Item NodeFault (State (Option Fault))
-  level_end false here rank s = leaves (put_off_all plan child) plan here rank s
-  level_end true here rank s = goes_out (put_off_all plan child) plan here rank s
+  level_end false here rank s = leaves (deferring plan child) plan here rank s
+  level_end true here rank s = goes_out (deferring plan child) plan here rank s
 
-  -- what follows the statements of the innermost of these open scopes: its end and the statements behind it, and so on outwards
+  -- what follows the statements of the innermost of these open scopes: its end and the statements after it, and so on outwards
   abbrev pub outwards : List ℕ → ℕ → Bool → List Level → State (Option Fault) → Run Item NodeFault (State (Option Fault))
   outwards here calls leaving [] s = done s
   outwards here calls leaving (l ∷ ls) s =
       level_end leaving (inside_of here ls) l.rank s then λ s.
-      exec (put_off_all plan child) plan (inside_of here ls) calls l.left s then
+      exec (deferring plan child) plan (inside_of here ls) calls l.left s then
       outwards here calls false ls
 
-  -- behind the statements of a frame on top of these: the ends of its scopes and its return
+  -- what follows the statements of a frame on top of these: the ends of its scopes, and its return
   abbrev pub afterwards : Frame → List Frame → State (Option Fault) → Run Item NodeFault (Value × State (Option Fault))
   afterwards a below s =
       outwards (present path below) (length below) a.leaving a.levels s then closes (present path below) a.returning (function_at (functions_of plan) a.function)
 
   -- a frame to its end: its statements left, and what follows them
   abbrev pub remains : Frame → List Frame → State (Option Fault) → Run Item NodeFault (Value × State (Option Fault))
-  remains a below s = exec (put_off_all plan child) plan (inside_of (present path below) a.levels) (length below) a.left s then afterwards a below
+  remains a below s = exec (deferring plan child) plan (inside_of (present path below) a.levels) (length below) a.left s then afterwards a below
 
   abbrev pub caller_state : Frame → Option Name → Value × State (Option Fault) → State (Option Fault)
   caller_state caller target r = record { env = with_scalar target r.0 caller.env; rank = r.1.rank; steps = r.1.steps; spawned = caller.faulted }
@@ -100,7 +100,7 @@ module _ (plan : PlanView) (child : Origin → Evaluation) (path : List ℕ) whe
   abbrev pub rest_open : List AwaitedChild → Stage → Run Item NodeFault Value
   rest_open awaiting stage = rest_of_stage (resumed (takes_all awaiting (evaluations child awaiting) stage))
 
--- An open run with each child's evaluation in its place, up to the first fault
+-- A run of the open tree with each child's evaluation in its place, up to the first fault
 
 module _ (child : Origin → Evaluation) where
   abbrev pub closed_end : {A : Type 0} → Result A NodeFault → Result A Fault
@@ -128,7 +128,7 @@ abbrev pub prefix_run : Trace → Run Event Fault (Unit {0})
 prefix_run trace = record { items = trace.prefix; ending = prefix_end trace.fault }
 
 module _ (child : Origin → Evaluation) where
-  -- the children's evaluations and the events behind them, with the values of a loop's parts behind those that were taken
+  -- the children's evaluations and the events after them, with the values of a loop's parts after those that were taken
   abbrev pub awaited_run : List AwaitedChild → List Value → Run Event Fault (List Value)
   awaited_run [] values = done values
   awaited_run (p ∷ ps) values = child p.child then λ vs. after_items p.after (awaited_run ps (more_values p.destination (Ok vs) values))
@@ -138,7 +138,7 @@ module _ (child : Origin → Evaluation) where
   iterations_left (Instance function args path) left = done []
   iterations_left (Loop function rest first path range) left = loop_evaluation child function rest first path left.lo (left.hi - left.lo)
 
--- an instance's value alone, or behind those of a loop's other iterations
+-- an instance's value alone, or after those of a loop's other iterations
 abbrev pub all_with : Origin → List Value → Value → List Value
 all_with (Instance function args path) values v = v ∷ []
 all_with (Loop function rest first path range) values v = values ++ v ∷ []

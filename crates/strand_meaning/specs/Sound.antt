@@ -46,7 +46,7 @@ any_by height (p ∷ ps) = is_by height p.destination || any_by height ps
 
 -- Frames
 
--- Behind the end of a scope nothing is unfilled, and the statements left there touch no variable that is pending before them. Where
+-- After the end of a scope nothing is unfilled, and the statements left there touch no variable that is pending before them. Where
 -- they spawn, so does the function's text.
 abbrev pub AreSoundLevels : Type 0 → List Level → Type 0
 AreSoundLevels in_text [] = Unit {0}
@@ -179,7 +179,7 @@ IsSoundRemaining plan o awaiting (Finished v false) = IsLoop o × AreHalves awai
 -- Children as they were begun
 
 -- A part of the task's loop, from one of its iterations on. Where the children before it give values, so does each iteration before
--- it: a fault by which the loop then ends is in the part or behind it.
+-- it: a fault by which the loop then ends is in the part or after it.
 abbrev pub IsPartAfter : PlanView → Origin → List AwaitedChild → Origin → Type 0
 IsPartAfter plan (Instance function args path) front child = ⊥
 IsPartAfter plan (Loop function rest first path range) front child =
@@ -205,7 +205,8 @@ IsShownAs (Spawned owner target) plan o front events child = IsBegunBy o events 
 IsShownAs (Looped target) plan o front events child = IsBegunBy o events child
 IsShownAs Half plan o front events child = IsPartAfter plan o front child
 
--- Behind these children, these events show the first, and those between it and the child before it show each other one.
+-- These events, which come after the children `front`, show the first of the others; the events between it and the child before it show
+-- each other one.
 abbrev pub AreShownBy : PlanView → Origin → List AwaitedChild → List Event → List AwaitedChild → Type 0
 AreShownBy plan o front events [] = Unit {0}
 AreShownBy plan o front events (p ∷ ps) = IsShownAs p.destination plan o front events p.child × AreShownBy plan o (front ++ p ∷ []) p.after ps

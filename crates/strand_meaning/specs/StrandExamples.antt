@@ -24,7 +24,7 @@ FirstStrandPrintsAndSpawns =
 abbrev pub ChildsStrandHasItsFault : Type 0
 ChildsStrandHasItsFault = strand_at spending (0 ∷ 0 ∷ []) ≡ FoundStrand (record { events = []; fault = Some (record { kind = fault.Divide; at = 0 ∷ 0 ∷ [] }) })
 
--- The elision doesn't reach the strand behind the child that faults.
+-- The elision doesn't reach the strand after the child that faults.
 abbrev pub ParentGoesOnToItsFault : Type 0
 ParentGoesOnToItsFault = strand_at spending (1 ∷ []) ≡ FoundStrand (record { events = []; fault = Some (record { kind = fault.Budget; at = 1 ∷ [] }) })
 
@@ -35,7 +35,7 @@ abbrev pub joining : PlanView
 joining =
     plan_of (bad ∷ function (codes "main") [] (stated (act.Spawn (applied (codes "bad") [])) ∷ stated act.Sync ∷ stated (act.Print (number 1)) ∷ []) (number 0) ∷ []) 20
 
--- A sync is a strand's event also where the instance ends there by a child's fault, which blocks what is behind it.
+-- A sync is a strand's event also where the instance ends there by a child's fault, which blocks what is after it.
 abbrev pub SyncStandsWhereAChildFaulted : Type 0
 SyncStandsWhereAChildFaulted = strand_at joining (1 ∷ []) ≡ FoundStrand (record { events = event.Sync (1 ∷ []) ∷ []; fault = None })
 
@@ -51,7 +51,7 @@ rolling =
     ∷ [])
     20)
 
--- An iteration has ranks of its own behind its number.
+-- An iteration has ranks of its own after its number.
 abbrev pub IterationsHaveStrands : Type 0
 IterationsHaveStrands = strand_at rolling (0 ∷ 3 ∷ 0 ∷ []) ≡ FoundStrand (record { events = event.Draw (0 ∷ 3 ∷ 0 ∷ []) 2628 ∷ []; fault = None })
 
@@ -72,13 +72,13 @@ ScopesFirstStrandSpawns = strand_at (plan_of_child 20) (0 ∷ 0 ∷ []) ≡ Foun
 abbrev pub ScopesSecondStrandSyncs : Type 0
 ScopesSecondStrandSyncs = strand_at (plan_of_child 20) (0 ∷ 1 ∷ []) ≡ FoundStrand (record { events = event.Sync (0 ∷ 1 ∷ []) ∷ []; fault = None })
 
--- The strand behind that sync exists, and has no event.
+-- The strand after that sync exists, and has no event.
 abbrev pub ScopesLastStrandIsThere : Type 0
 ScopesLastStrandIsThere = strand_at (plan_of_child 20) (0 ∷ 2 ∷ []) ≡ FoundStrand (record { events = []; fault = None })
 
 abbrev pub NoStrandAfterAScopesLast : Type 0
 NoStrandAfterAScopesLast = strand_at (plan_of_child 20) (0 ∷ 3 ∷ []) ≡ Missing
 
--- The strand behind the scope.
+-- The strand after the scope.
 abbrev pub StrandAfterAScopePrints : Type 0
 StrandAfterAScopePrints = strand_at (plan_of_child 20) (1 ∷ []) ≡ FoundStrand (record { events = event.Print (1 ∷ []) (Int (pos 21)) ∷ event.Sync (1 ∷ []) ∷ []; fault = None })

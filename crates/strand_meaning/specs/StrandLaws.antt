@@ -9,7 +9,7 @@ use Rattle.serial_meaning.specs.declared.event.Event.TheVariants.{Draw}
 use Rattle.serial_meaning.specs.declared.event.Fault.{Fault}
 use Rattle.strand_meaning.specs.Strands.{events_at, Strand, FoundStrand, strand_at}
 
--- No fault ended it before this pedigree: it has none, or its fault is there or behind it.
+-- No fault ended it before this pedigree: it has none, or its fault is there or after it.
 abbrev pub IsWholeUpTo : List ℕ → Result (List Value) Fault → Type 0
 IsWholeUpTo j (Ok vs) = Unit {0}
 IsWholeUpTo j (Err f) = IsBefore f.at j → ⊥
@@ -29,7 +29,7 @@ StrandsAreTheElisions =
     (plan : PlanView) (j : List ℕ) (strand : Strand) → IsWholeUpTo j (elision plan).ending → strand_at plan j ≡ FoundStrand strand →
     strand ≡ strand_in j (elision plan)
 
--- What a strand of the open tree draws, before a fault or behind one, is DotMix of its pedigree.
+-- What a strand of the open tree draws, before a fault or after one, is DotMix of its pedigree.
 abbrev pub StrandsDrawDotMix : Type 0
 StrandsDrawDotMix =
     (plan : PlanView) (j k : List ℕ) (n : ℕ) (strand : Strand) → strand_at plan j ≡ FoundStrand strand → Contains strand.events (Draw k n) → (k ≡ j) × (n ≡ drawn plan j)

@@ -26,7 +26,7 @@ pedigree_of (event.Spawn j) = j
 pedigree_of (event.Sync j) = j
 pedigree_of (event.Loop j) = j
 
--- those with one pedigree
+-- the events with one pedigree
 abbrev pub events_at : List ℕ → List Event → List Event
 events_at j [] = []
 events_at j (e ∷ es) = if bytes_eq (pedigree_of e) j then e ∷ events_at j es else events_at j es
@@ -46,7 +46,7 @@ abbrev pub last_pedigree : List ℕ → List Event → List ℕ
 last_pedigree j [] = j
 last_pedigree j (e ∷ es) = last_pedigree (pedigree_of e) es
 
--- the child's fault by which it ended
+-- the child's fault by which an instance ended
 abbrev pub fault_of_child : Result (List Value) NodeFault → Option Fault
 fault_of_child (Ok vs) = None
 fault_of_child (Err (Own f)) = None
@@ -111,7 +111,7 @@ last_step (Some f) strand = Blocked f
 last_step None (Some strand) = FoundStrand strand
 last_step None None = Missing
 
--- the iteration of a loop that a pedigree names behind the loop's path, if more ranks follow
+-- the iteration of a loop that a pedigree names after the loop's path, if more ranks follow
 abbrev pub iteration_on_way : List ℕ → ℕ → List Value → ℤ → List ℕ → ℕ → Option ℕ → Option Origin
 iteration_on_way j function rest first path count None = None
 iteration_on_way j function rest first path count (Some k) =

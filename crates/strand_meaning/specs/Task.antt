@@ -35,8 +35,8 @@ pub data Remaining : Type 0 where
   Runs : Stage → Remaining
   Finished : Value → Bool → Remaining
 
--- Besides its trace and what remains: the values of those iterations of a loop whose answers were taken, in order; whether the task
--- waits; and whether it has run.
+-- A task: its plan, its origin, its trace and what remains; the values of those iterations of a loop whose answers were taken, in order;
+-- whether it waits; and whether it has run.
 pub record Task : Type 0 where
   pub plan : PlanView
   pub origin : Origin
@@ -59,14 +59,14 @@ begun_remaining plan (Loop function rest first path range) = Splits range
 abbrev pub start : PlanView → Origin → Task
 start plan o = record { plan = plan; origin = o; trace = no_trace; values = []; remaining = begun_remaining plan o; waiting = false; advanced = false }
 
--- the instance that an origin's task runs itself: of a loop the last iteration
+-- the instance that the task of this origin runs itself: a loop's task runs the last iteration
 abbrev pub own_instance : Origin → Origin
 own_instance (Instance function args path) = Instance function args path
 own_instance (Loop function rest first path range) = iteration function rest first path (range.hi - 1)
 
 -- The next stop
 
--- a child to be begun, and the task behind it; a wait; or the end, with all events and the outcome
+-- a child to be begun, and the task after that; a wait; or the end, with all events and the outcome
 pub data Stop : Type 0 where
   Spawn : Origin → Task → Stop
   Wait : Task → Stop
@@ -118,12 +118,12 @@ ends_unless None t ended = Stops (End t.trace.prefix ended)
 abbrev pub ends : Task → Outcome → MoveOrStop
 ends t ended = ends_unless t.trace.fault t ended
 
--- an own fault waits for the children begun since the last wait
+-- a fault of the instance's own ends the task, once the children begun since the last wait have answered
 abbrev pub faults_after : List AwaitedChild → Task → Fault → MoveOrStop
 faults_after [] t f = ends t (outcome.Fault f)
 faults_after (p ∷ ps) t f = waits t
 
--- the instance that the task ran ended well
+-- the instance that the task ran returned a value
 abbrev pub returned : Task → Origin → Value → MoveOrStop
 returned t (Instance function args path) v = ends t (outcome.Value v)
 returned t (Loop function rest first path range) v = Passes (record t { remaining = Finished v false; advanced = true })
@@ -150,7 +150,7 @@ split_step t left (suc zero) = Passes (record t { remaining = begins_last t.plan
 split_step t left (suc (suc n)) =
     let o = first_half t.origin left in Stops (Spawn o (record t { trace = add_child o Half t.trace; remaining = Splits (upper_half left); advanced = true }))
 
--- a loop of two iterations or more has begun a part as a child
+-- the last iteration is over: a loop of two iterations or more first waits for the part that it began as a child
 abbrev pub over_step : Task → Value → Origin → MoveOrStop
 over_step t v (Instance function args path) = ends t (outcome.Values (t.values ++ v ∷ []))
 over_step t v (Loop function rest first path range) = by_size (range.hi - range.lo)
@@ -175,7 +175,7 @@ pub data IsNext : Task → Stop → Type 0 where
   Now : {t : Task} {stop : Stop} → step t ≡ Stops stop → IsNext t stop
   Later : {t : Task} {stop : Stop} (next : Task) → step t ≡ Passes next → IsNext next stop → IsNext t stop
 
--- Going on
+-- After a wait
 
 -- the frame with this many below it, changed
 abbrev pub changed_at : ℕ → (Frame → Frame) → List Frame → List Frame

@@ -7,13 +7,13 @@ use Rattle.serial_meaning.specs.declared.event.Event.{Event}
 use Rattle.serial_meaning.specs.declared.origin.Origin.{Origin}
 use Rattle.strand_meaning.specs.Machine.{Destination, Effect, Opens, Closes, Emitted, Starts, Syncs, Loops}
 
--- a child whose answer isn't taken, where its value goes, and the task's own events behind it, up to the next child
+-- a child whose answer isn't taken, where its value goes, and the task's own events after it, up to the next child
 pub record AwaitedChild : Type 0 where
   pub child : Origin
   pub destination : Destination
   pub after : List Event
 
--- The events before the first child whose answer isn't taken, up to the first fault among these, and that fault, behind which
+-- The events before the first child whose answer isn't taken, up to the first fault among these, and that fault, after which
 -- nothing counts; and then the children.
 pub record Trace : Type 0 where
   pub prefix : List Event
@@ -56,7 +56,7 @@ with_effects (Loops ∷ ts) trace = with_effects ts trace
 
 -- Answers
 
--- the answer's events, and if it is no fault then those behind the child
+-- the answer's events, and if it is no fault then those after the child
 abbrev pub merged_answer_unless : Option Fault → List Event → AwaitedChild → List Event → Result (List Value) Fault → Trace
 merged_answer_unless (Some f) prefix p events ending = record { prefix = prefix; fault = Some f; unmerged = [] }
 merged_answer_unless None prefix p events (Ok vs) = record { prefix = prefix ++ (events ++ p.after); fault = None; unmerged = [] }

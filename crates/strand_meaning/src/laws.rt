@@ -2,7 +2,7 @@
 
 ghost use Rattle.strand_meaning.specs.Cuts.{AnswersEnd, CutsPass, FaultsPass};
 ghost use Rattle.strand_meaning.specs.StrandLaws.{StrandsAreTheElisions, StrandsDrawDotMix};
-ghost use Rattle.strand_meaning.specs.Laws.{AnswersAreEvaluations, AnswersKeepTasks, AnswersLeaveNoMore, AnswersShowNothing, MovesFall, MovesLeaveUnfilledAlone, ObservationBegins, ObservationGoesOn, OriginsFit, StepsAreSound, StopsAreOne, StopsAreShown, StopsAreSound, StopsCome, StopsFall, StopsKeepOrigins, TasksBegin, UnfilledIsPending, ValidPlansAreClear};
+ghost use Rattle.strand_meaning.specs.Laws.{AnswersAreEvaluations, AnswersKeepTasks, AnswersLeaveNoMore, AnswersShowNothing, MovesFall, MovesLeaveUnfilledAlone, ObservationBegins, ObservationGoesOn, OriginsFit, StepsAreSound, StopsAreUnique, StopsAreShown, StopsAreSound, StopsExist, StopsFall, StopsKeepOrigins, TasksBegin, UnfilledIsPending, ValidPlansAreClear};
 
 /// A new task of an origin of the plan satisfies the invariant, where no function of the script touches a pending variable.
 pub fn tasks_begin()
@@ -41,13 +41,13 @@ pub fn answers_keep_tasks()
 {}
 
 /// A task comes to only one next stop.
-pub fn stops_are_one()
-    ensures { StopsAreOne }
+pub fn stops_are_unique()
+    ensures { StopsAreUnique }
 {}
 
 /// A task comes to a stop.
-pub fn stops_come()
-    ensures { StopsCome }
+pub fn stops_exist()
+    ensures { StopsExist }
 {}
 
 /// Each stop of a task that isn't waiting leaves it fewer stops.
@@ -71,7 +71,7 @@ pub fn unfilled_is_pending()
     ensures { UnfilledIsPending }
 {}
 
-/// Each move leaves fewer before the next stop.
+/// Each move leaves fewer moves before the next stop.
 pub fn moves_fall()
     ensures { MovesFall }
 {}
@@ -87,7 +87,7 @@ pub fn strands_are_the_elisions()
     ensures { StrandsAreTheElisions }
 {}
 
-/// Each draw of a strand of the open tree is DotMix of the strand's pedigree, behind a fault too.
+/// Each draw of a strand of the open tree is DotMix of the strand's pedigree, after a fault too.
 pub fn strands_draw_dotmix()
     ensures { StrandsDrawDotMix }
 {}
@@ -118,12 +118,12 @@ pub fn cuts_pass()
     ensures { CutsPass }
 {}
 
-/// A child's fault is its parent's, where the children before it gave values.
+/// A child's fault is its parent's too, where the children before it gave values.
 pub fn faults_pass()
     ensures { FaultsPass }
 {}
 
-/// A task whose trace comes to a fault or a cut, once its children's answers are merged, answers with the first of them.
+/// A task whose trace has a fault or a cut, once its children's answers are merged, answers with the first of them.
 pub fn answers_end()
     ensures { AnswersEnd }
 {}

@@ -17,7 +17,7 @@ use Rattle.serial_meaning.specs.declared.environment.Content.TheVariants.{Scalar
 use Rattle.serial_meaning.specs.declared.environment.Variable.{Variable}
 use Rattle.serial_meaning.specs.declared.value.Value.{Value}
 use Rattle.strand_values.specs.Changes.{called_with}
-use Rattle.strand_values.specs.Environments.{EnvironmentView, IsOwnSlot, with_variables, with_what}
+use Rattle.strand_values.specs.Environments.{EnvironmentView, IsOwnSlot, with_variables, with_optional_content}
 use Rattle.strand_values.specs.Gives.{Calculates}
 use Rattle.strand_values.specs.declared.evaluation_error.EvaluationError.{EvaluationError}
 use Rattle.strand_values.specs.declared.evaluation_error.EvaluationError.TheVariants as error
@@ -107,7 +107,7 @@ pub record IsBound (names : List (List ℕ)) (ps : List Param) (vs : List Value)
 
 -- what putting something into the next slot makes of an environment
 abbrev pub Puts : EnvironmentView → ℕ → Option Content → EnvironmentView → Type 0
-Puts old i o new = (name : List ℕ) → slot_in old.names name ≡ Some i → new ≡ with_variables old (with_what old.variables name o)
+Puts old i o new = (name : List ℕ) → slot_in old.names name ≡ Some i → new ≡ with_variables old (with_optional_content old.variables name o)
 
 module _ (names : List (List ℕ)) (ps : List Param) (stand : stand_from 0 names ps ≡ true) (i : ℕ) (old : EnvironmentView) (names_are : old.names ≡ names) (none : NoneFrom i names old.variables) (here : i < length ps) where
   slot_there : (p : Param) → p ≡ get_or ps i p → slot_in old.names p.name.bytes ≡ Some i
@@ -115,7 +115,7 @@ module _ (names : List (List ℕ)) (ps : List Param) (stand : stand_from 0 names
 
   module _ (o : Option Content) (s : Content) (is : o ≡ Some s) (new : EnvironmentView) (puts : Puts old i o new) (p : Param) (e : p ≡ get_or ps i p) where
     new_is : new ≡ with_variables old (with_content old.variables p.name.bytes s)
-    new_is = puts p.name.bytes (slot_there p e) ∙ ap (λ (t : Option Content). with_variables old (with_what old.variables p.name.bytes t)) is
+    new_is = puts p.name.bytes (slot_there p e) ∙ ap (λ (t : Option Content). with_variables old (with_optional_content old.variables p.name.bytes t)) is
 
     names_kept : new.names ≡ names
     names_kept = ap (λ (w : EnvironmentView). w.names) new_is ∙ names_are

@@ -15,7 +15,7 @@ use Rattle.serial_meaning.specs.declared.environment.Content.{Content}
 use Rattle.serial_meaning.specs.declared.event.FaultKind.{FaultKind}
 use Rattle.serial_meaning.specs.declared.value.Value.{Value}
 use Rattle.strand_values.specs.BySlots.{SlotsMeanNames, found_at, meaning_by, product_part_by, sum_part_by}
-use Rattle.strand_values.specs.Environments.{held_at, filled_variables}
+use Rattle.strand_values.specs.Environments.{content_at, filled_variables}
 use Rattle.strand_values.proofs.Filled.{slot_found, content_held}
 
 and-then : {A B E : Type 0} (r : Result A E) (f g : A → Result B E) → ((a : A) → f a ≡ g a) → (r >>= f) ≡ (r >>= g)
@@ -136,7 +136,7 @@ module _ (is : Name → Bool) (content : Name → Option Content) (env : Env) (s
 
 pub slots_mean_names : SlotsMeanNames
 slots_mean_names table names entries filled is =
-    same_values (has_slot table names) (λ x. held_at entries (get_or table x.at 0)) (filled_variables names entries filled) same
+    same_values (has_slot table names) (λ x. content_at entries (get_or table x.at 0)) (filled_variables names entries filled) same
   where
-    same : (x : Name) → has_slot table names x ≡ true → held_at entries (get_or table x.at 0) ≡ content_of (filled_variables names entries filled) x.bytes
+    same : (x : Name) → has_slot table names x ≡ true → content_at entries (get_or table x.at 0) ≡ content_of (filled_variables names entries filled) x.bytes
     same x found = sym (content_held names x.bytes (get_or table x.at 0) (slot_found table names x found) entries filled is)

@@ -12,11 +12,11 @@ use Rattle.script_check.specs.Slots.{every_in, has_slot}
 use Rattle.serial_meaning.specs.Runs.{◌>>=◌}
 use Rattle.serial_meaning.specs.Values.{Val, Meaning, item, items_of, as_integer, product_at, scalar, sum_at, value_at, value_of}
 use Rattle.serial_meaning.specs.declared.environment.Content.{Content}
-use Rattle.strand_values.specs.Environments.{IsEnvironment, held_at, filled_variables}
+use Rattle.strand_values.specs.Environments.{IsEnvironment, content_at, filled_variables}
 use Rattle.strand_values.specs.declared.entry.Entry.{Entry}
 
 module _ (content : Name → Option Content) where
-  -- one node, with what its parts give in their places
+  -- one node, from what its parts give
   abbrev pub found_at : Expr-F Meaning (ProductSign × Meaning) (Bool × Meaning) → Meaning
   found_at (node.Number n) env = value_at (node.Number n) env
   found_at (node.Var x) env = Ok (scalar (content x))
@@ -37,7 +37,7 @@ module _ (content : Name → Option Content) where
   abbrev pub product_part_by : ProductPart → ProductSign × Meaning
   product_part_by = fold-ProductPart Meaning (ProductSign × Meaning) (Bool × Meaning) found_at product_at sum_at
 
-  -- where no variable is there by its name
+  -- in an environment without variables, so that none is found by its name
   abbrev pub value_by : Expr → Val
   value_by e = meaning_by e []
 
@@ -45,4 +45,4 @@ module _ (content : Name → Option Content) where
 abbrev pub SlotsMeanNames : Type 0
 SlotsMeanNames =
     (table : List ℕ) (names : List (List ℕ)) (entries : List Entry) (filled : List ℕ) → IsEnvironment names entries filled → (e : Expr) → every_in (has_slot table names) e ≡ true →
-    value_by (λ x. held_at entries (get_or table x.at 0)) e ≡ value_of e (filled_variables names entries filled)
+    value_by (λ x. content_at entries (get_or table x.at 0)) e ≡ value_of e (filled_variables names entries filled)

@@ -1,4 +1,4 @@
--- What statements make of the variables.
+-- How statements change the variables.
 use Rattle.std.specs.Prelude.{ℕ, List, Result, Ok}
 use Rattle.script_grammar.specs.declared.tree.Param.{Param}
 use Rattle.script_grammar.specs.declared.tree.Expr.{Expr}

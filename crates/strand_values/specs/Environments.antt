@@ -18,23 +18,23 @@ pub record EnvironmentView : Type 0 where
   pub variables : Env
 
 -- what the variable of a slot holds, if it is there
-abbrev pub held : Entry → Option Content
-held entry.Vacant = None
-held (entry.Int n) = Some (Scalar (Int n))
-held (entry.Id j) = Some (Scalar (Id j))
-held (entry.Array xs) = Some (Array xs)
+abbrev pub entry_content : Entry → Option Content
+entry_content entry.Vacant = None
+entry_content (entry.Int n) = Some (Scalar (Int n))
+entry_content (entry.Id j) = Some (Scalar (Id j))
+entry_content (entry.Array xs) = Some (Array xs)
 
-abbrev pub held_at : List Entry → ℕ → Option Content
-held_at entries i = held (get_or entries i entry.Vacant)
+abbrev pub content_at : List Entry → ℕ → Option Content
+content_at entries i = entry_content (get_or entries i entry.Vacant)
 
-abbrev pub with_held : List ℕ → Option Content → List Variable → List Variable
-with_held name None vs = vs
-with_held name (Some content) vs = record { name = name; content = content } ∷ vs
+abbrev pub prepend_content : List ℕ → Option Content → List Variable → List Variable
+prepend_content name None vs = vs
+prepend_content name (Some content) vs = record { name = name; content = content } ∷ vs
 
 -- the variables, by their slots in the order in which they came to be
 abbrev pub filled_variables : List (List ℕ) → List Entry → List ℕ → Env
 filled_variables names entries [] = []
-filled_variables names entries (i ∷ is) = with_held (get_or names i []) (held_at entries i) (filled_variables names entries is)
+filled_variables names entries (i ∷ is) = prepend_content (get_or names i []) (content_at entries i) (filled_variables names entries is)
 
 abbrev pub times_filled : ℕ → List ℕ → ℕ
 times_filled i [] = 0
@@ -45,11 +45,11 @@ abbrev pub filled_once : Option Content → ℕ
 filled_once None = 0
 filled_once (Some content) = 1
 
--- There is an entry for each name. Those that hold something came to be filled once, and each is the slot of its name.
+-- There is an entry for each name. One that holds something was filled once, and is in the slot of its name.
 pub record IsEnvironment (names : List (List ℕ)) (entries : List Entry) (filled : List ℕ) : Type 0 where
   pub one_for_each : length entries ≡ length names
   pub own : All (λ i. slot_in names (get_or names i []) ≡ Some i) filled
-  pub once : (i : ℕ) → times_filled i filled ≡ filled_once (held_at entries i)
+  pub once : (i : ℕ) → times_filled i filled ≡ filled_once (content_at entries i)
 
 -- the table has the slot of each variable that is named
 abbrev pub FindsExpression : List ℕ → EnvironmentView → Expr → Type 0
@@ -65,15 +65,15 @@ FindsName table env x = has_slot table env.names x ≡ true
 abbrev pub with_variables : EnvironmentView → Env → EnvironmentView
 with_variables env vs = record env { variables = vs }
 
--- the slot is that of its own name
+-- the name in this slot has this slot
 abbrev pub IsOwnSlot : List (List ℕ) → ℕ → Type 0
 IsOwnSlot names i = slot_in names (get_or names i []) ≡ Some i
 
--- the slots in the order in which they were filled, once something is put into the entry of one that held this
+-- the slots in the order in which they were filled, once something is put into a slot whose entry held this
 abbrev pub with_filled : List ℕ → ℕ → Option Content → List ℕ
 with_filled filled i None = filled ++ i ∷ []
 with_filled filled i (Some content) = filled
 
-abbrev pub with_what : Env → List ℕ → Option Content → Env
-with_what env name None = env
-with_what env name (Some content) = with_content env name content
+abbrev pub with_optional_content : Env → List ℕ → Option Content → Env
+with_optional_content env name None = env
+with_optional_content env name (Some content) = with_content env name content

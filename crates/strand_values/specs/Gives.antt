@@ -1,4 +1,4 @@
--- What a calculation in a running program answers, beside what is defined.
+-- What a calculation returns in a running program, by what is defined.
 use Rattle.std.specs.Prelude.{◌≡◌, Bool, Result, Ok, Err}
 use Rattle.std.specs.Prelude.{ℤ}
 use Rattle.serial_meaning.specs.Values.{as_integer, is_true}

@@ -1,4 +1,4 @@
--- What the nodes of an expression give by what their last operands give; each is an end of one case of the definition of a value.
+-- What a node of an expression gives by what its last operand gives: the last part of one case of the definition of values.
 use Rattle.std.specs.Prelude.{ℕ, List, Ok, map}
 use Rattle.std.specs.Prelude.{ℤ}
 use Rattle.std.specs.Int.{w64, int_wrapping_neg}

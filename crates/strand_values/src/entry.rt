@@ -5,7 +5,7 @@ ghost use Rattle.serial_meaning.specs.declared.environment.Content.TheVariants.{
 ghost use Rattle.serial_meaning.specs.declared.value.Value.TheVariants.{Int};
 ghost use Rattle.serial_meaning.specs.Values.{items_of};
 ghost use Rattle.serial_meaning.specs.Exec.{with_item, with_front};
-ghost use Rattle.strand_values.specs.Environments.{held};
+ghost use Rattle.strand_values.specs.Environments.{entry_content};
 
 use crate::scalar::number;
 use contract_views::Items;
@@ -24,9 +24,9 @@ pub(crate) enum Entry {
 }
 
 impl Entry {
-    /// A scalar of this value.
+    // A scalar of this value.
     pub fn of(value: Value) -> Entry
-        ensures { held result ≡ Some (Scalar value) }
+        ensures { entry_content result ≡ Some (Scalar value) }
     {
         match value {
             Value::Int(number) => Entry::Int(number),
@@ -35,15 +35,15 @@ impl Entry {
     }
 
     pub fn is_vacant(&self) -> bool
-        ensures { result ≡ is_none (held self.now) }
+        ensures { result ≡ is_none (entry_content self.now) }
     {
         matches!(self, Entry::Vacant)
     }
 
-    /// Makes it a scalar of this number.
+    // Makes it a scalar of this number.
     #[inline(always)]
     pub fn set_number(&mut self, number: i64)
-        ensures { held self.new ≡ Some (Scalar (Int number)) }
+        ensures { entry_content self.new ≡ Some (Scalar (Int number)) }
     {
         match self {
             Entry::Int(old) => *old = number,
@@ -51,10 +51,10 @@ impl Entry {
         }
     }
 
-    /// Writes an item of an array that is there.
+    // Writes an item of an array that is there.
     pub fn put_item(&mut self, i: usize, number: i64)
-        requires { i < length (items_of (held self.old)) }
-        ensures { held self.new ≡ Some (Array (with_item (items_of (held self.old)) i number)) }
+        requires { i < length (items_of (entry_content self.old)) }
+        ensures { entry_content self.new ≡ Some (Array (with_item (items_of (entry_content self.old)) i number)) }
     {
         match self {
             Entry::Array(items) => items.0[i] = number,
@@ -62,9 +62,9 @@ impl Entry {
         }
     }
 
-    /// Writes values over an array's first items. What isn't an array becomes an empty one.
+    // Writes values over an array's first items. What isn't an array becomes an empty one.
     pub fn set_front(&mut self, alloc: Global, values: &[Value])
-        ensures { held self.new ≡ Some (Array (with_front (items_of (held self.old)) values.now)) }
+        ensures { entry_content self.new ≡ Some (Array (with_front (items_of (entry_content self.old)) values.now)) }
     {
         match self {
             Entry::Array(items) => fill_items(&mut items.0, values),

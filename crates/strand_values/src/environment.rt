@@ -8,7 +8,7 @@ ghost use Rattle.serial_meaning.specs.declared.event.FaultKind.{FaultKind};
 ghost use Rattle.serial_meaning.specs.declared.value.Value.TheVariants.{Int};
 ghost use Rattle.strand_values.specs.declared.evaluation_error.EvaluationError.TheVariants.{Fault};
 ghost use Rattle.strand_values.specs.Changes.{assigned, called_with};
-ghost use Rattle.strand_values.specs.Environments.{EnvironmentView, FindsExpression, FindsArguments, FindsName, IsOwnSlot, held, with_filled, with_variables, with_what};
+ghost use Rattle.strand_values.specs.Environments.{EnvironmentView, FindsExpression, FindsArguments, FindsName, IsOwnSlot, entry_content, with_filled, with_variables, with_optional_content};
 ghost use Rattle.strand_values.specs.Gives.{Calculates, integer_result, holding};
 
 use crate::entry::Entry;
@@ -305,8 +305,8 @@ impl Environment {
     #[inline(always)]
     fn put(&mut self, slot: usize, entry: Entry)
         requires there { IsOwnSlot self.old.names slot }
-        requires some { IsSome (held entry) }
-        ensures { (name : List ℕ) → slot_in self.old.names name ≡ Some slot → self.new ≡ with_variables self.old (with_what self.old.variables name (held entry)) }
+        requires some { IsSome (entry_content entry) }
+        ensures { (name : List ℕ) → slot_in self.old.names name ≡ Some slot → self.new ≡ with_variables self.old (with_optional_content self.old.variables name (entry_content entry)) }
     {
         self.filled = with_filled(
             mem::replace(&mut self.filled, KnownList::none()),
@@ -320,7 +320,7 @@ impl Environment {
 // The slots in the order in which they were filled, once this one is.
 #[inline(always)]
 fn with_filled(filled: KnownList<usize>, entry: &Entry, slot: usize) -> KnownList<usize>
-    ensures { result.items ≡ with_filled filled.items slot (held entry.now) }
+    ensures { result.items ≡ with_filled filled.items slot (entry_content entry.now) }
 {
     if entry.is_vacant() {
         filled.with(&slot)

@@ -3,7 +3,7 @@
 ghost use Rattle.std.specs.Prelude.{◌≡◌, IfSome, Ok};
 ghost use Rattle.serial_meaning.specs.Values.{content_of, scalar, as_integer, items_of, at_index};
 ghost use Rattle.serial_meaning.specs.declared.value.Value.TheVariants.{Int};
-ghost use Rattle.strand_values.specs.Environments.{FindsName, held};
+ghost use Rattle.strand_values.specs.Environments.{FindsName, entry_content};
 ghost use Rattle.strand_values.specs.Gives.{Calculates};
 
 use crate::entry::Entry;
@@ -17,7 +17,7 @@ impl Environment {
     #[inline(always)]
     pub(crate) fn entry(&self, slots: &[u16], name: &Name) -> &Entry
         requires { FindsName slots.now self.now name.now }
-        ensures { held result.now ≡ content_of self.now.variables name.now.bytes }
+        ensures { entry_content result.now ≡ content_of self.now.variables name.now.bytes }
     {
         &self.entries[slots[name.at as usize] as usize]
     }

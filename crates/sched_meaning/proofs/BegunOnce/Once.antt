@@ -8,9 +8,9 @@ use Rattle.strand_meaning.specs.Clear.{IsClearPlan}
 use Rattle.strand_meaning.specs.Task.{Task, start, Stop, Spawn, Wait, End}
 use Rattle.strand_meaning.specs.Sound.{IsTask}
 use Rattle.strand_meaning.proofs.SoundSteps.StepsKeepTasks.{tasks_begin}
-use Rattle.sched_meaning.specs.Core.{Worker, Core, gone_on, current_tasks, tasks_of, all_tasks, origins_of, answered, IsAnswered}
+use Rattle.sched_meaning.specs.Core.{Worker, Core, resumed_task, current_tasks, tasks_of, all_tasks, origins_of, answered, IsAnswered}
 use Rattle.sched_meaning.specs.Same.{same_origin}
-use Rattle.sched_meaning.specs.Sound.{StandsOnce}
+use Rattle.sched_meaning.specs.Sound.{OccursOnce}
 use Rattle.sched_meaning.proofs.Segments.Weights.{next, next-comes, FewerAfter, after-stop, weight, stop_weight, weight-stop}
 use Rattle.sched_meaning.proofs.Segments.Counted.{nothing, segments, at-least-one}
 use Rattle.sched_meaning.proofs.BegunOnce.Regions.{Region, not-own, AreApart, StopRegion, stop-region, on-region}
@@ -51,9 +51,9 @@ module _ (q : Origin) where
   module _ (t : Task) (is : IsTask t) (idle : t.waiting ≡ false) where
     by-stop : (n k : ℕ) (stop : Stop) → Within n → StopRegion t stop → FewerAfter t.plan t.origin k stop → segments t ≡ stop_weight 1 nothing stop → begins t ≡ stop_weight 0 (is_it q) stop → segments t ≤ suc n → AtMostOnce t
     by-stop n k (End out ended) go r b e f s = inl f
-    by-stop n k (Wait rest) go r b e f s = from (go (gone_on rest) b.0.task b.0.idle (omega arith))
+    by-stop n k (Wait rest) go r b e f s = from (go (resumed_task rest) b.0.task b.0.idle (omega arith))
       where
-        from : AtMostOnce (gone_on rest) → AtMostOnce t
+        from : AtMostOnce (resumed_task rest) → AtMostOnce t
         from (inl x) = inl (omega arith)
         from (inr x) = inr (omega (arith, x.0), r q (on-region rest q x.1))
     by-stop n k (Spawn child rest) go r b e f s =
@@ -97,7 +97,7 @@ one-place q (o ∷ os) (suc j) zero h a b =
     let e : is_it q o ≡ 1 = ap (is_it q) (some-one o q b) ∙ is-it q in let f : is_it q q ≤ total (is_it q) os = get-total (is_it q) os j q a in let g : is_it q q ≡ 1 = is-it q in absurd (omega arith)
 one-place q (o ∷ os) (suc j) (suc k) h a b = ap suc (one-place q os j k (omega arith) a b)
 
-stands-once : (q : Origin) (os : List Origin) → total (is_it q) os ≡ 1 → StandsOnce q os
+stands-once : (q : Origin) (os : List Origin) → total (is_it q) os ≡ 1 → OccursOnce q os
 stands-once q os h =
     let s = find-some (is_it q) os 0 h in
     let there : slice_get os s.at ≡ Some q = s.there ∙ ap (λ x. Some x) (sym (is-that q s.value s.more s.is)) in
@@ -131,7 +131,7 @@ module _ (plan : PlanView) (c : Core) (is : IsKept plan [] c) (clear : IsClearPl
       sums : {i j k l : ℕ} → i ≡ j → k ≡ l → i + k ≡ j + l
       sums e f = omega arith
 
-  pub placed : (q : Origin) → Contains c.begun q → (IsAnswered c q → ⊥) → StandsOnce q (origins_of (all_tasks c))
+  pub placed : (q : Origin) → Contains c.begun q → (IsAnswered c q → ⊥) → OccursOnce q (origins_of (all_tasks c))
   placed q begun not_yet = stands-once q (origins_of (all_tasks c)) (by_answer (answered-or c q))
     where
       whole : total (is_it q) (origins_of (all_tasks c)) ≡ total (load (by_origin (is_it q))) c.workers

@@ -18,7 +18,7 @@ use Rattle.strand_meaning.specs.Rest.{evaluations}
 use Rattle.strand_meaning.specs.Sound.{IsEndOf, IsSoundRemaining, IsTask}
 use Rattle.strand_meaning.specs.Laws.{IsSoundStep}
 use Rattle.strand_meaning.proofs.SoundSteps.StepsKeepTasks.{steps_are_sound}
-use Rattle.sched_meaning.specs.Core.{gone_on}
+use Rattle.sched_meaning.specs.Core.{resumed_task}
 use Rattle.sched_meaning.proofs.BegunOnce.Presents.{longer, same-rank, From, AfterLevels, AfterScopes, OnwardAt, Onward, onward-lower, onward-apart, onward-below, unmerged, child-unmerged, MovesOn, moves-on}
 use Rattle.sched_meaning.proofs.BegunOnce.Shows.{children, AtMostOne, MoveStarts, strand_at, move_starts}
 use Rattle.sched_meaning.proofs.BegunOnce.Starts.{first, child-first}
@@ -57,7 +57,7 @@ StageRegion w (Ended e) q = ⊥
 abbrev pub RemainingRegion : Origin → Remaining → Origin → Type 0
 RemainingRegion o (Splits left) q = IsShorter (path_of o) left q ⊎ Between (path_of o) left q
 RemainingRegion o (Runs stage) q = StageRegion (path_of (own_instance o)) stage q
-RemainingRegion o (Finished v gone_on) q = ⊥
+RemainingRegion o (Finished v resumed_task) q = ⊥
 
 abbrev pub Region : Task → Origin → Type 0
 Region t q = RemainingRegion t.origin t.remaining q
@@ -348,7 +348,7 @@ module _ (w : List ℕ) (q : Origin) where
   resumed-region (AtLoop m) h = h
   resumed-region (Ended e) h = absurd h
 
-pub on-region : (t : Task) (q : Origin) → Region (gone_on t) q → Region t q
+pub on-region : (t : Task) (q : Origin) → Region (resumed_task t) q → Region t q
 on-region t q h = by_remaining t.remaining h
   where
     by_remaining : (remaining : Remaining) → RemainingRegion t.origin (resumed_remaining t.trace.unmerged (evaluations (eval t.plan) t.trace.unmerged) remaining) q → RemainingRegion t.origin remaining q

@@ -6,7 +6,7 @@ use Rattle.serial_meaning.specs.Eval.{main_origin}
 use Rattle.serial_meaning.specs.declared.origin.Origin.{Origin}
 use Rattle.strand_meaning.specs.Task.{Task, start, Spawn, Wait, End}
 use Rattle.strand_meaning.proofs.NextStops.OneSoundStop.{stops_keep_origins}
-use Rattle.sched_meaning.specs.Core.{Worker, Core, free_worker, first_worker, new_core, gone_on, IsAnswered, IsRootAnswered, IsReady}
+use Rattle.sched_meaning.specs.Core.{Worker, Core, free_worker, first_worker, new_core, resumed_task, IsAnswered, IsRootAnswered, IsReady}
 use Rattle.sched_meaning.specs.Steps.{Step, Leads, Happens}
 use Rattle.sched_meaning.specs.declared.event.CoreEvent.TheVariants.{Run, Steal, Look}
 use Rattle.sched_meaning.proofs.OneCore.OneStep.{some-one}
@@ -29,7 +29,7 @@ module _ (plan : PlanView) (s : OneChild plan) where
   child_answer = record { plan = s.rest.plan; origin = s.child; out = s.own_events; outcome = s.childs_end }
 
   abbrev root_answer : AnswerView
-  root_answer = record { plan = (gone_on s.waiting).plan; origin = (gone_on s.waiting).origin; out = s.out; outcome = s.ended }
+  root_answer = record { plan = (resumed_task s.waiting).plan; origin = (resumed_task s.waiting).origin; out = s.out; outcome = s.ended }
 
   abbrev c0 : Core
   c0 = new_core plan 2
@@ -47,7 +47,7 @@ module _ (plan : PlanView) (s : OneChild plan) where
   c5 = core (worker None [] []) (worker None [] (s.waiting ∷ [])) both (child_answer ∷ []) 3
 
   abbrev c6 : Core
-  c6 = core (worker None [] []) (worker (Some (gone_on s.waiting)) [] []) both (child_answer ∷ []) 3
+  c6 = core (worker None [] []) (worker (Some (resumed_task s.waiting)) [] []) both (child_answer ∷ []) 3
 
   abbrev c7 : Core
   c7 = core (worker None [] []) (worker None [] []) both (child_answer ∷ root_answer ∷ []) 4
@@ -136,7 +136,7 @@ module _ (plan : PlanView) (s : OneChild plan) where
     happens = inl (record {
       task = s.waiting;
       ready = ready;
-      resumes = record { worker = worker None [] (s.waiting ∷ []); after = worker (Some (gone_on s.waiting)) [] []; there = refl; does = record { free = refl; there = refl; after = refl }; next_is = refl };
+      resumes = record { worker = worker None [] (s.waiting ∷ []); after = worker (Some (resumed_task s.waiting)) [] []; there = refl; does = record { free = refl; there = refl; after = refl }; next_is = refl };
     });
   }
 
@@ -144,10 +144,10 @@ module _ (plan : PlanView) (s : OneChild plan) where
   step7 = record {
     unanswered = not-root;
     happens = record {
-      task = gone_on s.waiting;
+      task = resumed_task s.waiting;
       stop = End s.out s.ended;
       moved = record c6 { workers = worker None [] [] ∷ worker None [] [] ∷ [] };
-      runs = record { worker = worker (Some (gone_on s.waiting)) [] []; after = worker None [] []; there = refl; does = record { current = refl; comes = s.ends; after = refl }; next_is = refl };
+      runs = record { worker = worker (Some (resumed_task s.waiting)) [] []; after = worker None [] []; there = refl; does = record { current = refl; comes = s.ends; after = refl }; next_is = refl };
       next_is = refl;
     };
   }

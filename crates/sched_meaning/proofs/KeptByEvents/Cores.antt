@@ -9,9 +9,9 @@ use Rattle.strand_meaning.proofs.ClearPlans.ClearOfValid.{clear_of_valid}
 use Rattle.sched_meaning.specs.Core.{Core, all_tasks, origins_of, IsAnswered, IsRootAnswered}
 use Rattle.sched_meaning.specs.Segments.{IsSegments}
 use Rattle.sched_meaning.specs.Steps.{Leads}
-use Rattle.sched_meaning.specs.Sound.{AreEvaluations, IsLively, StandsOnce}
+use Rattle.sched_meaning.specs.Sound.{AreEvaluations, IsLively, OccursOnce}
 use Rattle.sched_meaning.specs.declared.event.CoreEvent.{CoreEvent}
-use Rattle.sched_meaning.proofs.Segments.Counted.{nothing, segments, main-comes, segments_are_one}
+use Rattle.sched_meaning.proofs.Segments.Counted.{nothing, segments, main-comes, segments_are_unique}
 use Rattle.sched_meaning.proofs.BegunOnce.Begun.{each-all}
 use Rattle.sched_meaning.proofs.KeptByEvents.Kept.{IsKept, IsAnswerOf, leads-keep}
 use Rattle.sched_meaning.proofs.WorkGoesOn.Lively.{lively}
@@ -25,7 +25,7 @@ module _ (plan : PlanView) (workers : ℕ) (events : List CoreEvent) (c : Core) 
   answers-are = each-all (IsAnswerOf plan) c.answers kept.answers
 
   pub runs-within : (n : ℕ) → IsSegments plan n → c.runs ≤ n
-  runs-within n is = within _ _ (kept.left 1 nothing) (segments_are_one (start plan (main_origin plan)) _ n (main-comes plan valid) is)
+  runs-within n is = within _ _ (kept.left 1 nothing) (segments_are_unique (start plan (main_origin plan)) _ n (main-comes plan valid) is)
     where
       within : (b r : ℕ) → 1 * c.runs + (b + r) ≡ 0 + segments (start plan (main_origin plan)) → segments (start plan (main_origin plan)) ≡ n → c.runs ≤ n
       within b r e f = omega arith
@@ -36,5 +36,5 @@ module _ (plan : PlanView) (workers : ℕ) (events : List CoreEvent) (c : Core) 
   pub begun-once : (o : Origin) (j k : ℕ) → slice_get c.begun j ≡ Some o → slice_get c.begun k ≡ Some o → j ≡ k
   begun-once = never-twice plan c kept (clear_of_valid plan valid)
 
-  pub stands : (o : Origin) → Contains c.begun o → (IsAnswered c o → ⊥) → StandsOnce o (origins_of (all_tasks c))
+  pub stands : (o : Origin) → Contains c.begun o → (IsAnswered c o → ⊥) → OccursOnce o (origins_of (all_tasks c))
   stands = placed plan c kept (clear_of_valid plan valid)

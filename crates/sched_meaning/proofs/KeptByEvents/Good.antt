@@ -11,7 +11,7 @@ use Rattle.strand_meaning.proofs.SoundSteps.StepsKeepTasks.{tasks_begin}
 use Rattle.strand_meaning.proofs.NextStops.StopsLeaveFewer.{stops_fall}
 use Rattle.strand_meaning.proofs.NextStops.OneSoundStop.{stops_are_sound, stops_keep_origins}
 use Rattle.strand_meaning.proofs.TakenAnswers.AnswersKeepTasks.{answers_keep_tasks, none-unmerged}
-use Rattle.sched_meaning.specs.Core.{Worker, awaited, gone_on}
+use Rattle.sched_meaning.specs.Core.{Worker, awaited, resumed_task}
 use Rattle.sched_meaning.specs.Steps.{after_stop, WorkerPops, WorkerGives, WorkerTakes, WorkerResumes, WorkerPasses}
 use Rattle.sched_meaning.proofs.BegunOnce.Starts.{IsSmaller, StartsBeforeStop, stops_start, children_in}
 use Rattle.sched_meaning.proofs.BegunOnce.Changing.{Each, each-append, each-front, each-back, each-map, each-get, each-remove}
@@ -57,7 +57,7 @@ module _ (plan : PlanView) where
   pub begin-going : (begun : List Origin) (t : Task) (child : Origin) → IsTask t → t.plan ≡ plan → IsOriginOf t.plan child → IsRunning plan begun (start t.plan child)
   begin-going begun t child is same known = (record { task = tasks_begin t.plan child known is.clear; plan_is = same; children = tt }, refl)
 
-  pub goes-on : (begun : List Origin) (t : Task) → IsStalled plan begun t → IsRunning plan begun (gone_on t)
+  pub goes-on : (begun : List Origin) (t : Task) → IsStalled plan begun t → IsRunning plan begun (resumed_task t)
   goes-on begun t is = (
     record {
       task = answers_keep_tasks t is.0.task;

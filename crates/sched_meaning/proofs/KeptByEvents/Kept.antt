@@ -8,7 +8,7 @@ use Rattle.serial_meaning.specs.declared.origin.Origin.{Origin}
 use Rattle.strand_meaning.specs.Clear.{IsClearPlan}
 use Rattle.strand_meaning.specs.Task.{Task, start, Stop, Spawn, Wait, End, IsNext}
 use Rattle.strand_meaning.proofs.SoundSteps.StepsKeepTasks.{tasks_begin}
-use Rattle.sched_meaning.specs.Core.{Worker, Core, free_worker, new_core, gone_on, answered}
+use Rattle.sched_meaning.specs.Core.{Worker, Core, free_worker, new_core, resumed_task, answered}
 use Rattle.sched_meaning.specs.Steps.{after_stop, WorkerRuns, WorkerPops, WorkerGives, WorkerTakes, WorkerResumes, WorkerPasses, Changes, recorded, Happens, Step, Leads}
 use Rattle.sched_meaning.specs.Steps as steps
 use Rattle.sched_meaning.specs.declared.event.CoreEvent.{CoreEvent}
@@ -181,7 +181,7 @@ module _ (plan : PlanView) where
       root = is.root;
       answers = is.answers;
       same = λ h. same (total h c.begun) (total h (answered c)) (before (by_origin h)) (load_after (by_origin h) (Wait rest)) (h t.origin) (h rest.origin) (is.same h) (sums (by_origin h) (Wait rest)) (ap h l.1);
-      left = λ a h. left a (total h c.begun) (before (weight a h)) (load_after (weight a h) (Wait rest)) (weight a h t) (weight a h (gone_on rest)) (a * c.runs) (a * (c.runs + 1)) (all a h) (is.left a h) (sums (weight a h) (Wait rest)) (weighs a h (Wait rest) n) (times-more a c.runs);
+      left = λ a h. left a (total h c.begun) (before (weight a h)) (load_after (weight a h) (Wait rest)) (weight a h t) (weight a h (resumed_task rest)) (a * c.runs) (a * (c.runs + 1)) (all a h) (is.left a h) (sums (weight a h) (Wait rest)) (weighs a h (Wait rest) n) (times-more a c.runs);
     }
       where
         same : (b x y z u v : ℕ) → b ≡ x + (y + 0) → z + u ≡ y + v → v ≡ u → b ≡ x + (z + 0)

@@ -1,8 +1,8 @@
 -- An event leads to one core at most.
 use Rattle.std.proofs.Common.{◌≡◌, ℕ, List, [], ◌∷◌, ◌++◌, Some, slice_set, remove, inl, inr, refl, sym, ap, ◌∙◌, subst}
 use Rattle.strand_meaning.specs.Task.{Task, Stop, IsNext}
-use Rattle.strand_meaning.proofs.NextStops.OneSoundStop.{stops_are_one}
-use Rattle.sched_meaning.specs.Core.{Worker, Core, gone_on, IsReady}
+use Rattle.strand_meaning.proofs.NextStops.OneSoundStop.{stops_are_unique}
+use Rattle.sched_meaning.specs.Core.{Worker, Core, resumed_task, IsReady}
 use Rattle.sched_meaning.specs.Steps.{after_stop, WorkerRuns, WorkerPops, WorkerGives, WorkerTakes, WorkerResumes, WorkerPasses, Changes, recorded, ReachesStop, Steals, Resumes, StaysStalled, Happens, Step}
 use Rattle.sched_meaning.specs.declared.event.CoreEvent.{CoreEvent}
 use Rattle.sched_meaning.specs.declared.event.CoreEvent.TheVariants.{Run, Pop, Steal, Look, Idle}
@@ -30,7 +30,7 @@ runs-task : (t u : Task) (s r : Stop) (w a b : Worker) → WorkerRuns t s w a �
 runs-task t u s r w a b p q = some-one t u (sym p.current ∙ q.current)
 
 runs-stop : (t u : Task) (s r : Stop) (w a b : Worker) → WorkerRuns t s w a → WorkerRuns u r w b → s ≡ r
-runs-stop t u s r w a b p q = stops_are_one u s r (subst (λ x. IsNext x s) (runs-task t u s r w a b p q) p.comes) q.comes
+runs-stop t u s r w a b p q = stops_are_unique u s r (subst (λ x. IsNext x s) (runs-task t u s r w a b p q) p.comes) q.comes
 
 runs-one : (t u : Task) (s r : Stop) (w a b : Worker) → WorkerRuns t s w a → WorkerRuns u r w b → a ≡ b
 runs-one t u s r w a b p q = p.after ∙ ap (λ x. after_stop x w) (runs-stop t u s r w a b p q) ∙ sym q.after
@@ -55,7 +55,7 @@ takes-one t u e w a b p q = p.after ∙ ap (λ x. record w { current = Some x })
 
 resumes-one : (k : ℕ) (t u : Task) (w a b : Worker) → WorkerResumes k t w a → WorkerResumes k u w b → a ≡ b
 resumes-one k t u w a b p q =
-    p.after ∙ ap (λ x. record w { current = Some (gone_on x); stalled = remove w.stalled k }) (some-one t u (sym p.there ∙ q.there)) ∙ sym q.after
+    p.after ∙ ap (λ x. record w { current = Some (resumed_task x); stalled = remove w.stalled k }) (some-one t u (sym p.there ∙ q.there)) ∙ sym q.after
 
 passes-one : (k : ℕ) (t u : Task) (w a b : Worker) → WorkerPasses k t w a → WorkerPasses k u w b → a ≡ b
 passes-one k t u w a b p q = p.after ∙ ap (λ x. record w { stalled = remove w.stalled k ++ x ∷ [] }) (some-one t u (sym p.there ∙ q.there)) ∙ sym q.after
@@ -112,5 +112,5 @@ happens-one (Look w k) c x y (inr p) (inl q) = absurd (not-both w k c y x q p)
 happens-one (Look w k) c x y (inr p) (inr q) = pass-one w k c x y p q
 happens-one (Idle w) c x y p q = p.next_is ∙ sym q.next_is
 
-pub steps_are_one : (e : CoreEvent) (c next other : Core) → Step e c next → Step e c other → next ≡ other
-steps_are_one e c next other p q = happens-one e c next other p.happens q.happens
+pub steps_are_unique : (e : CoreEvent) (c next other : Core) → Step e c next → Step e c other → next ≡ other
+steps_are_unique e c next other p q = happens-one e c next other p.happens q.happens

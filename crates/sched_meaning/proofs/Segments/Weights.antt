@@ -11,25 +11,25 @@ use Rattle.strand_meaning.specs.Task.{Task, start, Stop, Spawn, Wait, End, IsNex
 use Rattle.strand_meaning.specs.Left.{stops_left}
 use Rattle.strand_meaning.specs.Sound.{IsTask}
 use Rattle.strand_meaning.specs.Laws.{IsSoundStop, KeepsOrigin, LeavesFewer}
-use Rattle.strand_meaning.proofs.NextStops.TasksReachStops.{stops_come}
+use Rattle.strand_meaning.proofs.NextStops.TasksReachStops.{stops_exist}
 use Rattle.strand_meaning.proofs.SoundSteps.StepsKeepTasks.{tasks_begin}
 use Rattle.strand_meaning.proofs.NextStops.StopsLeaveFewer.{stops_fall, answers_leave_no_more}
-use Rattle.strand_meaning.proofs.NextStops.OneSoundStop.{stops_are_one, stops_are_sound, stops_keep_origins}
+use Rattle.strand_meaning.proofs.NextStops.OneSoundStop.{stops_are_unique, stops_are_sound, stops_keep_origins}
 use Rattle.strand_meaning.proofs.TakenAnswers.AnswersKeepTasks.{answers_keep_tasks}
-use Rattle.sched_meaning.specs.Core.{gone_on}
+use Rattle.sched_meaning.specs.Core.{resumed_task}
 use Rattle.sched_meaning.proofs.BegunOnce.Starts.{size_of, IsSmaller, StartsBeforeStop, stops_start}
 
 -- the stop that a task comes to
 pub next : Task → Stop
-next t = (stops_come t).0
+next t = (stops_exist t).0
 
 pub next-comes : (t : Task) → IsNext t (next t)
 unfolding next
-next-comes t = (stops_come t).1
+next-comes t = (stops_exist t).1
 
 next-is : (t : Task) (stop : Stop) → IsNext t stop → next t ≡ stop
 unfolding next
-next-is t stop n = stops_are_one t (stops_come t).0 stop (stops_come t).1 n
+next-is t stop n = stops_are_unique t (stops_exist t).0 stop (stops_exist t).1 n
 
 -- A task on which the laws of stops can be used: of this origin of the plan, and in no wait.
 pub record IsAt (plan : PlanView) (o : Origin) (t : Task) : Type 0 where
@@ -41,7 +41,7 @@ pub record IsAt (plan : PlanView) (o : Origin) (t : Task) : Type 0 where
 -- what holds after a stop
 abbrev pub FewerAfter : PlanView → Origin → ℕ → Stop → Type 0
 FewerAfter plan o n (Spawn c t) = IsOriginOf plan c × IsSmaller plan o c × IsAt plan o t × (stops_left t < n)
-FewerAfter plan o n (Wait t) = IsAt plan o (gone_on t) × (stops_left (gone_on t) < n)
+FewerAfter plan o n (Wait t) = IsAt plan o (resumed_task t) × (stops_left (resumed_task t) < n)
 FewerAfter plan o n (End out ended) = Unit {0}
 
 pub after-stop : (plan : PlanView) (o : Origin) (t : Task) (stop : Stop) → IsAt plan o t → IsNext t stop → FewerAfter plan o (stops_left t) stop
@@ -55,7 +55,7 @@ after-stop plan o t stop at n = from stop (stops_are_sound t stop at.task n) (st
       fewer.0,
     )
     from (Wait r) sound same fewer starts =
-        let more : stops_left (gone_on r) ≤ stops_left r = answers_leave_no_more r sound fewer.1 in
+        let more : stops_left (resumed_task r) ≤ stops_left r = answers_leave_no_more r sound fewer.1 in
         (record { task = answers_keep_tasks r sound; idle = refl; plan_is = same.0 ∙ at.plan_is; origin_is = same.1 ∙ at.origin_is }, less more fewer.0)
       where
         less : {a b c : ℕ} → a ≤ b → b < c → a < c
@@ -66,7 +66,7 @@ module _ (a : ℕ) (h : Origin → ℕ) where
   -- this stop, and what comes after it
   abbrev with_stop : (Origin → ℕ) → (Task → ℕ) → Stop → ℕ
   with_stop child rest (Spawn o t) = a + (h o + (child o + rest t))
-  with_stop child rest (Wait t) = a + rest (gone_on t)
+  with_stop child rest (Wait t) = a + rest (resumed_task t)
   with_stop child rest (End out ended) = a
 
   -- within so many stops of its own, where its children weigh so much
@@ -115,7 +115,7 @@ module _ (a : ℕ) (h : Origin → ℕ) where
           where
             cong : {i j k l : ℕ} → i ≡ j → k ≡ l → a + (h c + (i + k)) ≡ a + (h c + (j + l))
             cong p q = omega arith
-        by_stop (Wait u) b later = ap (λ n. a + n) (later (gone_on u) b.0 (omega (arith, b.1)) (omega (arith, b.1)))
+        by_stop (Wait u) b later = ap (λ n. a + n) (later (resumed_task u) b.0 (omega (arith, b.1)) (omega (arith, b.1)))
         by_stop (End out ended) b later = refl
 
     begun : (o : Origin) → IsOriginOf plan o → IsAt plan o (start plan o)
@@ -169,7 +169,7 @@ module _ (a : ℕ) (h : Origin → ℕ) where
   -- what a stop and what it leaves weigh
   abbrev pub stop_weight : Stop → ℕ
   stop_weight (Spawn child rest) = a + (h child + (weight (start rest.plan child) + weight rest))
-  stop_weight (Wait rest) = a + weight (gone_on rest)
+  stop_weight (Wait rest) = a + weight (resumed_task rest)
   stop_weight (End out ended) = a
 
   pub weight-stop : (t : Task) (stop : Stop) → IsTask t → t.waiting ≡ false → IsNext t stop → weight t ≡ stop_weight stop
@@ -190,5 +190,5 @@ module _ (a : ℕ) (h : Origin → ℕ) where
         where
           two : (x y z w : ℕ) → x ≡ y → z ≡ w → a + (h c + (x + z)) ≡ a + (h c + (y + w))
           two x y z w e k = omega arith
-      by_stop (Wait u) b = ap (λ n. a + n) (stops-enough t.plan t.origin (gone_on u) (stops_left t) is.clear b.0 b.1)
+      by_stop (Wait u) b = ap (λ n. a + n) (stops-enough t.plan t.origin (resumed_task u) (stops_left t) is.clear b.0 b.1)
       by_stop (End out ended) b = refl

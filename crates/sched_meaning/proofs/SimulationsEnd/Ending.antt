@@ -120,6 +120,6 @@ module _ (plan : PlanView) (workers number : ℕ) where
   answers-within zero k c small led is open_yet = let l = lively plan c is open_yet in let less : work_left l.next < work_left c = work_falls plan l.event c l.next is l.step l.fruitful in absurd (omega arith)
   answers-within (suc n) k c small led is open_yet = further k c led is open_yet n small (answers-within n) (picked-next k c led is open_yet)
 
-  pub sim_workers_come : IsValid plan.script → Answers
-  sim_workers_come valid =
+  pub sim_workers_exist : IsValid plan.script → Answers
+  sim_workers_exist valid =
       answers-within (work_left (new_core plan workers)) 0 (new_core plan workers) (omega arith) refl (new-kept plan workers (clear_of_valid plan valid)) (λ h. absurd (omega (arith, h.1)))

@@ -3,7 +3,7 @@ use Rattle.std.proofs.Common.{◌≡◌, ℕ, ◌+◌, ◌<◌, ◌≤◌, inl, 
 use Rattle.serial_meaning.specs.Plan.{PlanView}
 use Rattle.strand_meaning.specs.Task.{Task, Stop, Spawn, Wait, End}
 use Rattle.sched_meaning.specs.Core.{Worker, Core}
-use Rattle.sched_meaning.specs.Sound.{IsFruitful}
+use Rattle.sched_meaning.specs.Sound.{MakesProgress}
 use Rattle.sched_meaning.specs.Steps.{after_stop, WorkerRuns, WorkerPops, WorkerGives, WorkerTakes, WorkerResumes, Changes, recorded, Happens, Step}
 use Rattle.sched_meaning.specs.Steps as steps
 use Rattle.sched_meaning.specs.declared.event.CoreEvent.{CoreEvent}
@@ -85,7 +85,7 @@ runs-fall plan w c next is s =
     let x : total (load segments) next.workers ≡ total (load segments) s.moved.workers = ap (λ l. total (load segments) l) ws in
     let y : total idles next.workers ≡ total idles s.moved.workers = ap (λ l. total idles l) ws in omega arith
 
-fruitful-falls : (plan : PlanView) (e : CoreEvent) (c next : Core) → IsKept plan [] c → Happens e c next → IsFruitful e c → work_left next < work_left c
+fruitful-falls : (plan : PlanView) (e : CoreEvent) (c next : Core) → IsKept plan [] c → Happens e c next → MakesProgress e c → work_left next < work_left c
 fruitful-falls plan (Run w) c next is h f = runs-fall plan w c next is h
 fruitful-falls plan (Pop w) c next is h f = pops-fall w c next h
 fruitful-falls plan (Steal thief victim) c next is h f = steals-fall thief victim c next h
@@ -94,5 +94,5 @@ fruitful-falls plan (Look w k) c next is (inr h) f = absurd (not-both w k c f.0 
 fruitful-falls plan (Idle w) c next is h f = absurd f
 
 -- Each event that goes on with the work leaves less of it.
-pub work_falls : (plan : PlanView) (e : CoreEvent) (c next : Core) → IsKept plan [] c → Step e c next → IsFruitful e c → work_left next < work_left c
+pub work_falls : (plan : PlanView) (e : CoreEvent) (c next : Core) → IsKept plan [] c → Step e c next → MakesProgress e c → work_left next < work_left c
 work_falls plan e c next is s f = fruitful-falls plan e c next is s.happens f

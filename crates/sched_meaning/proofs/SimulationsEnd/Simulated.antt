@@ -5,11 +5,11 @@ use Rattle.dotmix.specs.Words.{seed_word}
 use Rattle.serial_meaning.specs.Plan.{PlanView}
 use Rattle.serial_meaning.specs.Eval.{main_origin}
 use Rattle.sched_meaning.specs.Core.{Core, IsRootAnswered}
-use Rattle.sched_meaning.specs.Simulation.{is_progress, is_choice, all_events, picked_of, picked, PlaysWord, Simulates, IsSimWorker}
+use Rattle.sched_meaning.specs.Simulation.{is_progress, is_choice, all_events, picked_of, picked, StepsByWord, Simulates, IsSimWorker}
 use Rattle.sched_meaning.specs.Steps.{Step}
 use Rattle.sched_meaning.specs.declared.event.CoreEvent.{CoreEvent}
 use Rattle.sched_meaning.specs.declared.event.CoreEvent.TheVariants.{Run}
-use Rattle.sched_meaning.proofs.OneCore.OneStep.{steps_are_one, some-one}
+use Rattle.sched_meaning.proofs.OneCore.OneStep.{steps_are_unique, some-one}
 use Rattle.sched_meaning.proofs.WorkGoesOn.Choosing.{answered-is}
 
 filter-none : {A : Type 0} (test : A → Bool) → ((x : A) → test x ≡ false) → (xs : List A) → filter test xs ≡ []
@@ -22,7 +22,7 @@ nothing-picked c w a = ap (λ l. picked_of l w) (filter-none (is_choice c) (λ e
 module _ (c x y : Core) where
   matched-one : (o : Option CoreEvent) → MatchOption o (x ≡ c) (λ e. Step e c x) → MatchOption o (y ≡ c) (λ e. Step e c y) → x ≡ y
   matched-one None p q = p ∙ sym q
-  matched-one (Some e) p q = steps_are_one e c x y p q
+  matched-one (Some e) p q = steps_are_unique e c x y p q
 
 module _ (plan : PlanView) (workers number : ℕ) where
   abbrev Led : ℕ → Core → Type 0
@@ -32,7 +32,7 @@ module _ (plan : PlanView) (workers number : ℕ) where
   led-one zero c d p q = p ∙ sym q
   led-one (suc n) c d p q =
       let same : p.0 ≡ q.0 = led-one n p.0 q.0 p.1 q.1 in
-      let goes : PlaysWord number (n + 1) q.0 c = subst (λ (b : Core). PlaysWord number (n + 1) b c) same p.2 in matched-one q.0 c d (picked q.0 (seed_word number (n + 1))) goes q.2
+      let goes : StepsByWord number (n + 1) q.0 c = subst (λ (b : Core). StepsByWord number (n + 1) b c) same p.2 in matched-one q.0 c d (picked q.0 (seed_word number (n + 1))) goes q.2
 
   stays : (n : ℕ) (c : Core) → Led n c → IsRootAnswered c → (m : ℕ) (d : Core) → n ≤ m → Led m d → d ≡ c
   stays n c led a zero d h l = let e : n ≡ 0 = omega arith in led-one 0 d c l (subst (λ k. Led k c) e led)
@@ -55,8 +55,8 @@ module _ (plan : PlanView) (workers number : ℕ) where
   not-before v w p q h =
       let same : q.before ≡ p.after = stays (suc p.steps) p.after (ends-there v p) p.answers q.steps q.before (omega arith) q.so_far in q.unanswered (subst IsRootAnswered (sym same) p.answers)
 
-  pub sim_workers_are_one : (v w : ℕ) → IsSimWorker plan workers number v → IsSimWorker plan workers number w → v ≡ w
-  sim_workers_are_one v w p q = by_tests (nat_lt p.steps q.steps) (nat_lt q.steps p.steps) refl refl
+  pub sim_workers_are_unique : (v w : ℕ) → IsSimWorker plan workers number v → IsSimWorker plan workers number w → v ≡ w
+  sim_workers_are_unique v w p q = by_tests (nat_lt p.steps q.steps) (nat_lt q.steps p.steps) refl refl
     where
       by_tests : (a b : Bool) → nat_lt p.steps q.steps ≡ a → nat_lt q.steps p.steps ≡ b → v ≡ w
       by_tests true b s t = absurd (not-before v w p q (grind (arith, nat_tests)))

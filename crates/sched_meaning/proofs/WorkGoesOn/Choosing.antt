@@ -5,11 +5,11 @@ use Rattle.std.proofs.lemmas.Bool.Decides.{Decides-eqb}
 use Rattle.serial_meaning.specs.Eval.{main_origin}
 use Rattle.serial_meaning.specs.declared.origin.Origin.{Origin}
 use Rattle.strand_meaning.specs.Task.{Task}
-use Rattle.strand_meaning.proofs.NextStops.TasksReachStops.{stops_come}
-use Rattle.sched_meaning.specs.Core.{Worker, Core, gone_on, awaited, answered, IsAnswered, IsRootAnswered}
+use Rattle.strand_meaning.proofs.NextStops.TasksReachStops.{stops_exist}
+use Rattle.sched_meaning.specs.Core.{Worker, Core, resumed_task, awaited, answered, IsAnswered, IsRootAnswered}
 use Rattle.sched_meaning.specs.Same.{same_origin}
-use Rattle.sched_meaning.specs.Simulation.{is_answered, is_ready, may_run, is_free, has_task, may_give, may_resume, is_progress, is_choice, stalled_places, all_events, choices}
-use Rattle.sched_meaning.specs.Sound.{IsFruitful}
+use Rattle.sched_meaning.specs.Simulation.{is_answered, is_ready, may_run, is_free, has_task, has_ready, may_resume, is_progress, is_choice, stalled_places, all_events, choices}
+use Rattle.sched_meaning.specs.Sound.{MakesProgress}
 use Rattle.sched_meaning.specs.Steps.{after_stop, WorkerRuns, WorkerPops, WorkerGives, WorkerTakes, WorkerResumes, Changes, recorded, Happens, Step}
 use Rattle.sched_meaning.specs.Steps as steps
 use Rattle.sched_meaning.specs.declared.event.CoreEvent.{CoreEvent}
@@ -127,7 +127,7 @@ answered-all c (o ∷ os) h = true-both (is_answered c o) (list_all (is_answered
 
 -- it may happen, and goes on with the work
 abbrev pub Advances : Core → CoreEvent → Type 0
-Advances c e = (next : Core) × Step e c next × IsFruitful e c
+Advances c e = (next : Core) × Step e c next × MakesProgress e c
 
 record Runner (o : Option Worker) : Type 0 where
   worker : Worker
@@ -163,7 +163,7 @@ record Giver (o : Option Worker) : Type 0 where
   is : o ≡ Some worker
   deque : worker.deque ≡ front ∷ rest
 
-giver : (o : Option Worker) → may_give o ≡ true → Giver o
+giver : (o : Option Worker) → has_ready o ≡ true → Giver o
 giver None h = absurd (cc)
 giver (Some w) h = by_deque w.deque refl h
   where
@@ -193,7 +193,7 @@ not-same n m h = by_test (nat_eq n m) refl
 module _ (c : Core) (unanswered : IsRootAnswered c → ⊥) where
   run-advances : (n : ℕ) → Runner (slice_get c.workers n) → Advances c (Run n)
   run-advances n r =
-      let s = stops_come r.task in
+      let s = stops_exist r.task in
       let after : Worker = after_stop s.0 r.worker in
       let mid : Core = record c { workers = slice_set c.workers n after } in
       let runs : steps.ReachesStop n c (recorded r.task s.0 mid) = record {
@@ -235,7 +235,7 @@ module _ (c : Core) (unanswered : IsRootAnswered c → ⊥) where
       by_task : (t : Option Task) → slice_get f.worker.stalled k ≡ t → is_ready c t ≡ true → Advances c (Look n k)
       by_task None e g = absurd (cc)
       by_task (Some t) e g =
-          let after : Worker = record f.worker { current = Some (gone_on t); stalled = remove f.worker.stalled k } in
+          let after : Worker = record f.worker { current = Some (resumed_task t); stalled = remove f.worker.stalled k } in
           let next : Core = record c { workers = slice_set c.workers n after } in
           let resumes : steps.Resumes n k c next = record {
             task = t;
@@ -245,10 +245,10 @@ module _ (c : Core) (unanswered : IsRootAnswered c → ⊥) where
 
   goes-advances : (e : CoreEvent) → is_progress c e ≡ true → Advances c e
   goes-advances (Run w) h = run-advances w (runner (slice_get c.workers w) h)
-  goes-advances (Pop w) h = let b = both-true (is_free (slice_get c.workers w)) (may_give (slice_get c.workers w)) h in pop-advances w (free-one _ b.0) (giver _ b.1)
+  goes-advances (Pop w) h = let b = both-true (is_free (slice_get c.workers w)) (has_ready (slice_get c.workers w)) h in pop-advances w (free-one _ b.0) (giver _ b.1)
   goes-advances (Steal thief victim) h =
-      let b = both-true (not (nat_eq thief victim)) (is_free (slice_get c.workers thief) && may_give (slice_get c.workers victim)) h in
-      let d = both-true (is_free (slice_get c.workers thief)) (may_give (slice_get c.workers victim)) b.1 in
+      let b = both-true (not (nat_eq thief victim)) (is_free (slice_get c.workers thief) && has_ready (slice_get c.workers victim)) h in
+      let d = both-true (is_free (slice_get c.workers thief)) (has_ready (slice_get c.workers victim)) b.1 in
       steal-advances thief victim (different thief victim b.0) (free-one _ d.0) (giver _ d.1)
   goes-advances (Look w k) h = let b = both-true (is_free (slice_get c.workers w)) (may_resume c k (slice_get c.workers w)) h in look-advances w k (free-one _ b.0) b.1
   goes-advances (Idle w) h = absurd (cc)
@@ -297,16 +297,16 @@ module _ (c : Core) where
 
   pop-listed : (w : ℕ) (next : Core) → steps.Pops w c next → IsListed c (Pop w)
   pop-listed w next s = record {
-    goes = true-both (is_free (slice_get c.workers w)) (may_give (slice_get c.workers w)) (ap is_free s.pops.there ∙ ap (λ o. not (is_some o)) s.pops.does.free)
-        (ap may_give s.pops.there ∙ ap has_task s.pops.does.back ∙ has-task s.pops.after.deque s.task);
+    goes = true-both (is_free (slice_get c.workers w)) (has_ready (slice_get c.workers w)) (ap is_free s.pops.there ∙ ap (λ o. not (is_some o)) s.pops.does.free)
+        (ap has_ready s.pops.there ∙ ap has_task s.pops.does.back ∙ has-task s.pops.after.deque s.task);
     listed = in-front (run_events ++ pop_events ++ steal_events) look_events (Pop w) (in-front (run_events ++ pop_events) steal_events (Pop w) (in-back run_events pop_events (Pop w)
         (in-map (λ w. Pop w) (range_with_len 0 (length c.workers)) w (numbered w s.pops.worker s.pops.there))));
   }
 
   steal-listed : (thief victim : ℕ) (next : Core) → steps.Steals thief victim c next → IsListed c (Steal thief victim)
   steal-listed thief victim next s = record {
-    goes = true-both (not (nat_eq thief victim)) (is_free (slice_get c.workers thief) && may_give (slice_get c.workers victim)) (not-same thief victim s.two)
-        (true-both (is_free (slice_get c.workers thief)) (may_give (slice_get c.workers victim)) (ap is_free there ∙ ap (λ o. not (is_some o)) s.takes.does.free) (ap may_give s.gives.there ∙ ap has_task s.gives.does.front));
+    goes = true-both (not (nat_eq thief victim)) (is_free (slice_get c.workers thief) && has_ready (slice_get c.workers victim)) (not-same thief victim s.two)
+        (true-both (is_free (slice_get c.workers thief)) (has_ready (slice_get c.workers victim)) (ap is_free there ∙ ap (λ o. not (is_some o)) s.takes.does.free) (ap has_ready s.gives.there ∙ ap has_task s.gives.does.front));
     listed = in-front (run_events ++ pop_events ++ steal_events) look_events (Steal thief victim) (in-back (run_events ++ pop_events) steal_events (Steal thief victim)
         (in-flat (λ thief. map (λ victim. Steal thief victim) (range_with_len 0 (length c.workers))) (range_with_len 0 (length c.workers)) thief (Steal thief victim) (numbered thief s.takes.worker there)
         (in-map (λ victim. Steal thief victim) (range_with_len 0 (length c.workers)) victim (numbered victim s.gives.worker s.gives.there))));
@@ -327,7 +327,7 @@ module _ (c : Core) where
       place : IsIn (range_with_len 0 (length s.resumes.worker.stalled)) k
       place = let e : 0 + k ≡ k = omega arith in subst (λ n. IsIn (range_with_len 0 (length s.resumes.worker.stalled)) n) e (in-range 0 (length s.resumes.worker.stalled) k (get-below s.resumes.worker.stalled k s.task s.resumes.does.there))
 
-  event-listed : (e : CoreEvent) (next : Core) → Happens e c next → IsFruitful e c → IsListed c e
+  event-listed : (e : CoreEvent) (next : Core) → Happens e c next → MakesProgress e c → IsListed c e
   event-listed (Run w) next h f = run-listed w next h
   event-listed (Pop w) next h f = pop-listed w next h
   event-listed (Steal thief victim) next h f = steal-listed thief victim next h

@@ -204,5 +204,5 @@ module _ (c : Core) where
   events-distinct : Distinct (runs ++ pops ++ steals ++ looks)
   events-distinct = distinct-append (runs ++ pops ++ steals) looks first-three looks-distinct (λ e a b. (let x : kind e < 3 = three-kind e a in let y : kind e ≡ 3 = looks-kind e b in absurd (omega arith)))
 
-  pub choices_stand_once : (e : CoreEvent) (j k : ℕ) → slice_get (choices c) j ≡ Some e → slice_get (choices c) k ≡ Some e → j ≡ k
-  choices_stand_once e j k a b = one-index (choices c) j k e (distinct-filter (is_choice c) (all_events c) events-distinct) a b
+  pub choices_are_distinct : (e : CoreEvent) (j k : ℕ) → slice_get (choices c) j ≡ Some e → slice_get (choices c) k ≡ Some e → j ≡ k
+  choices_are_distinct e j k a b = one-index (choices c) j k e (distinct-filter (is_choice c) (all_events c) events-distinct) a b

@@ -5,8 +5,8 @@ use Rattle.serial_meaning.specs.Plan.{PlanView}
 use Rattle.serial_meaning.specs.Eval.{depth_left, main_origin}
 use Rattle.serial_meaning.specs.declared.origin.Origin.{Origin}
 use Rattle.strand_meaning.specs.Task.{Task}
-use Rattle.strand_meaning.proofs.NextStops.TasksReachStops.{stops_come}
-use Rattle.sched_meaning.specs.Core.{Worker, Core, current_tasks, gone_on, awaited, answered, IsAnswered, IsRootAnswered, IsReady}
+use Rattle.strand_meaning.proofs.NextStops.TasksReachStops.{stops_exist}
+use Rattle.sched_meaning.specs.Core.{Worker, Core, current_tasks, resumed_task, awaited, answered, IsAnswered, IsRootAnswered, IsReady}
 use Rattle.sched_meaning.specs.Steps.{after_stop, recorded, Resumes}
 use Rattle.sched_meaning.specs.Sound.{IsLively}
 use Rattle.sched_meaning.specs.declared.event.CoreEvent.TheVariants.{Run, Pop, Look}
@@ -29,7 +29,7 @@ has-back t (u ∷ ts) = let b = has-back u ts in record { rest = t ∷ b.rest; l
 module _ (plan : PlanView) (c : Core) (is : IsKept plan [] c) (open_yet : IsRootAnswered c → ⊥) where
   run-lively : (n : ℕ) (w : Worker) (t : Task) → slice_get c.workers n ≡ Some w → w.current ≡ Some t → IsLively c
   run-lively n w t there current =
-      let s = stops_come t in
+      let s = stops_exist t in
       let after : Worker = after_stop s.0 w in
       let mid : Core = record c { workers = slice_set c.workers n after } in
       record {
@@ -67,7 +67,7 @@ module _ (plan : PlanView) (c : Core) (is : IsKept plan [] c) (open_yet : IsRoot
 
   look-lively : (n k : ℕ) (w : Worker) (t : Task) → slice_get c.workers n ≡ Some w → w.current ≡ None → slice_get w.stalled k ≡ Some t → IsReady c t → IsLively c
   look-lively n k w t there free at ready =
-      let after : Worker = record w { current = Some (gone_on t); stalled = remove w.stalled k } in
+      let after : Worker = record w { current = Some (resumed_task t); stalled = remove w.stalled k } in
       let next : Core = record c { workers = slice_set c.workers n after } in
       let resumes : Resumes n k c next = record { task = t; ready = ready; resumes = record { worker = w; after = after; there = there; does = record { free = free; there = at; after = refl }; next_is = refl } } in
       record {
@@ -84,7 +84,7 @@ module _ (plan : PlanView) (c : Core) (is : IsKept plan [] c) (open_yet : IsRoot
   abbrev Smaller : Origin → Type 0
   Smaller o = (child : Origin) → IsOpen child → IsSmaller plan o child → IsLively c
 
-  stalled-lively : (o : Origin) (n : ℕ) (w : Worker) → slice_get c.workers n ≡ Some w → w.current ≡ None → Some_at (λ t. is_it o (gone_on t).origin) w.stalled → Smaller o → IsLively c
+  stalled-lively : (o : Origin) (n : ℕ) (w : Worker) → slice_get c.workers n ≡ Some w → w.current ≡ None → Some_at (λ t. is_it o (resumed_task t).origin) w.stalled → Smaller o → IsLively c
   stalled-lively o n w there free s below = by_ready (all-or (IsChild plan c.begun s.value.origin) c (awaited s.value) is-stalled.0.children)
     where
       is-stalled : IsStalled plan c.begun s.value
@@ -102,7 +102,7 @@ module _ (plan : PlanView) (c : Core) (is : IsKept plan [] c) (open_yet : IsRoot
       by_deque [] free e =
           let a : total (by_origin (is_it o)) (current_tasks w.current) ≡ 0 = ap (λ x. total (by_origin (is_it o)) (current_tasks x)) free in
           let b : total (by_origin (is_it o)) w.deque ≡ 0 = ap (λ l. total (by_origin (is_it o)) l) e in
-          stalled-lively o n w there free (find-some (λ t. is_it o (gone_on t).origin) w.stalled k (omega arith)) below
+          stalled-lively o n w there free (find-some (λ t. is_it o (resumed_task t).origin) w.stalled k (omega arith)) below
 
       by_current : (t : Option Task) → w.current ≡ t → IsLively c
       by_current (Some t) e = run-lively n w t there e

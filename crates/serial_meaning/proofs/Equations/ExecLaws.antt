@@ -22,7 +22,7 @@ use Rattle.script_grammar.specs.declared.tree.Name.{Name}
 use Rattle.serial_meaning.specs.declared.origin.Origin.TheVariants as origin
 use Rattle.serial_meaning.specs.Plan.{PlanView, functions_of}
 use Rattle.serial_meaning.specs.Eval.{Evaluation, serial}
-use Rattle.serial_meaning.specs.Open.{put_off_all}
+use Rattle.serial_meaning.specs.Open.{deferring}
 use Rattle.serial_meaning.specs.Laws.{Equations}
 use Rattle.serial_meaning.specs.declared.origin.Origin.{Origin}
 
@@ -340,5 +340,5 @@ equations how plan path = record {
 pub elision_has_equations : (plan : PlanView) (path : List ℕ) (child : Origin → Evaluation) → Equations (serial child) plan path
 elision_has_equations plan path child = equations (serial child) plan path
 
-pub open_tree_has_equations : (plan : PlanView) (path : List ℕ) (child : Origin → Evaluation) → Equations (put_off_all plan child) plan path
-open_tree_has_equations plan path child = equations (put_off_all plan child) plan path
+pub open_tree_has_equations : (plan : PlanView) (path : List ℕ) (child : Origin → Evaluation) → Equations (deferring plan child) plan path
+open_tree_has_equations plan path child = equations (deferring plan child) plan path

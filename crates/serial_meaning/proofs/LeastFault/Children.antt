@@ -8,7 +8,7 @@ use Rattle.serial_meaning.specs.Functions.{function_at}
 use Rattle.serial_meaning.specs.Plan.{PlanView, functions_of}
 use Rattle.serial_meaning.specs.Exec.{State, strand, goes_out, frame, exec, instance, with_loop_values}
 use Rattle.serial_meaning.specs.Eval.{Evaluation, iteration, path_of}
-use Rattle.serial_meaning.specs.Open.{Item, Happened, Child, Opened, Closed, NodeFault, Own, ChildFaulted, Node, put_off_all, unless_child_faulted, loop_end, is_empty_loop, iterations, gathered, node_with}
+use Rattle.serial_meaning.specs.Open.{Item, Happened, Child, Opened, Closed, NodeFault, Own, ChildFaulted, Node, deferring, unless_child_faulted, loop_end, is_empty_loop, iterations, gathered, node_with}
 use Rattle.serial_meaning.proofs.Equations.RunLaws.{then-then}
 use Rattle.serial_meaning.proofs.RisingPedigrees.Closed.{closed-exec, returned-q}
 use Rattle.serial_meaning.proofs.RisingPedigrees.Closed as Of
@@ -209,7 +209,7 @@ module _ (plan : PlanView) (child : Origin → Evaluation) where
   loop-spread path false (Err f) o s e target h = record { hi = s.rank + 1; up = omega arith; ends = tt; spread = alone path s.rank o h }
 
   -- all children of a scope stand below its rank
-  scope-spread : (path : List ℕ) (s : S) (r : Run Item NodeFault S) → P (path ++ s.rank ∷ []) 0 r → P path s.rank (after_items (Opened (path ++ s.rank ∷ []) ∷ []) r then goes_out (put_off_all plan child) plan path s.rank)
+  scope-spread : (path : List ℕ) (s : S) (r : Run Item NodeFault S) → P (path ++ s.rank ∷ []) 0 r → P path s.rank (after_items (Opened (path ++ s.rank ∷ []) ∷ []) r then goes_out (deferring plan child) plan path s.rank)
   scope-spread path s r h = from r.items r.ending h.hi h.ends h.spread
     where
       here : List ℕ
@@ -222,11 +222,11 @@ module _ (plan : PlanView) (child : Origin → Evaluation) where
       out items = children-append items (Closed here ∷ []) ∙ append-nil (children items)
 
       from : (items : List Item) (e : Result S NodeFault) (hi : ℕ) → EndsAtRank here rank_of 0 hi (children items) e → ChildrenRise here 0 hi (children items) →
-          P path s.rank (continued (Opened here ∷ items) e (goes_out (put_off_all plan child) plan path s.rank))
+          P path s.rank (continued (Opened here ∷ items) e (goes_out (deferring plan child) plan path s.rank))
       from items (Ok a) hi n c = record { hi = s.rank + 1; up = omega arith; ends = refl; spread = rw (out items) (up hi (children items) c) }
       from items (Err e) hi n c = record { hi = s.rank + 1; up = omega arith; ends = stops-under path s.rank (children items) e n; spread = up hi (children items) c }
 
-  rules : Of.Closed (put_off_all plan child) plan P Q
+  rules : Of.Closed (deferring plan child) plan P Q
   rules = record {
     p-done = λ path s. silent path rank_of s.rank [] s refl (omega arith);
     q-done = λ path v s. silent path pair_rank s.rank [] (v, s) refl (omega arith);
@@ -245,17 +245,17 @@ module _ (plan : PlanView) (child : Origin → Evaluation) where
     qq = λ path n r f h k. spread-then path pair_rank pair_rank n r f h k;
   }
 
-  frame-spread : (path : List ℕ) (o : Option Function) (vs : List Value) (s : S) → Q path s.rank (frame (put_off_all plan child) plan path (exec (put_off_all plan child) plan) 0 o vs s)
+  frame-spread : (path : List ℕ) (o : Option Function) (vs : List Value) (s : S) → Q path s.rank (frame (deferring plan child) plan path (exec (deferring plan child) plan) 0 o vs s)
   frame-spread path None vs s = silent path pair_rank s.rank [] _ refl (omega arith)
   frame-spread path (Some f) vs s =
-      spread-then path rank_of pair_rank s.rank _ _ (closed-exec (put_off_all plan child) plan P Q rules path 0 f.body _) (λ a. returned-q (put_off_all plan child) plan P Q rules path f a)
+      spread-then path rank_of pair_rank s.rank _ _ (closed-exec (deferring plan child) plan P Q rules path 0 f.body _) (λ a. returned-q (deferring plan child) plan P Q rules path f a)
 
   abbrev begins : S
   begins = record { env = []; rank = 0; steps = plan.limits.budget; spawned = None }
 
-  instance-spread : (path : List ℕ) (o : Option Function) (vs : List Value) → NodeSpread path (instance (put_off_all plan child) plan path o vs then λ v. done (v ∷ []))
+  instance-spread : (path : List ℕ) (o : Option Function) (vs : List Value) → NodeSpread path (instance (deferring plan child) plan path o vs then λ v. done (v ∷ []))
   instance-spread path o vs =
-      let run : Run Item NodeFault (Value × S) = frame (put_off_all plan child) plan path (exec (put_off_all plan child) plan) 0 o vs begins in
+      let run : Run Item NodeFault (Value × S) = frame (deferring plan child) plan path (exec (deferring plan child) plan) 0 o vs begins in
       subst (NodeSpread path) (sym (then-then run (λ p. done p.0) (λ v. done (v ∷ [])))) (node-from_spread path pair_rank run (λ p. p.0 ∷ []) (frame-spread path o vs begins))
 
 iterations-rise : (function : ℕ) (rest : List Value) (first : ℤ) (path : List ℕ) (k n : ℕ) → ChildrenRise path k (k + n) (iterations function rest first path k n)

@@ -15,7 +15,7 @@ use Rattle.serial_meaning.specs.Values.{value_of}
 use Rattle.serial_meaning.specs.Plan.{PlanView}
 use Rattle.serial_meaning.specs.Exec.{State, Interpretation, fault, statement, exec, function_end, instance}
 use Rattle.serial_meaning.specs.Eval.{Evaluation, serial, eval_below}
-use Rattle.serial_meaning.specs.Open.{Item, Happened, Child, NodeFault, Own, put_off_all, node_of}
+use Rattle.serial_meaning.specs.Open.{Item, Happened, Child, NodeFault, Own, deferring, node_of}
 use Rattle.serial_meaning.specs.Trees.{name_node, number, variable, product, spawn, stated}
 use Rattle.serial_meaning.specs.Examples.{bad, endless_main, endless_body, never_reached, endless_plan, ElisionEndsAtTheChildsFault, OpenTreeHasBothFaults}
 use Rattle.serial_meaning.proofs.Equations.ExecLaws.{exec-cons, exec-nil}
@@ -146,7 +146,7 @@ module _ (n : ℕ) (child : Origin → Evaluation) (faulting : child child_origi
   serial-run = simp (opened_print, opened_spawn, value_of-number, faulting)
 
   abbrev how : Interpretation Item NodeFault (Option Fault)
-  how = put_off_all plan child
+  how = deferring plan child
 
   abbrev third : State (Option Fault)
   third = record { env = variable_is (codes "a") 0 ∷ []; rank = 1; steps = suc n; spawned = Some divided }
@@ -182,7 +182,7 @@ child-evaluation : (n : ℕ) → eval_below (endless_plan n) 3 child_origin ≡ 
 child-evaluation n = ap (λ (r : Run Event Fault Value). r then λ v. done (v ∷ [])) (bad-faults (serial (eval_below (endless_plan n) 2)) n)
 
 child-node : (n : ℕ) → node_of (endless_plan n) child_origin ≡ record { items = []; ending = Err (Own divided) }
-child-node n = ap (λ (r : Run Item NodeFault Value). r then λ v. done (v ∷ [])) (bad-faults (put_off_all (endless_plan n) (eval_below (endless_plan n) 2)) n)
+child-node n = ap (λ (r : Run Item NodeFault Value). r then λ v. done (v ∷ [])) (bad-faults (deferring (endless_plan n) (eval_below (endless_plan n) 2)) n)
 
 pub elision_ends_at_the_childs_fault : ElisionEndsAtTheChildsFault
 elision_ends_at_the_childs_fault n = ap (λ (r : Run Event Fault Value). r then λ v. done (v ∷ [])) (serial-run n (eval_below (endless_plan n) 3) (child-evaluation n))

@@ -11,7 +11,7 @@ use Rattle.serial_meaning.specs.Functions.{function_at}
 use Rattle.serial_meaning.specs.Plan.{PlanView, functions_of}
 use Rattle.serial_meaning.specs.Exec.{State, strand, loop_fits}
 use Rattle.serial_meaning.specs.Eval.{Evaluation, iteration, path_of, eval_with, eval_below, eval, depth_left}
-use Rattle.serial_meaning.specs.Open.{Item, Happened, Child, Opened, Closed, NodeFault, put_off_all, unless_child_faulted, loop_end, is_zero, iterations, gathered, node_with, node_of, own_fault, faults_of, faults_with, faults_below, faults_in, faults}
+use Rattle.serial_meaning.specs.Open.{Item, Happened, Child, Opened, Closed, NodeFault, deferring, unless_child_faulted, loop_end, is_zero, iterations, gathered, node_with, node_of, own_fault, faults_of, faults_with, faults_below, faults_in, faults}
 use Rattle.serial_meaning.proofs.Equations.Each.{Each, each-contained, Parts, instance-each}
 use Rattle.serial_meaning.proofs.LeastFault.Children.{IsAt, children, node-spread}
 use Rattle.serial_meaning.proofs.OriginFaults.Levels.{enough}
@@ -83,7 +83,7 @@ module _ (plan : PlanView) (child : Origin → Evaluation) where
   S = State (Option Fault)
 
   loop-item-fits : (path : List ℕ) (function : ℕ) (vs : List Value) (lo : ℤ) (hi : ℕ) (s : S) → loop_fits plan path hi ≡ true →
-      Each (ItemFits plan) ((put_off_all plan child).loop (Loop function vs lo (strand path s) (record { lo = 0; hi = hi }))).items
+      Each (ItemFits plan) ((deferring plan child).loop (Loop function vs lo (strand path s) (record { lo = 0; hi = hi }))).items
   loop-item-fits path function vs lo hi s h = by_size hi h (is_zero (hi - 0)) refl
     where
       by_size : (n : ℕ) → loop_fits plan path n ≡ true → (b : Bool) → is_zero (n - 0) ≡ b →
@@ -92,7 +92,7 @@ module _ (plan : PlanView) (child : Origin → Evaluation) where
       by_size zero g false e = absurd (cc)
       by_size (suc n) g false e = (rw (longer path s.rank) (below-depth (length path + 2) (length path + 1 + 2) plan.limits.depth g (omega arith)), tt)
 
-  parts : Parts (put_off_all plan child) plan (ItemFits plan)
+  parts : Parts (deferring plan child) plan (ItemFits plan)
   parts = record {
     print = λ path s v. tt;
     draw = λ path s. tt;
@@ -119,7 +119,7 @@ iterations-fit plan function rest first path k (suc n) h =
 
 children-fit : (plan : PlanView) (child : Origin → Evaluation) (o : Origin) → LoopFits plan o → Each (ItemFits plan) (node_with plan child o).items
 children-fit plan child (Instance function args path) h =
-    instance-each (put_off_all plan child) plan (ItemFits plan) (parts plan child) path (function_at (functions_of plan) function) args
+    instance-each (deferring plan child) plan (ItemFits plan) (parts plan child) path (function_at (functions_of plan) function) args
 children-fit plan child (Loop function rest first path range) h = iterations-fit plan function rest first path range.lo (range.hi - range.lo) h
 
 -- its path goes on from the other's

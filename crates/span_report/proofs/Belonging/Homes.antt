@@ -68,11 +68,11 @@ begins-rank front path rank b = from b.0 b.1
 
 pub get-contained : (es : List Event) (n : ℕ) (e : Event) → slice_get es n ≡ Some e → Contains es e
 get-contained [] n e h = absurd (cc)
-get-contained (x ∷ es) zero e h = (zero, omega arith, ap held h)
+get-contained (x ∷ es) zero e h = (zero, omega arith, ap or_first h)
   where
-    held : Option Event → Event
-    held None = x
-    held (Some c) = c
+    or_first : Option Event → Event
+    or_first None = x
+    or_first (Some c) = c
 get-contained (x ∷ es) (suc n) e h = let c = get-contained es n e h in (suc c.0, (let l = c.1 in omega (arith, l)), c.2)
 
 module _ (events : List Event) where
@@ -99,11 +99,11 @@ module _ (events : List Event) where
   meet-below path more h = record { instance = h; first = (more, refl); second = ([], sym (append-nil path)); longest = λ other i b c. begins-length other path c }
 
   some-same : (a b : Event) → Some a ≡ Some b → a ≡ b
-  some-same a b e = ap held e
+  some-same a b e = ap or_first e
     where
-      held : Option Event → Event
-      held None = a
-      held (Some c) = c
+      or_first : Option Event → Event
+      or_first None = a
+      or_first (Some c) = c
 
   pub event-unique : (n : ℕ) (a b : Event) → IsEvent events n a → IsEvent events n b → a ≡ b
   event-unique n a b h k = some-same a b (sym h ∙ k)

@@ -20,11 +20,11 @@ each-back T (x ∷ xs) ys h = each-back T xs ys h.1
 
 pub each-get : (T : Event → Type 0) (es : List Event) (n : ℕ) (e : Event) → Each T es → slice_get es n ≡ Some e → T e
 each-get T [] n e h g = absurd (cc)
-each-get T (x ∷ xs) zero e h g = subst T (ap held g) h.0
+each-get T (x ∷ xs) zero e h g = subst T (ap or_first g) h.0
   where
-    held : Option Event → Event
-    held None = x
-    held (Some c) = c
+    or_first : Option Event → Event
+    or_first None = x
+    or_first (Some c) = c
 each-get T (x ∷ xs) (suc n) e h g = each-get T xs n e h.1 g
 
 -- A list contains what stands after a front of it.

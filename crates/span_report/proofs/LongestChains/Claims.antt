@@ -126,7 +126,7 @@ module _ (all : List Event) (nested : IsClear all (Instance []) [] 0 all) (rise 
       Claim (Instance home) path (rank + 1) es → Claim (Instance home) path rank (event.Spawn (path ++ rank ∷ []) ∷ (child ++ es))
   claim-spawns home path rank child es d inner later from n to m w o under i l t f a h q s =
       subst (λ (v : OpenInstances). After from to home path v under o.begun) (sym (walked_append (walked w e) child es))
-      (later from mid to m (walked_all (walked w e) child) o2 under i (omega (arith, l)) (let z = length-append child es in omega (arith, t, z)) f2 (at-back all (n + 1) mid child es a.1 refl) held (λ p z. silent-none o2 refl p) same)
+      (later from mid to m (walked_all (walked w e) child) o2 under i (omega (arith, l)) (let z = length-append child es in omega (arith, t, z)) f2 (at-back all (n + 1) mid child es a.1 refl) still_holds (λ p z. silent-none o2 refl p) same)
     where
       j : List ℕ
       j = path ++ rank ∷ []
@@ -176,8 +176,8 @@ module _ (all : List Event) (nested : IsClear all (Instance []) [] 0 all) (rise 
       below : AreBelow all (n + 1) mid j
       below k x y u v z = home-begins all j x k y child-is (tail-of path rank (n + 1) mid (Instance j) 0 child d at-child refl k y u v z.numbered) z
 
-      held : Holds all from mid m o2 home
-      held = child-ended all nested rise from n mid m home path rank i f l (omega arith) o1 c.o.within (synced-below all m n home h.synced) g below h1 c.holds.within
+      still_holds : Holds all from mid m o2 home
+      still_holds = child-ended all nested rise from n mid m home path rank i f l (omega arith) o1 c.o.within (synced-below all m n home h.synced) g below h1 c.holds.within
 
       f2 : Fresh all mid path (rank + 1)
       f2 = fresh-after path rank n mid (Instance j) 0 e child refl a.0 d at-child refl f
@@ -190,7 +190,7 @@ module _ (all : List Event) (nested : IsClear all (Instance []) [] 0 all) (rise 
   claim-loops home path rank inner es d turns later from n to m w o under i l t f a h q s =
       subst (λ (v : OpenInstances). After from to home path v under o.begun) (sym (walked_append (walked w e) inner es))
       (subst (λ (k : Begun). After from to home path (walked_all (walked_all (walked w e) inner) es) under k) c.began
-      (later from mid to m (walked_all (walked w e) inner) c.o under i (omega (arith, l)) (let z = length-append inner es in omega (arith, t, z)) f2 (at-back all (n + 1) mid inner es a.1 refl) held
+      (later from mid to m (walked_all (walked w e) inner) c.o under i (omega (arith, l)) (let z = length-append inner es in omega (arith, t, z)) f2 (at-back all (n + 1) mid inner es a.1 refl) still_holds
       (λ p z. silent-loop c.o j p c.holds.looping (past-apart path rank p z)) (λ p z. c.same p (past-rank path rank p z))))
     where
       j : List ℕ
@@ -221,8 +221,8 @@ module _ (all : List Event) (nested : IsClear all (Instance []) [] 0 all) (rise 
       c = turns home path rank from n (n + 1) mid m (walked w e) o1 under i f refl g l (omega arith) refl (fresh-child all n home path rank e i.begins f g refl) at-inner (loop-begun all from (n + 1) m (went_on o) home j refl h1)
           (λ k x y u v z. absurd (omega (arith, u, v))) (λ p z. ap (λ (v : OpenInstances). closed_to p v.top v.under) w1)
 
-      held : Holds all from mid m c.o home
-      held = loop-ended all nested rise from n mid m home path rank i f l (omega arith) c.k c.o g c.turns c.holds
+      still_holds : Holds all from mid m c.o home
+      still_holds = loop-ended all nested rise from n mid m home path rank i f l (omega arith) c.k c.o g c.turns c.holds
 
       f2 : Fresh all mid path (rank + 1)
       f2 = fresh-after path rank n mid Iterations 0 e inner refl a.0 d at-inner refl f
@@ -259,7 +259,7 @@ module _ (all : List Event) (nested : IsClear all (Instance []) [] 0 all) (rise 
       Claim Iterations j k (e ∷ rest ++ es)
   claim-turn j k e rest es d inner later home path rank from c n to m w o under here f q g l u t fr a h turns same =
       subst (λ (v : OpenInstances). AfterTurns from c to home path rank here f m v under o.begun) (sym (ap (λ (v : OpenInstances). walked_all v (rest ++ es)) first ∙ walked_append (walked v0 e) rest es))
-      (later home path rank from c mid to m (walked_all v0 (e ∷ rest)) o2 under here f q g l (omega (arith, u)) (let z = length-append rest es in omega (arith, t, z)) f2 (at-back all n mid (e ∷ rest) es a refl) held turns2 same2)
+      (later home path rank from c mid to m (walked_all v0 (e ∷ rest)) o2 under here f q g l (omega (arith, u)) (let z = length-append rest es in omega (arith, t, z)) f2 (at-back all n mid (e ∷ rest) es a refl) still_holds turns2 same2)
     where
       turn : List ℕ
       turn = j ++ k ∷ []
@@ -319,8 +319,8 @@ module _ (all : List Event) (nested : IsClear all (Instance []) [] 0 all) (rise 
       f2 : Fresh all mid j (k + 1)
       f2 = fresh-under j k n mid (Instance turn) 0 (e ∷ rest) d at-turn refl fr
 
-      held : HoldsLoop all from (c + 1) mid m o2 home (path ++ rank ∷ [])
-      held = loop-turned all from (c + 1) n mid m o home (path ++ rank ∷ []) ct.o.within (omega (arith, l, u)) u (omega arith) h ct.holds.within
+      still_holds : HoldsLoop all from (c + 1) mid m o2 home (path ++ rank ∷ [])
+      still_holds = loop-turned all from (c + 1) n mid m o home (path ++ rank ∷ []) ct.o.within (omega (arith, l, u)) u (omega arith) h ct.holds.within
 
       turns2 : AreTurns all nested rise c mid home path rank here f (k + 1)
       turns2 s x y u v z = by (split-at s n)

@@ -87,10 +87,10 @@ silent-none o e path j h = let q : None ≡ Some j = sym e ∙ h in absurd (cc)
 
 -- in a loop that a path doesn't begin with
 pub silent-loop : (o : OpenInstance) (loop path : List ℕ) → o.looping ≡ Some loop → (Begins loop path → ⊥) → IsSilent o path
-silent-loop o loop path e d j h = subst (λ (l : List ℕ). starts l path ≡ false) (held (sym e ∙ h)) (starts-not loop path d)
+silent-loop o loop path e d j h = subst (λ (l : List ℕ). starts l path ≡ false) (same_path (sym e ∙ h)) (starts-not loop path d)
   where
-    held : Some loop ≡ Some j → loop ≡ j
-    held q = ap path_in q
+    same_path : Some loop ≡ Some j → loop ≡ j
+    same_path q = ap path_in q
       where
         path_in : Option (List ℕ) → List ℕ
         path_in None = loop

@@ -34,11 +34,11 @@ pub raises-at : (e : Event) (j : List ℕ) → Raises e j → pedigree_of e ≡ 
 raises-at e j = by e
   where
     first : (k : List ℕ) → k ∷ [] ≡ j ∷ [] → k ≡ j
-    first k h = ap held h
+    first k h = ap head_or h
       where
-        held : List (List ℕ) → List ℕ
-        held [] = k
-        held (l ∷ ls) = l
+        head_or : List (List ℕ) → List ℕ
+        head_or [] = k
+        head_or (l ∷ ls) = l
 
     by : (e : Event) → Raises e j → pedigree_of e ≡ j
     by (event.Print k v) h = absurd (cc)

@@ -9,7 +9,7 @@ use Rattle.serial_meaning.specs.Functions.{function_at}
 use Rattle.serial_meaning.specs.Plan.{PlanView, functions_of}
 use Rattle.serial_meaning.specs.Exec.{State, strand, goes_out, frame, exec, instance, with_loop_values}
 use Rattle.serial_meaning.specs.Eval.{Evaluation, path_of, iteration}
-use Rattle.serial_meaning.specs.Open.{Item, Happened, Child, Opened, Closed, NodeFault, Node, put_off_all, unless_child_faulted, loop_end, is_empty_loop, iterations, node_with}
+use Rattle.serial_meaning.specs.Open.{Item, Happened, Child, Opened, Closed, NodeFault, Node, deferring, unless_child_faulted, loop_end, is_empty_loop, iterations, node_with}
 use Rattle.serial_meaning.proofs.Equations.RunLaws.{then-then}
 use Rattle.serial_meaning.proofs.RisingPedigrees.Closed.{closed-exec, returned-q}
 use Rattle.serial_meaning.proofs.RisingPedigrees.Closed as Of
@@ -226,13 +226,13 @@ module _ (plan : PlanView) (child : Origin → Evaluation) where
   loop-spread path false (Ok ws) o s target h w = begins_child path rank_of s.rank (event.Loop (strand path s)) o (Ok (record s { rank = s.rank + 1; env = target ws })) refl h w refl
   loop-spread path false (Err f) o s target h w = begins_child path rank_of s.rank (event.Loop (strand path s)) o _ refl h w tt
 
-  scope-spread : (path : List ℕ) (s : S) (r : Run Item NodeFault S) → P (path ++ s.rank ∷ []) 0 r → P path s.rank (after_items (Opened (path ++ s.rank ∷ []) ∷ []) r then goes_out (put_off_all plan child) plan path s.rank)
+  scope-spread : (path : List ℕ) (s : S) (r : Run Item NodeFault S) → P (path ++ s.rank ∷ []) 0 r → P path s.rank (after_items (Opened (path ++ s.rank ∷ []) ∷ []) r then goes_out (deferring plan child) plan path s.rank)
   scope-spread path s r h = from r.items r.ending h.hi h.placed h.rise
     where
       here : List ℕ
       here = path ++ s.rank ∷ []
 
-      from : (items : List Item) (e : Result S NodeFault) (hi : ℕ) → Placed here 0 hi items → ItemsRise items → P path s.rank (continued (Opened here ∷ items) e (goes_out (put_off_all plan child) plan path s.rank))
+      from : (items : List Item) (e : Result S NodeFault) (hi : ℕ) → Placed here 0 hi items → ItemsRise items → P path s.rank (continued (Opened here ∷ items) e (goes_out (deferring plan child) plan path s.rank))
       from items (Ok a) hi p t = record {
         hi = s.rank + 1;
         up = omega arith;
@@ -242,7 +242,7 @@ module _ (plan : PlanView) (child : Origin → Evaluation) where
       }
       from items (Err e) hi p t = record { hi = s.rank + 1; up = omega arith; ends = tt; placed = placed-under path s.rank hi items p; rise = t }
 
-  rules : Of.Closed (put_off_all plan child) plan P Q
+  rules : Of.Closed (deferring plan child) plan P Q
   rules = record {
     p-done = λ path s. silent path rank_of s.rank s refl;
     q-done = λ path v s. silent path pair_rank s.rank (v, s) refl;
@@ -261,10 +261,10 @@ module _ (plan : PlanView) (child : Origin → Evaluation) where
     qq = λ path n r f h k. spread-then path pair_rank pair_rank n r f h k;
   }
 
-  frame-spread : (path : List ℕ) (o : Option Function) (vs : List Value) (s : S) → Q path s.rank (frame (put_off_all plan child) plan path (exec (put_off_all plan child) plan) 0 o vs s)
+  frame-spread : (path : List ℕ) (o : Option Function) (vs : List Value) (s : S) → Q path s.rank (frame (deferring plan child) plan path (exec (deferring plan child) plan) 0 o vs s)
   frame-spread path None vs s = silent path pair_rank s.rank _ refl
   frame-spread path (Some f) vs s =
-      spread-then path rank_of pair_rank s.rank _ _ (closed-exec (put_off_all plan child) plan P Q rules path 0 f.body _) (λ a. returned-q (put_off_all plan child) plan P Q rules path f a)
+      spread-then path rank_of pair_rank s.rank _ _ (closed-exec (deferring plan child) plan P Q rules path 0 f.body _) (λ a. returned-q (deferring plan child) plan P Q rules path f a)
 
   abbrev begins : S
   begins = record { env = []; rank = 0; steps = plan.limits.budget; spawned = None }
@@ -276,9 +276,9 @@ module _ (plan : PlanView) (child : Origin → Evaluation) where
       from items (Err e) h = h
       from items (Ok a) h = rw append-nil h
 
-  instance-rises : (path : List ℕ) (o : Option Function) (vs : List Value) → ItemsRise (instance (put_off_all plan child) plan path o vs then λ v. done (v ∷ [])).items
+  instance-rises : (path : List ℕ) (o : Option Function) (vs : List Value) → ItemsRise (instance (deferring plan child) plan path o vs then λ v. done (v ∷ [])).items
   instance-rises path o vs =
-      let run : Run Item NodeFault (Value × S) = frame (put_off_all plan child) plan path (exec (put_off_all plan child) plan) 0 o vs begins in
+      let run : Run Item NodeFault (Value × S) = frame (deferring plan child) plan path (exec (deferring plan child) plan) 0 o vs begins in
       subst (λ (n : Node). ItemsRise n.items) (sym (then-then run (λ p. done p.0) (λ v. done (v ∷ [])))) (items-kept run (λ p. p.0 ∷ []) (frame-spread path o vs begins).rise)
 
 iterations-placed : (function : ℕ) (rest : List Value) (first : ℤ) (path : List ℕ) (k n : ℕ) → Placed path k (k + n) (map Child (iterations function rest first path k n))

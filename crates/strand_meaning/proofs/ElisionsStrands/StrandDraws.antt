@@ -5,7 +5,7 @@ use Rattle.std.specs.Str.{bytes_eq}
 use Rattle.serial_meaning.specs.Functions.{function_at}
 use Rattle.serial_meaning.specs.Plan.{PlanView, functions_of, drawn}
 use Rattle.serial_meaning.specs.Eval.{Evaluation, eval_below, depth_left, main_origin}
-use Rattle.serial_meaning.specs.Open.{Item, Happened, Child, Opened, Closed, iterations, node_of, put_off_all, is_empty_loop, strand_pedigrees, unless_child_faulted}
+use Rattle.serial_meaning.specs.Open.{Item, Happened, Child, Opened, Closed, iterations, node_of, deferring, is_empty_loop, strand_pedigrees, unless_child_faulted}
 use Rattle.serial_meaning.proofs.Equations.Each.{Each, Parts, each-contained, instance-each}
 use Rattle.serial_meaning.proofs.RisingPedigrees.Draws.{IsTrueDraw}
 use Rattle.serial_meaning.specs.declared.event.Fault.{Fault}
@@ -29,11 +29,11 @@ module _ (plan : PlanView) where
   sync-shows (Some f) = tt
 
   module _ (child : Origin → Evaluation) where
-    loop-shows : (o : Origin) (b : Bool) → is_empty_loop o ≡ b → Each IsTrueItem ((put_off_all plan child).loop o).items
+    loop-shows : (o : Origin) (b : Bool) → is_empty_loop o ≡ b → Each IsTrueItem ((deferring plan child).loop o).items
     loop-shows o true e = rw e tt
     loop-shows o false e = rw e (tt, tt)
 
-    parts : Parts (put_off_all plan child) plan IsTrueItem
+    parts : Parts (deferring plan child) plan IsTrueItem
     parts = record {
       print = λ path s v. tt;
       draw = λ path s. refl;
@@ -55,7 +55,7 @@ module _ (plan : PlanView) where
   node-shows : (o : Origin) → Each IsTrueItem (node_of plan o).items
   node-shows (Instance function args path) =
       let child : Origin → Evaluation = eval_below plan (depth_left plan (Instance function args path)) in
-      instance-each (put_off_all plan child) plan IsTrueItem (parts child) path (function_at (functions_of plan) function) args
+      instance-each (deferring plan child) plan IsTrueItem (parts child) path (function_at (functions_of plan) function) args
   node-shows (Loop function rest first path range) = children-show (iterations function rest first path range.lo (range.hi - range.lo))
 
   own-shows : (items : List Item) → Each IsTrueItem items → Each (IsTrueDraw plan) (own_events items)

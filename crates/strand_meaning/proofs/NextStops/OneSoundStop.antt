@@ -109,15 +109,15 @@ next_of d (Stops stop) = d
 not-both : (next : Task) (stop : Stop) → Passes next ≡ Stops stop → ⊥
 not-both next stop h = absurd (cc)
 
-pub stops_are_one : (t : Task) (stop other : Stop) → IsNext t stop → IsNext t other → stop ≡ other
-stops_are_one t stop other (Now h) (Now g) = same (sym h ∙ g)
+pub stops_are_unique : (t : Task) (stop other : Stop) → IsNext t stop → IsNext t other → stop ≡ other
+stops_are_unique t stop other (Now h) (Now g) = same (sym h ∙ g)
   where
     same : Stops stop ≡ Stops other → stop ≡ other
     same e = ap (stop_of stop) e
-stops_are_one t stop other (Now h) (Later next g n) = absurd (not-both next stop (sym g ∙ h))
-stops_are_one t stop other (Later next h m) (Now g) = absurd (not-both next other (sym h ∙ g))
-stops_are_one t stop other (Later next h m) (Later after g n) =
-    stops_are_one next stop other m (subst (λ (x : Task). IsNext x other) (sym (task-same (sym h ∙ g))) n)
+stops_are_unique t stop other (Now h) (Later next g n) = absurd (not-both next stop (sym g ∙ h))
+stops_are_unique t stop other (Later next h m) (Now g) = absurd (not-both next other (sym h ∙ g))
+stops_are_unique t stop other (Later next h m) (Later after g n) =
+    stops_are_unique next stop other m (subst (λ (x : Task). IsNext x other) (sym (task-same (sym h ∙ g))) n)
   where
     task-same : Passes next ≡ Passes after → next ≡ after
     task-same e = ap (next_of next) e

@@ -109,5 +109,5 @@ comes-within (suc n) t h = by_step (step t) refl (remaining-falls t t.remaining)
     by_step (Stops stop) e f go = (stop, Now e)
     by_step (Passes next) e f go = let c = go next (omega arith) in (c.0, Later next e c.1)
 
-pub stops_come : (t : Task) → (stop : Stop) × IsNext t stop
-stops_come t = comes-within (moves_left t) t (omega arith)
+pub stops_exist : (t : Task) → (stop : Stop) × IsNext t stop
+stops_exist t = comes-within (moves_left t) t (omega arith)

@@ -33,14 +33,14 @@ module _ (child : Origin → Evaluation) where
   so_far trace values tail = prefix_run trace then λ u. awaited_run child trace.unmerged values then tail
 
   -- what effects show, and then the rest
-  abbrev pub played : List Effect → Evaluation → Evaluation
-  played [] r = r
-  played (Opens j ∷ ts) r = played ts r
-  played (Closes j ∷ ts) r = played ts r
-  played (Emitted e ∷ ts) r = after_items (e ∷ []) (played ts r)
-  played (Starts o destination ∷ ts) r = child o then λ vs. played ts r
-  played (Syncs ∷ ts) r = played ts r
-  played (Loops ∷ ts) r = played ts r
+  abbrev pub effects_then : List Effect → Evaluation → Evaluation
+  effects_then [] r = r
+  effects_then (Opens j ∷ ts) r = effects_then ts r
+  effects_then (Closes j ∷ ts) r = effects_then ts r
+  effects_then (Emitted e ∷ ts) r = after_items (e ∷ []) (effects_then ts r)
+  effects_then (Starts o destination ∷ ts) r = child o then λ vs. effects_then ts r
+  effects_then (Syncs ∷ ts) r = effects_then ts r
+  effects_then (Loops ∷ ts) r = effects_then ts r
 
   parts-emit : (p : AwaitedChild) (ps : List AwaitedChild) (e : Event) (values : List Value) (tail : List Value → Evaluation) →
       (awaited_run child (after_last p ps e) values then tail) ≡ (awaited_run child (p ∷ ps) values then λ vs. after_items (e ∷ []) (tail vs))
@@ -93,15 +93,15 @@ module _ (child : Origin → Evaluation) where
 
   -- What a move showed stands after the trace, and before the rest.
   pub effects-so_far : (ts : List Effect) → Each NotHalf ts → (trace : Trace) (values : List Value) (tail : List Value → Evaluation) →
-      so_far (with_effects ts trace) values tail ≡ so_far trace values (λ vs. played ts (tail vs))
+      so_far (with_effects ts trace) values tail ≡ so_far trace values (λ vs. effects_then ts (tail vs))
   effects-so_far [] own trace values tail = refl
   effects-so_far (Opens j ∷ ts) own trace values tail = effects-so_far ts own.1 trace values tail
   effects-so_far (Closes j ∷ ts) own trace values tail = effects-so_far ts own.1 trace values tail
-  effects-so_far (Emitted e ∷ ts) own trace values tail = effects-so_far ts own.1 (emit e trace) values tail ∙ emit-so_far e trace values (λ vs. played ts (tail vs))
+  effects-so_far (Emitted e ∷ ts) own trace values tail = effects-so_far ts own.1 (emit e trace) values tail ∙ emit-so_far e trace values (λ vs. effects_then ts (tail vs))
   effects-so_far (Starts o (Spawned height target) ∷ ts) own trace values tail =
-      effects-so_far ts own.1 (add_child o (Spawned height target) trace) values tail ∙ add_child-so_far o (Spawned height target) trace values (λ vs. played ts (tail vs))
+      effects-so_far ts own.1 (add_child o (Spawned height target) trace) values tail ∙ add_child-so_far o (Spawned height target) trace values (λ vs. effects_then ts (tail vs))
   effects-so_far (Starts o (Looped target) ∷ ts) own trace values tail =
-      effects-so_far ts own.1 (add_child o (Looped target) trace) values tail ∙ add_child-so_far o (Looped target) trace values (λ vs. played ts (tail vs))
+      effects-so_far ts own.1 (add_child o (Looped target) trace) values tail ∙ add_child-so_far o (Looped target) trace values (λ vs. effects_then ts (tail vs))
   effects-so_far (Starts o Half ∷ ts) own trace values tail = absurd own.0
   effects-so_far (Syncs ∷ ts) own trace values tail = effects-so_far ts own.1 trace values tail
   effects-so_far (Loops ∷ ts) own trace values tail = effects-so_far ts own.1 trace values tail
@@ -115,15 +115,15 @@ SameChild some other (Starts o destination) = some o ≡ other o
 SameChild some other Syncs = Unit {0}
 SameChild some other Loops = Unit {0}
 
-pub played-closed : (some other : Origin → Evaluation) (ts : List Effect) → Each (SameChild some other) ts → {A : Type 0} (r : Run Item NodeFault A) (go : A → Evaluation) →
-    (closed_run some (after_items (effect_items ts) r) then go) ≡ played other ts (closed_run some r then go)
-played-closed some other [] same r go = refl
-played-closed some other (Opens j ∷ ts) same r go = played-closed some other ts same.1 r go
-played-closed some other (Closes j ∷ ts) same r go = played-closed some other ts same.1 r go
-played-closed some other (Emitted e ∷ ts) same r go = after-then (e ∷ []) (closed_run some (after_items (effect_items ts) r)) go ∙ ap (after_items (e ∷ [])) (played-closed some other ts same.1 r go)
-played-closed some other (Starts o destination ∷ ts) same r go =
+pub effects_then-closed : (some other : Origin → Evaluation) (ts : List Effect) → Each (SameChild some other) ts → {A : Type 0} (r : Run Item NodeFault A) (go : A → Evaluation) →
+    (closed_run some (after_items (effect_items ts) r) then go) ≡ effects_then other ts (closed_run some r then go)
+effects_then-closed some other [] same r go = refl
+effects_then-closed some other (Opens j ∷ ts) same r go = effects_then-closed some other ts same.1 r go
+effects_then-closed some other (Closes j ∷ ts) same r go = effects_then-closed some other ts same.1 r go
+effects_then-closed some other (Emitted e ∷ ts) same r go = after-then (e ∷ []) (closed_run some (after_items (effect_items ts) r)) go ∙ ap (after_items (e ∷ [])) (effects_then-closed some other ts same.1 r go)
+effects_then-closed some other (Starts o destination ∷ ts) same r go =
     then-then (some o) (λ vs. closed_run some (after_items (effect_items ts) r)) go
-    ∙ ap (λ (q : Evaluation). some o then λ vs. q) (played-closed some other ts same.1 r go)
-    ∙ ap (λ (q : Evaluation). q then λ vs. played other ts (closed_run some r then go)) same.0
-played-closed some other (Syncs ∷ ts) same r go = played-closed some other ts same.1 r go
-played-closed some other (Loops ∷ ts) same r go = played-closed some other ts same.1 r go
+    ∙ ap (λ (q : Evaluation). some o then λ vs. q) (effects_then-closed some other ts same.1 r go)
+    ∙ ap (λ (q : Evaluation). q then λ vs. effects_then other ts (closed_run some r then go)) same.0
+effects_then-closed some other (Syncs ∷ ts) same r go = effects_then-closed some other ts same.1 r go
+effects_then-closed some other (Loops ∷ ts) same r go = effects_then-closed some other ts same.1 r go

@@ -32,7 +32,7 @@ use Rattle.strand_meaning.proofs.SoundSteps.OriginsFitDepth.{loop-of-plan, same-
 use Rattle.strand_meaning.proofs.SoundSteps.ChildrenFollowEvents.{own-move}
 use Rattle.strand_meaning.proofs.SoundSteps.EventsShowChildren.{KeepsShown, effects-fault, move-shows}
 use Rattle.strand_meaning.proofs.SoundSteps.ChildrenCloseNodes.{after-then}
-use Rattle.strand_meaning.proofs.SoundSteps.Finishing.{NotHalf, so_far, played, effects-so_far, SameChild, played-closed}
+use Rattle.strand_meaning.proofs.SoundSteps.Finishing.{NotHalf, so_far, effects_then, effects-so_far, SameChild, effects_then-closed}
 use Rattle.strand_meaning.proofs.Unfilled.UntouchedStays.{first-contained, later-contained}
 
 pub so_far-same : (child : Origin → Evaluation) (trace : Trace) (values : List Value) (f g : List Value → Evaluation) → ((vs : List Value) → f vs ≡ g vs) → so_far child trace values f ≡ so_far child trace values g
@@ -166,16 +166,16 @@ module _ (t : Task) (is : IsTask t) (m : Machine) (own-known : IsOriginOf t.plan
       lands-here : rest ≡ rest_open t.plan kids path after stage
       lands-here = lands ∙ ap (λ s. rest_of_stage t.plan kids path (resumed s)) (alike-takes kids alike stage)
 
-      the-rest : (vs : List Value) → remaining_run t.plan t.origin ps (Runs (Running m)) vs ≡ played (eval t.plan) ts (remaining_run t.plan t.origin after (Runs stage) vs)
+      the-rest : (vs : List Value) → remaining_run t.plan t.origin ps (Runs (Running m)) vs ≡ effects_then (eval t.plan) ts (remaining_run t.plan t.origin after (Runs stage) vs)
       the-rest vs =
           ap (λ (r : Run Item NodeFault Value). closed_run kids r then λ v. done (all_with t.origin vs v)) leaves
-          ∙ played-closed kids (eval t.plan) ts (same-children t.plan t.origin ts (known ts rest leaves)) rest (λ v. done (all_with t.origin vs v))
-          ∙ ap (λ (r : Run Item NodeFault Value). played (eval t.plan) ts (closed_run kids r then λ v. done (all_with t.origin vs v))) lands-here
+          ∙ effects_then-closed kids (eval t.plan) ts (same-children t.plan t.origin ts (known ts rest leaves)) rest (λ v. done (all_with t.origin vs v))
+          ∙ ap (λ (r : Run Item NodeFault Value). effects_then (eval t.plan) ts (closed_run kids r then λ v. done (all_with t.origin vs v))) lands-here
 
       finishes : finish (passing t ts (Runs stage)) ≡ eval t.plan t.origin
       finishes =
           effects-so_far (eval t.plan) ts own-effects t.trace t.values (remaining_run t.plan t.origin after (Runs stage))
-          ∙ sym (so_far-same (eval t.plan) t.trace t.values (remaining_run t.plan t.origin ps (Runs (Running m))) (λ vs. played (eval t.plan) ts (remaining_run t.plan t.origin after (Runs stage) vs)) the-rest)
+          ∙ sym (so_far-same (eval t.plan) t.trace t.values (remaining_run t.plan t.origin ps (Runs (Running m))) (λ vs. effects_then (eval t.plan) ts (remaining_run t.plan t.origin after (Runs stage) vs)) the-rest)
           ∙ ap (λ (w : Remaining). so_far (eval t.plan) t.trace t.values (remaining_run t.plan t.origin ps w)) (sym at)
           ∙ is.finishes
 

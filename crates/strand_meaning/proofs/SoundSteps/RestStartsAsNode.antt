@@ -11,7 +11,7 @@ use Rattle.serial_meaning.specs.Functions.{function_at}
 use Rattle.serial_meaning.specs.Plan.{PlanView, functions_of}
 use Rattle.serial_meaning.specs.Exec.{State, instance, exec, bound}
 use Rattle.serial_meaning.specs.Eval.{Evaluation}
-use Rattle.serial_meaning.specs.Open.{Item, NodeFault, put_off_all, node_of}
+use Rattle.serial_meaning.specs.Open.{Item, NodeFault, deferring, node_of}
 use Rattle.serial_meaning.specs.declared.value.Value.{Value}
 use Rattle.serial_meaning.specs.declared.value.Value.TheVariants.{Int}
 use Rattle.serial_meaning.specs.declared.event.Fault.{Fault}
@@ -57,13 +57,13 @@ begun-whole plan function args path =
     start = record { env = []; rank = 0; steps = plan.limits.budget; spawned = None }
 
     callee_run : Function → Option Function → Run Item NodeFault (Value × State (Option Fault))
-    callee_run f o = exec (put_off_all plan child) plan path 0 f.body (record start { env = bound f.params args }) then closes plan child path path false o
+    callee_run f o = exec (deferring plan child) plan path 0 f.body (record start { env = bound f.params args }) then closes plan child path path false o
 
-    by_function : (o : Option Function) → function_at (functions_of plan) function ≡ o → instance (put_off_all plan child) plan path (function_at (functions_of plan) function) args ≡ rest_of_stage plan child path (begun_stage (function_begun plan function args))
+    by_function : (o : Option Function) → function_at (functions_of plan) function ≡ o → instance (deferring plan child) plan path (function_at (functions_of plan) function) args ≡ rest_of_stage plan child path (begun_stage (function_begun plan function args))
     by_function None h =
-        ap (λ (o : Option Function). instance (put_off_all plan child) plan path o args) h ∙ ap (rest_of_stage plan child path) (sym (stage-is None h))
+        ap (λ (o : Option Function). instance (deferring plan child) plan path o args) h ∙ ap (rest_of_stage plan child path) (sym (stage-is None h))
     by_function (Some f) h =
-        ap (λ (o : Option Function). instance (put_off_all plan child) plan path o args) h
+        ap (λ (o : Option Function). instance (deferring plan child) plan path o args) h
         ∙ ap (λ (o : Option Function). callee_run f o then λ r. done r.0) (sym h)
         ∙ ap (rest_of_stage plan child path) (sym (stage-is (Some f) h))
 

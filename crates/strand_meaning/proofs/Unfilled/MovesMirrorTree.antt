@@ -19,7 +19,7 @@ use Rattle.serial_meaning.specs.Plan.{PlanView, functions_of}
 use Rattle.serial_meaning.specs.Exec.{State, Interpretation, strand, fault, unless_fault, paid_from, tested, has_room, loop_fits, with_loop_values, spawn, sync_here, leaves, goes_out, scoped, implied, frame, called, right_side, found, store, looped, does, statement, exec, count_of, bound}
 use Rattle.serial_meaning.specs.Exec.{all_happen as passes}
 use Rattle.serial_meaning.specs.Eval.{Evaluation, first_value}
-use Rattle.serial_meaning.specs.Open.{Item, Happened, Child, Opened, Closed, NodeFault, put_off, put_off_all, unless_child_faulted, loop_end, is_empty_loop, placeholder}
+use Rattle.serial_meaning.specs.Open.{Item, Happened, Child, Opened, Closed, NodeFault, deferred, deferring, unless_child_faulted, loop_end, is_empty_loop, placeholder}
 use Rattle.serial_meaning.proofs.Equations.RunLaws.{goes_on-after, then-then, then-same}
 use Rattle.serial_meaning.proofs.Equations.ExecLaws.{exec-cons, exec-nil, exec-append, exec-again}
 use Rattle.serial_meaning.specs.declared.value.Value.{Value}
@@ -49,7 +49,7 @@ opens known s = record { env = s.env; rank = s.rank; steps = s.steps; spawned = 
 
 module _ (plan : PlanView) (child : Origin → Evaluation) (path : List ℕ) where
   abbrev tree : Interpretation Item NodeFault (Option Fault)
-  tree = put_off_all plan child
+  tree = deferring plan child
 
   abbrev what : Destination → Interpretation Effect Exit Bool
   what destination = parallel plan destination
@@ -167,7 +167,7 @@ module _ (plan : PlanView) (child : Origin → Evaluation) (path : List ℕ) whe
           next o = record { env = with_scalar target (placeholder plan o) m.top.env; rank = m.rank + 1; steps = n; spawned = true }
 
           by_end : (o : Origin) (q : Result (List Value) Fault) →
-              after_items (Happened e ∷ Child o ∷ []) (go (record { env = with_scalar target (put_off (placeholder plan o) m.top.faulted q).0 m.top.env; rank = m.rank + 1; steps = n; spawned = (put_off (placeholder plan o) m.top.faulted q).1 }))
+              after_items (Happened e ∷ Child o ∷ []) (go (record { env = with_scalar target (deferred (placeholder plan o) m.top.faulted q).0 m.top.env; rank = m.rank + 1; steps = n; spawned = (deferred (placeholder plan o) m.top.faulted q).1 }))
               ≡ after_items (Happened e ∷ Child o ∷ []) (rest_of_stage plan child path (resumed (takes (Spawned height target) q (Running (on (next o))))))
           by_end o (Ok vs) =
               ap (λ (env : Env). after_items (Happened e ∷ Child o ∷ []) (go (record { env = env; rank = m.rank + 1; steps = n; spawned = m.top.faulted }))) (sym (answer-later target (placeholder plan o) (first_value vs) m.top.env))

@@ -3,7 +3,7 @@ use Rattle.std.proofs.Common.{◌≡◌, Ok, Err, Result, is_some, ap, sym, subs
 use Rattle.script_check.specs.Slots.{has_slot}
 use Rattle.serial_meaning.specs.declared.event.FaultKind.{FaultKind}
 use Rattle.strand_values.specs.Changes.{called_with}
-use Rattle.strand_values.specs.Environments.{held}
+use Rattle.strand_values.specs.Environments.{entry_content}
 use Rattle.strand_values.specs.Gives.{Calculates}
 use Rattle.strand_values.specs.declared.evaluation_error.EvaluationError.{EvaluationError}
 use Rattle.strand_values.proofs.BoundLemmas.{called-begins, called-ends, called-fails, called-more, called-past, slot_for}
@@ -36,7 +36,7 @@ loop-i-preserved c =
     elim c.if-i-params.branch [
       | then-i-params w ↦
           rw w.env-is
-          (called-more names env ps es i made c.loop-i.invariant e v c.in_ok-value.ensures c.loop-i-test.true c.index-args-i.is (held w.of.result) w.put.new.self c.requires.params w.if-i-params.true w.of.ensures w.put.ensures)
+          (called-more names env ps es i made c.loop-i.invariant e v c.in_ok-value.ensures c.loop-i-test.true c.index-args-i.is (entry_content w.of.result) w.put.new.self c.requires.params w.if-i-params.true w.of.ensures w.put.ensures)
       | else-i-params+in-Id-1 w ↦ rw w.env-is (called-past names env ps es i made c.loop-i.invariant e v c.in_ok-value.ensures c.loop-i-test.true c.index-args-i.is w.if-i-params.false)
       | else-i-params+in-Int-1 w ↦ rw w.env-is (called-past names env ps es i made c.loop-i.invariant e v c.in_ok-value.ensures c.loop-i-test.true c.index-args-i.is w.if-i-params.false)
     ]

@@ -1,6 +1,6 @@
 use Rattle.std.proofs.Common.{◌≡◌, Some, get_or, is_some, ap, ◌∙◌}
 use Rattle.script_check.specs.Slots.{slot_in}
-use Rattle.strand_values.specs.Environments.{with_variables, with_what}
+use Rattle.strand_values.specs.Environments.{with_variables, with_optional_content}
 use Rattle.strand_values.proofs.Filled.{in_table, is_slot, slot_found}
 use Rattle.strand_values.proofs.environment.Environment.receive.Goals as goal
 
@@ -21,4 +21,4 @@ returns c =
     let env = c.args.self.now in
     let x = c.args.target.now in
     let there : slot_in env.names x.bytes ≡ Some (get_or c.args.slots.now c.at.result 0) = rw c.at.ensures (slot_found c.args.slots.now env.names x c.requires) in
-    c.put.ensures x.bytes there ∙ ap (λ o. with_variables env (with_what env.variables x.bytes o)) c.of.ensures
+    c.put.ensures x.bytes there ∙ ap (λ o. with_variables env (with_optional_content env.variables x.bytes o)) c.of.ensures

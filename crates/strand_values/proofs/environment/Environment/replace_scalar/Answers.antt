@@ -3,7 +3,7 @@ use Rattle.script_check.specs.Slots.{slot_in}
 use Rattle.std.proofs.lemmas.Bool.{false≢true, true≢false}
 use Rattle.serial_meaning.specs.Values.{content_of}
 use Rattle.serial_meaning.specs.declared.environment.Content.{Content}
-use Rattle.strand_values.specs.Environments.{with_variables, with_what}
+use Rattle.strand_values.specs.Environments.{with_variables, with_optional_content}
 use Rattle.strand_values.proofs.Filled.{entry_holds, entry_there, in_table, is_slot, slot_found}
 use Rattle.strand_values.proofs.environment.Environment.replace_scalar.Goals as goal
 
@@ -41,7 +41,7 @@ returns-then-not-is_vacant-clause-there c = λ some.
     let env = c.args.self.now in
     let x = c.args.target.now in
     let there : slot_in env.names x.bytes ≡ Some (get_or c.args.slots.now c.at.result 0) = rw c.at.ensures (slot_found c.args.slots.now env.names x c.requires) in
-    c.put.ensures x.bytes there ∙ ap (λ o. with_variables env (with_what env.variables x.bytes o)) c.of.ensures
+    c.put.ensures x.bytes there ∙ ap (λ o. with_variables env (with_optional_content env.variables x.bytes o)) c.of.ensures
 
 pub returns-then-not-is_vacant-clause-missing : goal.returns-then-not-is_vacant-clause-missing
 returns-then-not-is_vacant-clause-missing c = λ none.

@@ -4,7 +4,7 @@ use Rattle.std.proofs.lemmas.Int.{to_z-of_z}
 use Rattle.serial_meaning.specs.Exec.{with_item, with_content}
 use Rattle.serial_meaning.specs.Values.{items_of, as_integer, content_of}
 use Rattle.serial_meaning.specs.declared.environment.Content.TheVariants.{Array}
-use Rattle.strand_values.specs.Environments.{held, with_filled, with_variables}
+use Rattle.strand_values.specs.Environments.{entry_content, with_filled, with_variables}
 use Rattle.strand_values.proofs.Filled.{entry_holds, entry_put, entry_there, in_table, slot_found, seen_put, some_of}
 use Rattle.strand_values.proofs.ItemLemmas.{array_there, index_is_within, item_there, stored_there}
 use Rattle.strand_values.proofs.environment.Environment.set_item.Goals as goal
@@ -41,7 +41,7 @@ invariant_of-self c =
     let there = slot_found c.args.slots.now env.names x c.requires.name in
     let e = c.index_mut.result.now in
     let is = sym (entry_holds i.names.value i.entries.items i.filled.items c.self.invariant env c.self.view_is slot x.bytes there e c.index_mut.ensures.value) in
-    let some = some_of (held e) (array_there (held e) c.args.index (item_there _ _ c.args.index is c.requires.there)) in
+    let some = some_of (entry_content e) (array_there (entry_content e) c.args.index (item_there _ _ c.args.index is c.requires.there)) in
     let listed_now = sym (ap (λ o. with_filled i.filled.items slot o) some.1) in
     entry_put i.names.value i.entries.items i.filled.items c.self.invariant env c.self.view_is slot x.bytes there e c.index_mut.ensures.value i.filled.items listed_now c.put_item.new.self _ c.put_item.ensures
 
@@ -54,9 +54,9 @@ returns c =
     let there = slot_found c.args.slots.now env.names x c.requires.name in
     let e = c.index_mut.result.now in
     let is = sym (entry_holds i.names.value i.entries.items i.filled.items c.self.invariant env c.self.view_is slot x.bytes there e c.index_mut.ensures.value) in
-    let some = some_of (held e) (array_there (held e) c.args.index (item_there _ _ c.args.index is c.requires.there)) in
+    let some = some_of (entry_content e) (array_there (entry_content e) c.args.index (item_there _ _ c.args.index is c.requires.there)) in
     let listed_now = sym (ap (λ o. with_filled i.filled.items slot o) some.1) in
     let fits : SFits w64 c.number.result = search rules in
     let holds = rw (to_z-of_z w64 c.args.index c.ranges.index, to_z-of_z w64 c.number.result fits, c.number.ensures) at c.put_item.ensures in
-    seen_put i.names.value i.entries.items i.filled.items c.self.invariant env c.self.view_is slot x.bytes there e c.index_mut.ensures.value i.filled.items listed_now c.put_item.new.self (Array (with_item (items_of (held e)) (nat_abs c.args.index) (as_integer c.args.value.now))) holds
-    ∙ ap (λ s. with_variables env (with_content env.variables x.bytes s)) (stored_there (content_of env.variables x.bytes) (held e) c.args.index c.args.value.now is c.requires.there)
+    seen_put i.names.value i.entries.items i.filled.items c.self.invariant env c.self.view_is slot x.bytes there e c.index_mut.ensures.value i.filled.items listed_now c.put_item.new.self (Array (with_item (items_of (entry_content e)) (nat_abs c.args.index) (as_integer c.args.value.now))) holds
+    ∙ ap (λ s. with_variables env (with_content env.variables x.bytes s)) (stored_there (content_of env.variables x.bytes) (entry_content e) c.args.index c.args.value.now is c.requires.there)

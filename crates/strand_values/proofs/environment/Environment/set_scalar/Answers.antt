@@ -1,5 +1,5 @@
 use Rattle.std.proofs.Common.{get_or, is_some, ap, ◌∙◌}
-use Rattle.strand_values.specs.Environments.{with_variables, with_what}
+use Rattle.strand_values.specs.Environments.{with_variables, with_optional_content}
 use Rattle.strand_values.proofs.Filled.{in_table, is_slot, slot_found}
 use Rattle.strand_values.proofs.environment.Environment.set_scalar.Goals as goal
 
@@ -19,4 +19,4 @@ pub returns : goal.returns
 returns c =
     let env = c.args.self.now in
     let x = c.args.name.now in
-    c.put.ensures x.bytes (slot_found c.args.slots.now env.names x c.requires) ∙ ap (λ o. with_variables env (with_what env.variables x.bytes o)) c.of.ensures
+    c.put.ensures x.bytes (slot_found c.args.slots.now env.names x c.requires) ∙ ap (λ o. with_variables env (with_optional_content env.variables x.bytes o)) c.of.ensures

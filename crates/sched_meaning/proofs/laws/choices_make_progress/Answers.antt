@@ -1,5 +1,5 @@
 use Rattle.sched_meaning.proofs.WorkGoesOn.Choosing.{choices_advance, advances-choose}
-use Rattle.sched_meaning.proofs.laws.choices_go_on.Goals as goal
+use Rattle.sched_meaning.proofs.laws.choices_make_progress.Goals as goal
 
 pub returns : goal.returns
 returns c = λ core e. (choices_advance core e, advances-choose core e)

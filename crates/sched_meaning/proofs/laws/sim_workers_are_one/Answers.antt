@@ -1,5 +1,0 @@
-use Rattle.sched_meaning.proofs.SimulationsEnd.Simulated.{sim_workers_are_one}
-use Rattle.sched_meaning.proofs.laws.sim_workers_are_one.Goals as goal
-
-pub returns : goal.returns
-returns c = sim_workers_are_one

@@ -1,5 +1,0 @@
-use Rattle.sched_meaning.proofs.SimulationsEnd.Ending.{sim_workers_come}
-use Rattle.sched_meaning.proofs.laws.sim_workers_come.Goals as goal
-
-pub returns : goal.returns
-returns c = sim_workers_come

@@ -1,5 +1,0 @@
-use Rattle.sched_meaning.proofs.OneCore.OneStep.{steps_are_one}
-use Rattle.sched_meaning.proofs.laws.steps_are_one.Goals as goal
-
-pub returns : goal.returns
-returns c = steps_are_one

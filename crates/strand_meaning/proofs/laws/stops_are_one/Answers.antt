@@ -1,5 +1,0 @@
-use Rattle.strand_meaning.proofs.NextStops.OneSoundStop.{stops_are_one}
-use Rattle.strand_meaning.proofs.laws.stops_are_one.Goals as goal
-
-pub returns : goal.returns
-returns c = stops_are_one
