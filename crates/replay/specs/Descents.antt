@@ -1,4 +1,4 @@
--- One node of the walk down to a strand.
+-- One step of the walk down to a strand.
 use Rattle.std.specs.Prelude.{◌≡◌, ◌<◌, ℕ, ◌-◌, List, Result, Ok, Err, Some, length}
 use Rattle.serial_meaning.specs.Eval.{path_of}
 use Rattle.serial_meaning.specs.Laws.{IsOriginOf}
@@ -13,18 +13,18 @@ use Rattle.replay.specs.declared.descent.Way.TheVariants as way
 use Rattle.replay.specs.declared.error.ReplayError.{ReplayError}
 use Rattle.replay.specs.declared.error.ReplayError.TheVariants as error
 
--- What stands at a pedigree below an instance. Each child's path is longer than its parent's, so as many steps as ranks follow the path are
--- enough.
+-- What is found at a pedigree below an instance. Each child's path is longer than its parent's, so as many steps as the
+-- pedigree has ranks beyond the instance's path are enough.
 abbrev pub seen_from : PlanView → Origin → List ℕ → Found
 seen_from plan o j = walk_in plan (length j - length (path_of o)) j o
 
--- an instance of the plan that the way down to a pedigree passes
+-- The instance is one of the plan's, on the way down to the pedigree.
 pub record IsOnWayTo (plan : PlanView) (j : List ℕ) (o : Origin) : Type 0 where
   pub known : IsOriginOf plan o
   pub instance : IsInstanceOrigin o
   pub below : IsBelow (path_of o) j
 
--- The way leads further down, to where the same stands; or what stands there is known.
+-- One step from an instance: it goes further down, where the same is found; or it says what is found.
 abbrev pub LeadsDown : PlanView → Origin → List ℕ → Result Way ReplayError → Type 0
 LeadsDown plan o j (Ok (way.Found strand)) = (seen_from plan o j ≡ FoundStrand strand) × (strand_of o (node_of plan o) j ≡ Some strand)
 LeadsDown plan o j (Ok (way.Down next)) = IsOnWayTo plan j next × (length (path_of o) < length (path_of next)) × (seen_from plan next j ≡ seen_from plan o j)

@@ -18,17 +18,17 @@ use std::sync::Arc;
 use strand_family::iteration_args;
 use strand_meaning::laws;
 
-// Where the way goes on from an instance.
+// What comes after an instance on the way to the strand.
 #[derive(Drop)]
 pub(crate) enum Way {
-    // The strand is one of its own.
+    // The strand, which is one of this instance's own.
     Found(Strand),
-    // The strand, if there is one, is below this instance.
+    // The next instance down. The strand, if there is one, is its own or below it.
     Down(Origin),
 }
 
-// The instance below a child: a spawned one itself; of a loop the iteration that the pedigree names next, where it doesn't end there and
-// there is that iteration.
+// The instance to go on with at a child: a spawned child itself, of a loop the iteration that the pedigree names next.
+// `None` where the loop has no such iteration, or the pedigree ends with its number.
 fn enter(alloc: Global, child: Origin, at: &Pedigree) -> Result<Option<Origin>, ReplayError>
     ensures ok { IfOk result (λ next. next ≡ entered_child at.now child) }
     ensures err { IfErr result (λ e. e ≡ ReplayError.Memory) }
@@ -58,7 +58,7 @@ fn enter(alloc: Global, child: Origin, at: &Pedigree) -> Result<Option<Origin>, 
     }))
 }
 
-// One node of the walk.
+// One step of the walk: from an instance to the strand, to the next instance down, or to why there is no strand.
 pub(crate) fn descend(
     alloc: Global,
     plan: &Arc<Plan>,
@@ -91,18 +91,20 @@ pub(crate) fn descend(
     }
 }
 
-/// The strand of a pedigree in the open tree of the plan: what it did, and the fault of its own by which its instance ended there, if it
-/// did. The serial elision need not reach it.
+/// Replays one strand, also one that the serial elision doesn't reach: what it did, and the fault of its own by which
+/// its instance ended there, if it did.
 ///
-/// Each instance on the way down is run once, with the children that the strand comes after.
+/// Each instance on the way down is run once, with those of its children that come before the strand. Errors:
+/// `NoStrand` where no strand has the pedigree, `Blocked` where a child's fault ends the way down before it, `Memory`
+/// where memory runs out.
 pub fn replay(alloc: Global, plan: &Arc<Plan>, at: &Pedigree) -> Result<Strand, ReplayError>
     ensures strand { IsReplayOf (strand_at (arc_value plan.now) at.now) result }
 
-    // Where no fault ends the serial elision before the pedigree, it is what the elision has there.
+    // Where no fault ends the serial elision before the pedigree, the strand is as in the elision.
     ensures elision { IsWholeUpTo at.now (elision (arc_value plan.now)).ending → IfOk result (λ strand. strand ≡ strand_in at.now (elision (arc_value plan.now))) }
 {
     laws::strands_are_the_elisions();
-    // Read for the proof: a pedigree has a last rank.
+    // For the proof: a pedigree has a last rank.
     let _rank = at.rank;
     let mut origin = plan.main_origin(alloc)?;
     loop {

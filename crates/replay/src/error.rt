@@ -1,19 +1,19 @@
-// Why there is no strand.
+// Why a replay gives no strand.
 
 ghost use Rattle.std.specs.Prelude.{◌≡◌};
 ghost use Rattle.replay.specs.declared.error.ReplayError.TheVariants.{Memory};
 
 use serial_meaning::Fault;
 
-/// Why no strand was replayed.
+/// Why a replay gives no strand.
 #[derive(Drop)]
 pub enum ReplayError {
-    /// There is no strand of this pedigree.
+    /// No strand has this pedigree.
     NoStrand,
-    /// Unknown: an instance on the way down, or the strand's own, ended before it by this fault, the least of the
-    /// children that it waited for.
+    /// It isn't known whether there is such a strand: an instance on the way down, or the strand's own, ended earlier
+    /// by this fault, the least among the children that it waited for.
     Blocked(Fault),
-    /// There was no memory for the replay.
+    /// Memory ran out.
     Memory,
 }
 

@@ -1,4 +1,5 @@
-//! The strand of a pedigree, by a walk down the open tree, and where its instance stood when it ended there by a fault.
+//! Replays the strand of a pedigree by a walk down the tree of spawns and loops, and finds where the strand's instance
+//! stood when a fault of its own ended it.
 #![tactic(auto)]
 
 mod descent;

@@ -1,4 +1,4 @@
-// Where an instance stood that ended by a fault of its own.
+// Where an instance stood when a fault of its own ended it.
 
 ghost use Rattle.std.specs.Prelude.{◌≡◌};
 ghost use Rattle.std.specs.Arc.{arc_value};
@@ -20,10 +20,11 @@ fn has_fault(strand: &Strand) -> bool
     strand.fault.is_some()
 }
 
-/// The fault of its own by which an instance ended in the strand of this pedigree, and where the instance stood then. None where the strand
-/// has no such fault.
+/// The fault by which an instance ended itself in the strand of this pedigree, and where in its function it stood then.
+/// `None` where the strand has no such fault. The errors are those of `replay`.
 ///
-/// It goes down to the strand as `replay` does, and then runs the strand's instance once more, with the children for which it waits.
+/// It walks down to the strand as `replay` does, and then runs the strand's instance once more, with the children for
+/// which it waits.
 pub fn fault_place(
     alloc: Global,
     plan: &Arc<Plan>,
@@ -31,7 +32,7 @@ pub fn fault_place(
 ) -> Result<Option<PlacedFault>, ReplayError>
     ensures { AnswersFaultPlace (arc_value plan.now) at.now result }
 {
-    // Read for the proof: a pedigree has a last rank.
+    // For the proof: a pedigree has a last rank.
     let _rank = at.rank;
     let mut origin = plan.main_origin(alloc)?;
     loop {

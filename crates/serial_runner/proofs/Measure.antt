@@ -11,10 +11,10 @@ use Rattle.strand_meaning.specs.Rest.{evaluations}
 use Rattle.strand_meaning.specs.Left.{stops_left}
 use Rattle.strand_meaning.specs.Sound.{IsTask}
 use Rattle.strand_meaning.specs.Laws.{IsSoundStop, KeepsOrigin, LeavesFewer}
-use Rattle.strand_meaning.proofs.NextStops.TasksReachStops.{stops_come}
+use Rattle.strand_meaning.proofs.NextStops.TasksReachStops.{stops_exist}
 use Rattle.strand_meaning.proofs.SoundSteps.StepsKeepTasks.{tasks_begin}
 use Rattle.strand_meaning.proofs.NextStops.StopsLeaveFewer.{stops_fall, answers_leave_no_more}
-use Rattle.strand_meaning.proofs.NextStops.OneSoundStop.{stops_are_one, stops_are_sound, stops_keep_origins}
+use Rattle.strand_meaning.proofs.NextStops.OneSoundStop.{stops_are_unique, stops_are_sound, stops_keep_origins}
 use Rattle.strand_meaning.proofs.TakenAnswers.AnswersKeepTasks.{answers_keep_tasks}
 use Rattle.serial_runner.specs.Stacks.{task_of, IsStack, tasks, tasks_after, StepsStack}
 use Rattle.serial_runner.specs.declared.stack.Stack.{Stack}
@@ -22,15 +22,15 @@ use Rattle.serial_runner.proofs.Starts.{size_of, IsSmaller, StartsBeforeStop, st
 
 -- the stop that a task comes to
 pub next : Task → Stop
-next t = (stops_come t).0
+next t = (stops_exist t).0
 
 next-comes : (t : Task) → IsNext t (next t)
 unfolding next
-next-comes t = (stops_come t).1
+next-comes t = (stops_exist t).1
 
 next-is : (t : Task) (stop : Stop) → IsNext t stop → next t ≡ stop
 unfolding next
-next-is t stop n = stops_are_one t (stops_come t).0 stop (stops_come t).1 n
+next-is t stop n = stops_are_unique t (stops_exist t).0 stop (stops_exist t).1 n
 
 abbrev gone_on : Task → Task
 gone_on t = on (evaluations (eval t.plan) t.trace.unmerged) t

@@ -7,7 +7,7 @@ use Rattle.serial_meaning.specs.Functions.{function_at}
 use Rattle.serial_meaning.specs.Plan.{PlanView, functions_of}
 use Rattle.serial_meaning.specs.Exec.{State, goes_out, frame, exec, with_loop_values}
 use Rattle.serial_meaning.specs.Eval.{Evaluation, path_of, eval_below, depth_left}
-use Rattle.serial_meaning.specs.Open.{Item, Happened, Child, Opened, Closed, NodeFault, Own, ChildFaulted, Node, put_off_all, unless_child_faulted, loop_end, is_empty_loop, raised, strand_after, last_of, node_of}
+use Rattle.serial_meaning.specs.Open.{Item, Happened, Child, Opened, Closed, NodeFault, Own, ChildFaulted, Node, deferring, unless_child_faulted, loop_end, is_empty_loop, raised, strand_after, last_of, node_of}
 use Rattle.serial_meaning.proofs.RisingPedigrees.Closed.{Closed as Rules, closed-exec, returned-q}
 use Rattle.serial_meaning.specs.declared.value.Value.{Value}
 use Rattle.serial_meaning.specs.declared.event.Fault.{Fault}
@@ -178,7 +178,7 @@ module _ (plan : PlanView) (child : Origin → Evaluation) where
   loop-follows path s o env r below (Err f) false = begun path rank_of s.rank (event.Loop (path ++ s.rank ∷ [])) o (Err (ChildFaulted f)) refl refl refl below (refl, strand-is path s.rank)
 
   -- a scope, by what its block and the sync at its end do
-  scope-follows : (path : List ℕ) (s : S) (r : Run Item NodeFault S) → P (path ++ s.rank ∷ []) 0 r → P path s.rank (after_items (Opened (path ++ s.rank ∷ []) ∷ []) r then goes_out (put_off_all plan child) plan path s.rank)
+  scope-follows : (path : List ℕ) (s : S) (r : Run Item NodeFault S) → P (path ++ s.rank ∷ []) 0 r → P path s.rank (after_items (Opened (path ++ s.rank ∷ []) ∷ []) r then goes_out (deferring plan child) plan path s.rank)
   scope-follows path s r h = from r.items r.ending h.follow h.ends
     where
       j : List ℕ
@@ -188,7 +188,7 @@ module _ (plan : PlanView) (child : Origin → Evaluation) where
       first = j ++ 0 ∷ []
 
       from : (items : List Item) (q : Result S NodeFault) → ((by : List ℕ) → Follow first by items) → ((by : List ℕ) → EndsAt j rank_of (stands first items) (came_by by items) q) →
-          P path s.rank (continued (Opened j ∷ items) q (goes_out (put_off_all plan child) plan path s.rank))
+          P path s.rank (continued (Opened j ∷ items) q (goes_out (deferring plan child) plan path s.rank))
       from items (Err (Own f)) g e = record { follow = λ by. (refl, strand-is path s.rank, g []); ends = λ by. e [] }
       from items (Err (ChildFaulted f)) g e = record { follow = λ by. (refl, strand-is path s.rank, g []); ends = λ by. e [] }
       from items (Ok a) g e = record {
@@ -196,7 +196,7 @@ module _ (plan : PlanView) (child : Origin → Evaluation) where
         ends = λ by. stands-append first items (Closed j ∷ []) ∙ risen-last path s.rank;
       }
 
-  rules_hold : Rules (put_off_all plan child) plan P Q
+  rules_hold : Rules (deferring plan child) plan P Q
   rules_hold = record {
     p-done = λ path s. record { follow = λ by. tt; ends = λ by. refl };
     q-done = λ path v s. record { follow = λ by. tt; ends = λ by. refl };
@@ -219,10 +219,10 @@ module _ (plan : PlanView) (child : Origin → Evaluation) where
   abbrev start : S
   start = record { env = []; rank = 0; steps = plan.limits.budget; spawned = None }
 
-  frame-follows : (path : List ℕ) (o : Option Function) (vs : List Value) → Q path 0 (frame (put_off_all plan child) plan path (exec (put_off_all plan child) plan) 0 o vs start)
+  frame-follows : (path : List ℕ) (o : Option Function) (vs : List Value) → Q path 0 (frame (deferring plan child) plan path (exec (deferring plan child) plan) 0 o vs start)
   frame-follows path None vs = record { follow = λ by. tt; ends = λ by. refl }
   frame-follows path (Some f) vs =
-      follows-then path rank_of pair_rank 0 _ _ (closed-exec (put_off_all plan child) plan P Q rules_hold path 0 f.body _) (λ a. returned-q (put_off_all plan child) plan P Q rules_hold path f a)
+      follows-then path rank_of pair_rank 0 _ _ (closed-exec (deferring plan child) plan P Q rules_hold path 0 f.body _) (λ a. returned-q (deferring plan child) plan P Q rules_hold path f a)
 
 -- how an instance ends, by where it stands and its by event
 abbrev pub NodeEnds : List ℕ → List ℕ → Result (List Value) NodeFault → Type 0
@@ -251,5 +251,5 @@ mapped {A = A} path rank r f g h = from r.items r.ending h.follow h.ends
 pub node-follows : (plan : PlanView) (o : Origin) → IsInstanceOrigin o → NodeFollows (path_of o) (node_of plan o)
 node-follows plan (origin.Instance function args path) i =
     let child : Origin → Evaluation = eval_below plan (depth_left plan (origin.Instance function args path)) in
-    mapped path (pair_rank plan child) (frame (put_off_all plan child) plan path (exec (put_off_all plan child) plan) 0 (function_at (functions_of plan) function) args (start plan child)) (λ r. r.0) (λ v. v ∷ []) (frame-follows plan child path (function_at (functions_of plan) function) args)
+    mapped path (pair_rank plan child) (frame (deferring plan child) plan path (exec (deferring plan child) plan) 0 (function_at (functions_of plan) function) args (start plan child)) (λ r. r.0) (λ v. v ∷ []) (frame-follows plan child path (function_at (functions_of plan) function) args)
 node-follows plan (origin.Loop function rest first path range) i = absurd i

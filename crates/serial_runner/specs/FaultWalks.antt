@@ -31,7 +31,7 @@ OriginMeets plan o met = MeetsToEnd (start plan o) met
 abbrev pub origin_in : FaultWalk → Origin
 origin_in w = w.task.task.origin
 
--- a walk of which nothing is done
+-- a walk before its first stop
 abbrev pub begun_fault_walk : PlanView → Origin → FaultWalk
 begun_fault_walk plan o = record { task = fresh plan o detached; awaited = []; met = None }
 

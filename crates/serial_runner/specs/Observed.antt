@@ -54,7 +54,7 @@ observed_on path j observation = record {
   child_fault = observation.child_fault;
 }
 
--- a walk of which nothing is done
+-- a walk before its first stop
 abbrev pub begun_walk : PlanView → Origin → List ℕ → NodeWalk
 begun_walk plan o j = record { task = fresh plan o detached; awaited = []; observed = nothing_seen (new_probe (path_of o) j) }
 

@@ -18,7 +18,7 @@ use Rattle.serial_runner.specs.declared.stack.Advanced.TheVariants.{Continues, E
 abbrev pub task_of : {K : Type 0} → OpenTask K → Task
 task_of f = f.task.task
 
--- A task with the answers of the children that it awaits, in order, but for the last ones, which are missing. It stands in no wait, and no
+-- A task with the answers of the children that it awaits, in order, without the last ones, which are missing. It isn't at a wait, and no
 -- answer is a cut.
 pub record IsOpenTask {K : Type 0} (missing : List Origin) (f : OpenTask K) : Type 0 where
   pub task : IsTask (task_of f)
@@ -27,7 +27,7 @@ pub record IsOpenTask {K : Type 0} (missing : List Origin) (f : OpenTask K) : Ty
   pub whole : any_cut f.answers ≡ false
   pub answers : answer_tags f.answers ++ tags (task_of f).plan missing ≡ tags (task_of f).plan (awaited (task_of f).trace.unmerged)
 
--- Of each open task the child above it is all that is missing.
+-- Of each open task only the answer of the child above it is missing.
 abbrev pub AreBelow : {K : Type 0} → Task → List (OpenTask K) → Type 0
 AreBelow above [] = Unit {0}
 AreBelow above (f ∷ fs) = (above.plan ≡ (task_of f).plan) × IsOpenTask (above.origin ∷ []) f × AreBelow (task_of f) fs

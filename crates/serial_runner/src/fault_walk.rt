@@ -101,8 +101,8 @@ fn walk_on(walk: FaultWalk, alloc: Global, plan: &Arc<Plan>) -> Result<FaultWalk
     }
 }
 
-/// The fault of its own by which an instance of the plan ends, and where the instance stood then. None where it ends by
-/// a value, or by a fault of a child.
+/// The fault of its own by which an instance of the plan ends, and where the instance stood then. None where it returns
+/// a value, or ends by a fault of a child.
 ///
 /// It runs the instance to its end, and where it waits the children for which it waits.
 pub fn meet_fault(

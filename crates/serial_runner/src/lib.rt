@@ -2,7 +2,7 @@
 //!
 //! It runs tasks of `strand_machine` on the calling thread, each child to its end before the rest of its parent: `run_serial` answers any
 //! origin of a plan. By the same runs `walk_node` says what one instance shows on the way down to a strand, and
-//! `meet_fault` where an instance stood that ended by a fault of its own.
+//! `meet_fault` where an instance stood when it met a fault of its own.
 #![tactic(auto)]
 
 mod advance;

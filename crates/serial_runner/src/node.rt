@@ -33,7 +33,7 @@ fn fault_at(fault: Option<Fault>, at: &Pedigree) -> Option<Fault>
     if fault.at.same(at) { Some(fault) } else { None }
 }
 
-// The strand that did this, if it came.
+// The strand with these events and this fault, if the instance came to it.
 fn strand_if(came: bool, events: Out, fault: Option<Fault>) -> Option<Strand>
     ensures { result ≡ (if came then Some (record { events = events; fault = fault }) else None) }
 {

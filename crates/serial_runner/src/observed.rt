@@ -42,7 +42,7 @@ fn newest(old: Option<Fault>, new: Option<Fault>) -> Option<Fault>
 }
 
 impl ObservedInstance {
-    /// Nothing yet.
+    // Nothing yet.
     pub fn new(probe: StrandProbe) -> ObservedInstance
         ensures { result ≡ nothing_seen probe }
     {
@@ -55,7 +55,7 @@ impl ObservedInstance {
         }
     }
 
-    /// Adds what was observed of the instance up to its next stop. The probe has all that it has seen so far.
+    // Adds what was observed of the instance up to its next stop. The probe has all that it has seen so far.
     pub fn observe(
         self,
         probe: StrandProbe,
@@ -76,7 +76,7 @@ impl ObservedInstance {
         })
     }
 
-    /// Adds a child that was begun.
+    // Adds a child that was begun.
     pub fn observe_child(
         &mut self,
         alloc: Global,
@@ -91,8 +91,8 @@ impl ObservedInstance {
         Ok(())
     }
 
-    /// Whether nothing that the instance does later matters for the pedigree: the child on the way there is known, or
-    /// the strand is over.
+    // Whether nothing that the instance does later matters for the pedigree: the child on the way there is known, or
+    // the strand is over.
     pub fn is_over(&self) -> bool
         ensures { result ≡ is_over self.now }
     {

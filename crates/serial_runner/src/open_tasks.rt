@@ -36,7 +36,7 @@ impl<K: Keep> Model for OpenTasks<K> {
 }
 
 impl<K: Keep> OpenTasks<K> {
-    /// No open task.
+    // No open task.
     pub fn new(alloc: Global) -> OpenTasks<K>
         ensures { result ≡ [] }
     {
@@ -46,7 +46,7 @@ impl<K: Keep> OpenTasks<K> {
         }
     }
 
-    /// A task that has no child's answer yet.
+    // A task that has no child's answer yet.
     pub fn open_task(&mut self, alloc: Global, task: Task<K>) -> OpenTask<K>
         ensures open_task { result ≡ record { task = task; answers = [] } }
         ensures same { self.new ≡ self.old }
@@ -61,7 +61,7 @@ impl<K: Keep> OpenTasks<K> {
         OpenTask { task, answers }
     }
 
-    /// Keeps a list that is no longer needed, where there is room for it.
+    // Keeps a list that is no longer needed, where there is room for it.
     pub fn reuse(&mut self, answers: Items<Answer<K>>)
         ensures { self.new ≡ self.old }
     {
@@ -71,7 +71,7 @@ impl<K: Keep> OpenTasks<K> {
         }
     }
 
-    /// Pushes a task, which is then the first to be taken.
+    // Pushes a task, which is then the first to be taken.
     pub fn push(&mut self, open_task: OpenTask<K>) -> Result<(), Memory>
         ensures { OnOk result (self.new ≡ open_task ∷ self.old) }
     {
@@ -79,7 +79,7 @@ impl<K: Keep> OpenTasks<K> {
         Ok(())
     }
 
-    /// Takes the first one.
+    // Takes the first one.
     pub fn pop(&mut self) -> Option<OpenTask<K>>
         ensures some { IfSome result (λ open_task. self.old ≡ open_task ∷ self.new) }
         ensures none { IfNone result (self.old ≡ []) }

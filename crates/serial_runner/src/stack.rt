@@ -2,7 +2,7 @@ use crate::open_tasks::{OpenTask, OpenTasks};
 use contract_views::Boxed;
 use serial_meaning::{Answer, Keep};
 
-// The task that runs, and below it those that began the one above as their last child.
+// The task that runs, and below it its ancestors: each began the task above it as its last child.
 #[derive(Drop)]
 pub(crate) struct Stack<K: Keep> {
     pub top: OpenTask<K>,

@@ -26,7 +26,7 @@ abbrev pub awaited : List AwaitedChild → List Origin
 awaited [] = []
 awaited (p ∷ ps) = p.child ∷ awaited ps
 
--- A trace has these events before its first child, this fault, and this after its children.
+-- A trace in parts: the events before its first child, its fault, and what comes after each child.
 pub record IsParted {K : Type 0} (trace : Trace) (prefix : List Event) (fault : Option Fault) (after : List (AfterChild K)) : Type 0 where
   pub children : List Origin
   pub many : length children ≡ length after

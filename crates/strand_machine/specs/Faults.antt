@@ -13,8 +13,8 @@ is_fault (outcome.Values vs) = false
 is_fault (outcome.Fault f) = true
 is_fault (outcome.Cut f) = false
 
--- What a task answers that has ended by a fault of its plan, and the give for it. That events and fault are the origin's is the answer's
--- own invariant.
+-- The answer of a task that ended by a fault of its plan, and the give for it. That its events and its fault are the origin's is the
+-- answer's own invariant.
 pub record EndsByFault (t : TaskView) (answer : AnswerView) (by : GiveView AnswerTag) : Type 0 where
   pub plan : answer.plan ≡ t.task.plan
   pub origin : answer.origin ≡ t.task.origin

@@ -4,6 +4,7 @@ pub mod Links
 pub mod Faults
 pub mod Merge
 pub mod Made
+pub mod MoveOrStop
 pub mod Observed
 pub mod Placed
 pub mod AwaitedChildren

@@ -20,12 +20,12 @@ use Rattle.strand_machine.specs.declared.stop.Paused.{Paused}
 use Rattle.strand_machine.specs.declared.stop.Paused.TheVariants as paused
 use Rattle.strand_machine.specs.declared.stop.Resumed.{Resumed}
 use Rattle.strand_machine.specs.declared.stop.Resumed.TheVariants as resumed
-use Rattle.strand_machine.specs.declared.stop.MoveOrStop.{MoveOrStop}
-use Rattle.strand_machine.specs.declared.stop.MoveOrStop.TheVariants as step
+use Rattle.strand_machine.specs.MoveOrStop.{MoveOrStop}
+use Rattle.strand_machine.specs.MoveOrStop as step
 use Rattle.strand_machine.specs.declared.stop.Stop.TheVariants as stop
 
--- Moves in a row lead from the first task to this one: what comes next of it comes next of the first, and it is of the same origin with the
--- same children.
+-- Moves in a row lead from the first task to this one: its next stop is the first one's next stop, and it has the same origin and the same
+-- children.
 pub record LeadsTo (first now : TaskView) : Type 0 where
   pub next : (stop : meaning.Stop) → IsNext now.task stop → IsNext first.task stop
   pub fewer : moves_left now.task ≤ moves_left first.task
@@ -54,7 +54,7 @@ remaining_goes_on _ = IsStep
 abbrev pub StepsOn : {K : Type 0} → TaskView → MoveOrStop K → Type 0
 StepsOn t = remaining_goes_on t.task.remaining t
 
--- that a task may end so, and its end: by the fault in its trace, or else so
+-- a task may end by the fault in its trace, or else by this outcome
 abbrev pub CanEnd : {K : Type 0} → TaskState K → Outcome → Type 0
 CanEnd b o = IsAnswer b.links.plan b.links.origin b.trace.prefix (ended_by b.trace.fault o)
 
@@ -64,11 +64,11 @@ ended_move b o =
     (stop.Done (record { plan = b.links.plan; origin = b.links.origin; out = b.trace.prefix; outcome = ended_by b.trace.fault o })
     (task_give b.links.plan b.links.origin b.links.joins))
 
--- A stop that begins a child of this origin, of which nothing is done. Its give is of the task's own join, and this remains.
+-- A stop that begins a new child of this origin, whose give is of the task's own join. Of the task this remains.
 abbrev pub IsSpawn : {K : Type 0} → TaskState K → Origin → Destination → Remaining → MoveOrStop K → Type 0
 IsSpawn b o at w s = (joins : JoinNames) × AreJoinNames b.links.joins.own joins × (s ≡ step.Stops (stop.Spawn (fresh b.links.plan o joins) (view_of (with_child b o at) w)))
 
--- The move or stop that left the task's parts so.
+-- The move or stop that came to this, and left the task's parts so.
 abbrev pub made : {K : Type 0} → Parts K → Passed K → MoveOrStop K
 made p passed.Continues = step.Passes (view_of p.state p.remaining)
 made p passed.Waits = step.Stops (stop.Wait (view_of p.state p.remaining))

@@ -48,7 +48,7 @@ IsStageOfPlan plan stage = (path : List ℕ) × StandsAt plan path stage
 abbrev pub IsRemainingOfPlan : PlanView → Remaining → Type 0
 IsRemainingOfPlan plan remaining = (o : Origin) × RemainsAt plan o remaining
 
--- The variable into which the value of a child with this destination goes is found, in the instance of a stage and in that of what remains of a task.
+-- The variable that the value of a child with this destination goes to has a slot, in the instance of a stage and in that of what remains of a task.
 abbrev pub StageFinds : PlanView → machine.Destination → meaning.Stage → Type 0
 StageFinds plan destination stage = FindsDestination plan (functions_at stage) destination
 
@@ -59,7 +59,7 @@ abbrev pub RemainingFindsAll : {K : Type 0} → PlanView → List (AfterChild K)
 RemainingFindsAll plan [] w = Unit {0}
 RemainingFindsAll plan (b ∷ bs) w = RemainingFinds plan (destination_of b.destination) w × RemainingFindsAll plan bs w
 
--- By its meaning the stage after it is the one before it, changed so, and an instance in it is still one of the plan.
+-- By its meaning the stage after this is the one before it with this change, and an instance in it is still one of the plan.
 pub record BecomesStage (change : meaning.Stage → meaning.Stage) (before after : Stage) : Type 0 where
   pub is : (plan : PlanView) → stage_of plan after ≡ change (stage_of plan before)
   pub stands : (plan : PlanView) (path : List ℕ) → StandsAt plan path before → StandsAt plan path after
@@ -69,8 +69,8 @@ pub record BecomesRemaining (change : meaning.Remaining → meaning.Remaining) (
   pub is : (plan : PlanView) → remaining_of plan after ≡ change (remaining_of plan before)
   pub of_plan : (plan : PlanView) (o : Origin) → RemainsAt plan o before → RemainsAt plan o after
 
--- A task that takes its children's answers: its own events, its values, what remains, and of the answers whether one is a cut, and whether the
--- fault is one by which a child was cut.
+-- A task while it takes its children's answers: its own events, its values and what remains; whether one of the answers was a cut; and whether
+-- the fault is one by which a child was cut.
 pub record Merge : Type 0 where
   pub prefix : List Event
   pub fault : Option Fault
@@ -105,26 +105,26 @@ end_of (Some f) true = Some (outcome.Cut f)
 abbrev pub ended_of : Merge → Option Outcome
 ended_of g = end_of g.fault g.by_cut
 
--- these are answers
-abbrev pub AreSaid : List AnswerView → Type 0
-AreSaid [] = Unit {0}
-AreSaid (a ∷ answers) = IsAnswer a.plan a.origin a.out a.outcome × AreSaid answers
+-- each of these is an answer of its origin
+abbrev pub AreAnswers : List AnswerView → Type 0
+AreAnswers [] = Unit {0}
+AreAnswers (a ∷ answers) = IsAnswer a.plan a.origin a.out a.outcome × AreAnswers answers
 
 -- A task took these answers of these children.
 pub record TakesAnswers (parts : List AwaitedChild) (answers : List AnswerView) (before after : Merge) : Type 0 where
   pub takes : IsMergeOf parts (answer_evaluations answers) before after
   pub ended : ended_of after ≡ ended_after (ended_of before) answers
   pub cut : after.cut ≡ (before.cut || any_cut answers)
-  pub said : AreSaid answers
+  pub said : AreAnswers answers
 
--- How a task ends that took a cut.
+-- How a task that took a cut ends.
 pub record EndsShort (links : LinksView) (g : Merge) : Type 0 where
   pub outcome : Outcome
   pub ended : ended_of g ≡ Some outcome
   pub answers : IsAnswer links.plan links.origin g.prefix outcome
   pub known : IsByFaultOf links.plan outcome
 
--- what is left of it
+-- what is left of a task that took a cut
 pub record IsShort (links : LinksView) (g : Merge) (was_advanced : Bool) (next : TaskView) : Type 0 where
   pub plan : next.task.plan ≡ links.plan
   pub origin : next.task.origin ≡ links.origin

@@ -13,7 +13,7 @@ use Rattle.strand_machine.specs.declared.probe.StrandProbe.{StrandProbe}
 use Rattle.strand_machine.specs.declared.observe.ObservedStop.{ObservedStop}
 use Rattle.strand_machine.specs.declared.observe.Observed.{Observed}
 
--- The next stop of a task, and of what is observed on the way to it that which is of this pedigree, with what the probe had seen before.
+-- The next stop of a task, and what is observed of this pedigree on the way to it, with what the probe had seen before.
 pub record IsObserved (t : TaskView) (j : List ℕ) (before : StrandProbe) (n : ObservedStop) : Type 0 where
   pub stop : IsStop t n.stop
   pub observation : meaning.Observation

@@ -1,4 +1,4 @@
--- Where an instance stood that met a fault of its own.
+-- Where an instance stood when it met a fault of its own.
 use Rattle.std.specs.Prelude.{◌≡◌, ℕ, List, Option, Some, None, Result, Ok, Err}
 use Rattle.serial_meaning.specs.Plan.{PlanView}
 use Rattle.serial_meaning.specs.Eval.{path_of}
@@ -53,7 +53,7 @@ pub record IsPlaced (t : TaskView) (n : PlacedStop) : Type 0 where
   pub stop : IsStop t n.stop
   pub meets : Meets t.task n.met (stop_of n.stop)
 
--- what a move of an instance meets that stood there
+-- the fault that a move meets, of an instance that stood there
 abbrev pub result_meets : Place → MoveResult → Option PlacedFault
 result_meets place (move_result.Went s) = None
 result_meets place (move_result.Returned v) = None

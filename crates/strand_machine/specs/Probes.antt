@@ -34,7 +34,7 @@ is_none_ahead (Some (suc n)) = false
 abbrev pub new_probe : List ℕ → List ℕ → StrandProbe
 new_probe path j = record { came = false; ahead = ahead_of (path ++ 0 ∷ []) j; past = false }
 
--- at the next strand
+-- the probe at the next strand
 abbrev pub goes_to : Option ℕ → StrandProbe → StrandProbe
 goes_to ahead probe = record probe { came = probe.came || is_none_ahead probe.ahead; ahead = ahead }
 

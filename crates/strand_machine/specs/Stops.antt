@@ -19,8 +19,8 @@ use Rattle.strand_machine.specs.declared.stop.Stop.{Stop}
 use Rattle.strand_machine.specs.declared.stop.Paused.{Paused}
 use Rattle.strand_machine.specs.declared.stop.Paused.TheVariants as paused
 use Rattle.strand_machine.specs.declared.stop.Stop.TheVariants as stop
-use Rattle.strand_machine.specs.declared.stop.MoveOrStop.{MoveOrStop}
-use Rattle.strand_machine.specs.declared.stop.MoveOrStop.TheVariants as step
+use Rattle.strand_machine.specs.MoveOrStop.{MoveOrStop}
+use Rattle.strand_machine.specs.MoveOrStop as step
 use Rattle.strand_machine.specs.declared.stop.Resumed.{Resumed}
 use Rattle.strand_machine.specs.declared.stop.Resumed.TheVariants as resumed
 
@@ -68,7 +68,7 @@ pub record IsCutEnd {K : Type 0} (t : TaskView) (ended : Outcome) (s : Stop K) :
   pub is : s ≡ stop.Done (record { plan = t.task.plan; origin = t.task.origin; out = t.task.trace.prefix; outcome = ended }) (task_give t.task.plan t.task.origin t.joins)
   pub known : IsByFaultOf t.task.plan ended
 
--- A task has ended, and what is left of it answers so.
+-- A task has ended, and what is left of it has the answer.
 pub record HasEnded (K : Type 0) (t rest : TaskView) : Type 0 where
   pub outcome : Outcome
   pub cut : rest.cut ≡ Some outcome

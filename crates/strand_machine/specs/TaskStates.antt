@@ -1,4 +1,4 @@
--- Loops.
+-- Which origins are loops that are split.
 use Rattle.std.specs.Prelude.{◌-◌, Bool, false, nat_lt}
 use Rattle.serial_meaning.specs.declared.origin.Origin.{Origin}
 use Rattle.serial_meaning.specs.declared.origin.Origin.TheVariants.{Instance, Loop}

@@ -1,4 +1,4 @@
--- A running task in the words of its meaning.
+-- A running task as the task that `strand_meaning` defines.
 use Rattle.std.specs.Prelude.{◌≡◌, ℕ, Bool, true, false, List, [], ◌++◌, Option, Some, None, Ok, Err, length, replicate}
 use Rattle.std.specs.Prelude.{pos}
 use Rattle.serial_meaning.specs.Answer.{IsAnswer}
@@ -116,8 +116,8 @@ pub record IsSound {K : Type 0} (b : TaskState K) (w : Remaining) : Type 0 where
   pub links : AwaitsLast b.links b.trace.unmerged
   pub of_plan : RemainsAt b.links.plan b.links.origin w
 
--- What holds of a task that has ended, or that took a cut: it ends so.
-pub record IsCutShort {K : Type 0} (b : TaskState K) (ended : Outcome) : Type 0 where
+-- What holds of a task whose outcome is known: it has ended, or it took a cut.
+pub record HasOutcome {K : Type 0} (b : TaskState K) (ended : Outcome) : Type 0 where
   pub answers : IsAnswer b.links.plan b.links.origin b.trace.prefix ended
   pub known : IsByFaultOf b.links.plan ended
   pub waits : b.waiting ≡ false
@@ -127,7 +127,7 @@ abbrev pub HoldsOfTask : {K : Type 0} → TaskState K → Remaining → Type 0
 HoldsOfTask b (remaining.Splits left) = IsSound b (remaining.Splits left)
 HoldsOfTask b (remaining.Runs s) = IsSound b (remaining.Runs s)
 HoldsOfTask b (remaining.Finished v gone_on) = IsSound b (remaining.Finished v gone_on)
-HoldsOfTask b (remaining.Ends ended) = IsCutShort b ended
+HoldsOfTask b (remaining.Ends ended) = HasOutcome b ended
 
 -- after a step; where it waits; where it began a child
 abbrev pub gone : {K : Type 0} → TaskState K → TaskState K
@@ -139,7 +139,7 @@ waiting b = record b { waiting = true; advanced = true }
 abbrev pub with_child : {K : Type 0} → TaskState K → Origin → Destination → TaskState K
 with_child b o p = record b { links = links_with_child b.links o; trace = add_child o (destination_of p) b.trace; advanced = true }
 
--- the fault in the trace, or else so
+-- the fault in the trace, or else this outcome
 abbrev pub ended_by : Option Fault → Outcome → Outcome
 ended_by (Some f) o = outcome.Fault f
 ended_by None o = o

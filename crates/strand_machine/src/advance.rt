@@ -1,4 +1,4 @@
-// Runs to the next stop, and ends.
+// Running a task to its next stop, and the ends of tasks.
 ghost use Rattle.std.specs.Prelude.{◌≡◌, IfOk, None, true};
 ghost use Rattle.strand_meaning.specs.Cuts.{IsByFaultOf};
 ghost use Rattle.strand_machine.specs.Made.{CanEnd, IsSoundMade, IsStopped, KnowsEnd, PausesAs, made};

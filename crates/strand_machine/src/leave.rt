@@ -6,7 +6,7 @@ ghost use Rattle.strand_machine.specs.Links.{AreJoinNames, links_with_child};
 ghost use Rattle.strand_machine.specs.Made.{IsSoundMade, IsSpawn, made};
 ghost use Rattle.strand_machine.specs.Stops.{IsStep};
 ghost use Rattle.strand_machine.specs.Tasks.{IsSound, view_of, fresh, gone, waiting, with_child};
-ghost use Rattle.strand_machine.specs.declared.stop.MoveOrStop.TheVariants as step;
+ghost use Rattle.strand_machine.specs.MoveOrStop as step;
 ghost use Rattle.strand_machine.specs.declared.stop.Stop.TheVariants as stop;
 ghost use Rattle.strand_machine.specs.declared.remaining.Stage.TheVariants as stage;
 ghost use Rattle.strand_machine.specs.declared.remaining.Remaining.TheVariants as remaining;

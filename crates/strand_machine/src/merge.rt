@@ -258,11 +258,15 @@ impl Merging {
     }
 }
 
-// More values of a loop.
+// More values of a loop. The first ones are those of its lower half, with which room is made for those of the other half.
 fn add_values(values: &mut Items<Value>, more: Items<Value>) -> Result<(), Memory>
     ensures { OnOk result (values.new ≡ values.old ++ more) }
 {
     let mut more = more;
+    if values.0.is_empty() {
+        let all = more.0.len().saturating_mul(2).saturating_add(1);
+        values.0.reserve(all)?;
+    }
     values.0.append(&mut more.0)?;
     Ok(())
 }

@@ -18,8 +18,8 @@ use crate::probe::{StrandProbe, pedigree};
 use crate::remaining::{Remaining, Stage};
 use crate::replace::set;
 use crate::run::apply_effects;
-use crate::step::{pass_with, run, stepped};
-use crate::stop::{MoveOrStop, Passed, Stop};
+use crate::step::{pass_with, run, to_stop};
+use crate::stop::{Passed, Stop};
 use crate::task::Task;
 use ped_path::Pedigree;
 use serial_meaning::{All, Event, Fault, Out};
@@ -213,22 +213,6 @@ fn pass_observed(
     remaining_observed(parts, alloc, at, remaining, observation)
 }
 
-// A move of the task, or its stop, which is observed.
-fn step_observed(
-    task: Task<All>,
-    alloc: Global,
-    at: &Pedigree,
-    observation: &mut Observed,
-) -> Result<MoveOrStop<All>, Memory>
-    requires { task.cut ≡ None }
-    ensures step { IfOk result (IsStep task) }
-    ensures observation { OnOk result (observation.new ≡ with_step at.now (step_observation task.task) observation.old) }
-{
-    let Task { mut parts } = task;
-    let passed = pass_observed(&mut parts, alloc, at, observation)?;
-    Ok(stepped(parts, passed))
-}
-
 impl Task<All> {
     ghost use Rattle.strand_meaning.specs.Observation.{IsInstanceOrigin};
     ghost use Rattle.strand_machine.specs.Observed.{IsObserved};
@@ -247,14 +231,13 @@ impl Task<All> {
     {
         laws::moves_fall();
         laws::stops_are_sound();
-        // Read for the proof: a task keeps by its type that finishing it gives the evaluation of its origin.
-        let _remaining = &self.parts.remaining;
+        let Task { mut parts } = self;
         let mut observation = Observed::new(probe);
-        let mut task = self;
         loop {
-            match step_observed(task, alloc, at, &mut observation)? {
-                MoveOrStop::Passes(next) => task = next,
-                MoveOrStop::Stops(stop) => {
+            match pass_observed(&mut parts, alloc, at, &mut observation)? {
+                Passed::Continues => {}
+                passed => {
+                    let stop = to_stop(parts, passed);
                     let Observed {
                         probe,
                         events,

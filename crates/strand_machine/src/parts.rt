@@ -32,6 +32,14 @@ impl<K: Keep> Parts<K> {
         }
     }
 
+    /// What `Task::unshare_path` does.
+    pub fn unshare_path(&mut self, alloc: Global)
+        ensures { self.new ≡ self.old }
+    {
+        self.remaining.unshare_path(alloc);
+        self.state.links.unshare_path(alloc);
+    }
+
     /// What is left of a task that ends: its links, its events before the first child, and the fault in its trace, if
     /// there is one. Its box is freed.
     #[inline(always)]

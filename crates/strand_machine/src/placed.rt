@@ -13,8 +13,8 @@ use crate::parts::Parts;
 use crate::remaining::{Remaining, Stage};
 use crate::replace::set;
 use crate::run::apply_effects;
-use crate::step::{pass_with, run, stepped};
-use crate::stop::{MoveOrStop, Passed, Stop};
+use crate::step::{pass_with, run, to_stop};
+use crate::stop::{Passed, Stop};
 use crate::task::Task;
 use serial_meaning::{All, Fault};
 use std::alloc::Global;
@@ -144,21 +144,6 @@ fn pass_placed(
     remaining_placed(parts, alloc, remaining, met)
 }
 
-// A move of the task, or its stop.
-fn step_placed(
-    task: Task<All>,
-    alloc: Global,
-    met: &mut Option<PlacedFault>,
-) -> Result<MoveOrStop<All>, Memory>
-    requires { task.cut ≡ None }
-    ensures step { IfOk result (IsStep task) }
-    ensures met { OnOk result (met.new ≡ latest met.old (step_meets task.task)) }
-{
-    let Task { mut parts } = task;
-    let passed = pass_placed(&mut parts, alloc, met)?;
-    Ok(stepped(parts, passed))
-}
-
 impl Task<All> {
     ghost use Rattle.strand_machine.specs.Placed.{IsPlaced};
 
@@ -170,14 +155,15 @@ impl Task<All> {
     {
         laws::moves_fall();
         laws::stops_are_sound();
-        // Read for the proof: a task keeps by its type that finishing it gives the evaluation of its origin.
-        let _remaining = &self.parts.remaining;
+        let Task { mut parts } = self;
         let mut met = None;
-        let mut task = self;
         loop {
-            match step_placed(task, alloc, &mut met)? {
-                MoveOrStop::Passes(next) => task = next,
-                MoveOrStop::Stops(stop) => return Ok(PlacedStop { stop, met }),
+            match pass_placed(&mut parts, alloc, &mut met)? {
+                Passed::Continues => {}
+                passed => {
+                    let stop = to_stop(parts, passed);
+                    return Ok(PlacedStop { stop, met });
+                }
             }
         }
     }

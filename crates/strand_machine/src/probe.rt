@@ -100,7 +100,7 @@ impl StrandProbe {
         self.go_to(rises_to_first(path, at));
     }
 
-    // The scope has ended that this strand began.
+    // The scope that this strand began has ended.
     pub(crate) fn leave_scope(&mut self, at: &Pedigree, scope: &Pedigree)
         ensures { self.new ≡ probe_after at.now self.old (Closed scope.now ∷ []) }
     {

@@ -65,6 +65,17 @@ impl Remaining {
         Remaining::Finished(Value::Int(0), true)
     }
 
+    /// Moves the path from which further children get theirs to memory of its own, where there is some.
+    pub fn unshare_path(&mut self, alloc: Global)
+        ensures { self.new ≡ self.old }
+    {
+        match self {
+            Remaining::Splits(left) => left.trail.path.unshare(alloc),
+            Remaining::Runs(Stage::Running(instance)) => instance.unshare_path(alloc),
+            _ => {}
+        }
+    }
+
     /// Takes out an instance that can continue, where one remains.
     #[inline(always)]
     pub fn take_running(&mut self) -> Option<Instance>

@@ -1,4 +1,5 @@
-// How a task continues after a wait.
+// How a task continues after a wait. There are two sources of answers: the task's own join (`resume`, `resume_in`), and a runner that keeps
+// the answers itself (`resume_with`, `resume_by`). The second call for each hands back the list of the answers, to be used again.
 ghost use Rattle.std.specs.Prelude.{◌≡◌, ◌-◌, [], true, false, length, drop, IfOk, OnOk};
 ghost use Rattle.strand_meaning.specs.Task.{resumed, resumed_remaining};
 ghost use Rattle.strand_machine.specs.Links.{tags, origins, AwaitsCount};

@@ -4,9 +4,10 @@ ghost use Rattle.std.specs.Option.{option_copied};
 ghost use Rattle.strand_meaning.specs.Task.{stops_at, child_in};
 ghost use Rattle.strand_meaning.specs.Trace.{emit};
 ghost use Rattle.serial_meaning.specs.Laws.{IsOriginOf};
-ghost use Rattle.strand_moves.specs.Machines.{HasPassedStatement, HasSpawned, IsInstance, path_of};
+ghost use Rattle.strand_moves.specs.Machines.{HasPassedStatement, HasSpawned, HasWaited, IsInstance, path_of};
 ghost use Rattle.strand_moves.specs.Moves.{IsTrailOf, effects_of};
 ghost use Rattle.strand_moves.specs.Spawns.{SpawnsTrail};
+ghost use Rattle.strand_moves.specs.Waits.{WaitsTrail};
 ghost use Rattle.strand_machine.specs.Made.{IsSoundMade, IsSpawn, made, IsRun};
 ghost use Rattle.strand_machine.specs.Effects.{task_after_effects, HasSoundEffects};
 ghost use Rattle.strand_machine.specs.Stops.{KeepsLinksInStep, step_of};
@@ -27,7 +28,7 @@ use script_grammar::Stmt;
 use serial_meaning::{Keep, Plan};
 use std::alloc::Global;
 use strand_meaning::laws;
-use strand_moves::{Effects, Instance, LoopedChild, MoveResult, SpawnedChild};
+use strand_moves::{Effects, Instance, LoopedChild, MoveResult, SpawnedChild, Waits};
 
 // The content of a box.
 fn unboxed<T>(boxed: Boxed<T>) -> T
@@ -58,6 +59,29 @@ fn spawn_next<K: Keep>(
     }
 }
 
+// The move that is next, where it is a written sync or a parallel loop, whose event joins the trace. Otherwise nothing
+// changes.
+#[inline(always)]
+fn wait_next<K: Keep>(
+    instance: &mut Instance,
+    alloc: Global,
+    plan: &Plan,
+    next: Option<&Stmt>,
+    trace: &mut Trace<K>,
+) -> Result<Option<Waits>, strand_moves::Memory>
+    requires sound { IsInstance plan.now instance.old }
+    requires passed { HasPassedStatement plan.now instance.old (option_copied next) }
+    ensures did { IfOk result (HasWaited emit plan.now instance.old trace.old (option_copied next.entry) instance.new trace.new) }
+    ensures child { IfOk result (WaitsTrail plan.now) }
+    ensures path { IfOk result (λ _. path_of instance.new ≡ path_of instance.old) }
+    ensures sound { IfOk result (λ _. IsInstance plan.now instance.new) }
+{
+    match next {
+        Some(statement) => instance.wait(alloc, plan, statement, trace),
+        None => Ok(None),
+    }
+}
+
 // Begins the child that was spawned, whose event the trace has.
 #[inline(always)]
 fn begin_spawned<K: Keep>(
@@ -80,6 +104,26 @@ fn begin_spawned<K: Keep>(
     } = spawned;
     let destination = Destination::Spawned(height, target);
     let next = Remaining::Runs(Stage::Running(instance));
+    spawn(parts, alloc, child, destination, next)
+}
+
+// Begins the loop for which the instance waits, whose event the trace has.
+fn begin_looped<K: Keep>(
+    parts: &mut Parts<K>,
+    alloc: Global,
+    instance: Instance,
+    looped: LoopedChild,
+) -> Result<Passed<K>, Memory>
+    requires known { IsOriginOf parts.old.state.links.plan looped.child.origin }
+    requires trail { IsTrailOf parts.old.state.links.plan looped.child.origin looped.child.trail }
+    requires sound { IsSound (with_child parts.old.state looped.child.origin (destination.Looped looped.target)) (remaining.Runs (stage.AtLoop instance)) }
+    ensures made { IfOk result (λ passed. IsSpawn parts.old.state looped.child.origin (destination.Looped looped.target)
+        (remaining.Runs (stage.AtLoop instance)) (made parts.new passed)) }
+    ensures sound { IfOk result (IsSoundMade parts.new) }
+{
+    let LoopedChild { child, target } = looped;
+    let destination = Destination::Looped(target);
+    let next = Remaining::Runs(Stage::AtLoop(instance));
     spawn(parts, alloc, child, destination, next)
 }
 
@@ -113,10 +157,7 @@ pub(crate) fn apply_effects<K: Keep>(
         }
         Effects::Looped { event, looped } => {
             parts.state.trace.emit(alloc, event)?;
-            let LoopedChild { child, target } = unboxed(looped);
-            let destination = Destination::Looped(target);
-            let next = Remaining::Runs(Stage::AtLoop(instance));
-            spawn(parts, alloc, child, destination, next)
+            begin_looped(parts, alloc, instance, unboxed(looped))
         }
     }
 }
@@ -146,13 +187,21 @@ pub(crate) fn go<K: Keep>(
             Ok(None) => {}
             Err(memory) => return Err(memory.into()),
         }
+        match wait_next(&mut instance, alloc, plan, next, &mut parts.state.trace) {
+            Ok(Some(waits)) => match waits {
+                Waits::Nothing => continue,
+                Waits::ForChildren => {
+                    return Ok(wait(parts, Remaining::Runs(Stage::AtSync(instance))));
+                }
+                Waits::ForLoop(looped) => {
+                    return begin_looped(parts, alloc, instance, unboxed(looped));
+                }
+            },
+            Ok(None) => {}
+            Err(memory) => return Err(memory.into()),
+        }
         match instance.make(alloc, plan, next) {
             Ok(MoveResult::Went(Effects::Nothing)) => {}
-            Ok(MoveResult::Went(Effects::Emitted(event))) => parts.state.trace.emit(alloc, event)?,
-            Ok(MoveResult::Went(Effects::Synced(event))) => {
-                parts.state.trace.emit(alloc, event)?;
-                return Ok(wait(parts, Remaining::Runs(Stage::AtSync(instance))));
-            }
             Ok(MoveResult::Went(effects)) => return apply_effects(parts, alloc, instance, effects),
             Ok(MoveResult::Returned(value)) => {
                 instance.discard();

@@ -2,6 +2,7 @@
 ghost use Rattle.std.specs.Prelude.{◌≡◌, ◌++◌, ◌∷◌, [], IfOk, OnOk};
 ghost use Rattle.serial_meaning.specs.declared.answer.Outcome.TheVariants as outcome;
 ghost use Rattle.strand_machine.specs.Made.{IsSoundMade, IsStopped, StopsSo, made, StepsOn, CanEnd, ended_move};
+ghost use Rattle.strand_machine.specs.MoveOrStop as step;
 ghost use Rattle.strand_machine.specs.Stops.{IsStep};
 ghost use Rattle.strand_machine.specs.Tasks.{IsSound, view_of};
 ghost use Rattle.strand_machine.specs.declared.remaining.Remaining.TheVariants as remaining;
@@ -12,7 +13,7 @@ use crate::memory::Memory;
 use crate::parts::Parts;
 use crate::remaining::{Left, Remaining, Stage, begun_last};
 use crate::run::go;
-use crate::stop::{MoveOrStop, Passed, Stop};
+use crate::stop::{Passed, Stop};
 use crate::task::Task;
 use crate::task_state::TaskState;
 use serial_meaning::{Keep, Outcome, Value};
@@ -124,7 +125,7 @@ pub(crate) fn pass_with<K: Keep>(
     }
 }
 
-// The same, by what the parts say is left. It stands apart, since the room for what it makes would else be cleared before each move.
+// The same, by what the parts say is left. It is a call of its own, since the room for what it makes would else be cleared before each move.
 #[inline(never)]
 fn move_other<K: Keep>(parts: &mut Parts<K>, alloc: Global) -> Result<Passed<K>, Memory>
     requires { IsSound parts.old.state parts.old.remaining }
@@ -152,7 +153,7 @@ fn move_once<K: Keep>(parts: &mut Parts<K>, alloc: Global) -> Result<Passed<K>, 
 // The end of a task: by the fault in its trace, or else by this outcome. Its box is freed.
 fn end<K: Keep>(parts: Box<Parts<K>>, outcome: Outcome) -> Stop<K>
     requires { CanEnd parts.value.state outcome }
-    ensures { MoveOrStop.Stops result ≡ ended_move parts.value.state outcome }
+    ensures { step.Stops result ≡ ended_move parts.value.state outcome }
 {
     let (links, prefix, fault) = Parts::end(parts);
     let outcome = match fault {
@@ -164,17 +165,6 @@ fn end<K: Keep>(parts: Box<Parts<K>>, outcome: Outcome) -> Stop<K>
     };
     let (answer, give) = links.answer(prefix, outcome);
     Stop::Done { answer, give }
-}
-
-// The task after a move in place, or at its stop.
-pub(crate) fn stepped<K: Keep>(parts: Box<Parts<K>>, passed: Passed<K>) -> MoveOrStop<K>
-    requires { IsSoundMade parts.value passed }
-    ensures { result ≡ made parts.value passed }
-{
-    match passed {
-        Passed::Continues => MoveOrStop::Passes(Task { parts }),
-        passed => MoveOrStop::Stops(to_stop(parts, passed)),
-    }
 }
 
 // Moves of the task in place, up to its next stop.
@@ -203,7 +193,7 @@ pub(crate) fn run_in_place<K: Keep>(
 pub(crate) fn to_stop<K: Keep>(parts: Box<Parts<K>>, passed: Passed<K>) -> Stop<K>
     requires sound { IsSoundMade parts.value passed }
     requires stops { IsStopped passed }
-    ensures { MoveOrStop.Stops result ≡ made parts.value passed }
+    ensures { step.Stops result ≡ made parts.value passed }
 {
     match passed {
         Passed::Continues => unreachable!(),

@@ -21,7 +21,7 @@ pub enum Stop<K: Keep = All> {
     },
 }
 
-/// Where a task stopped. One that has ended keeps its answer until `into_answer`, so that this type stays small.
+/// Where a task stopped, as `Stop` says it in more bytes: here a task that has ended keeps its answer until `into_answer`.
 #[derive(Drop)]
 pub enum Paused<K: Keep = All> {
     /// It began a child, which may run before, after or in parallel with the rest.
@@ -32,14 +32,8 @@ pub enum Paused<K: Keep = All> {
     Ended { rest: Task<K> },
 }
 
-// A move, or a stop.
-#[derive(Drop)]
-pub(crate) enum MoveOrStop<K: Keep> {
-    Passes(Task<K>),
-    Stops(Stop<K>),
-}
-
-// What a move in place, or a stop, left of a task in its parts.
+// What a step of a task in place came to. The parts have what is left of the task, so that no move of an instance moves the task. Only at a
+// stop a `Stop` or a `Paused` is made of both.
 #[derive(Drop)]
 pub(crate) enum Passed<K: Keep> {
     // It goes on.

@@ -141,6 +141,14 @@ impl<K: Keep> Task<K> {
         self.parts.state.links.set_plan(plan);
     }
 
+    /// Moves the paths from which its further children get theirs to memory of its own, where there is some. Then those children count no owners
+    /// of a path that the earlier ones count.
+    pub fn unshare_path(&mut self, alloc: Global)
+        ensures { self.new ≡ self.old }
+    {
+        self.parts.unshare_path(alloc);
+    }
+
     /// A copy of the task's origin. Its path shares its memory.
     pub fn share_origin(&self, alloc: Global) -> Result<Origin, Memory>
         ensures { IfOk result (λ origin. origin ≡ self.now.task.origin) }

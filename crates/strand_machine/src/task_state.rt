@@ -22,7 +22,7 @@ impl<K: Keep> TaskState<K> {
     ghost use Rattle.strand_meaning.specs.Trace.{no_trace};
     ghost use Rattle.strand_machine.specs.TaskStates.{is_long};
 
-    /// The state of a task that hasn't begun.
+    // The state of a task that hasn't begun.
     #[inline(always)]
     pub fn new(alloc: Global, links: Links<K>) -> TaskState<K>
         ensures { result ≡ record { links = links; trace = no_trace; values = []; waiting = false; advanced = false } }
@@ -36,7 +36,7 @@ impl<K: Keep> TaskState<K> {
         }
     }
 
-    /// Takes the values out.
+    // Takes the values out.
     pub fn take_values(&mut self, alloc: Global) -> Items<Value>
         ensures values { result ≡ self.old.values }
         ensures rest { self.new ≡ record self.old { values = [] } }
@@ -44,7 +44,7 @@ impl<K: Keep> TaskState<K> {
         mem::replace(&mut self.values, Items(Vec::new(alloc)))
     }
 
-    /// Whether its origin is a loop of two iterations or more.
+    // Whether its origin is a loop of two iterations or more.
     pub fn is_long(&self) -> bool
         ensures { result ≡ is_long self.now.links.origin }
     {

@@ -45,7 +45,7 @@ impl<K: Keep> Trace<K> {
     ghost use Rattle.strand_machine.specs.AwaitedChildren.{IsParted, awaited, destination_of};
     ghost use Rattle.strand_machine.specs.Tasks.{ended_by};
 
-    /// Nothing yet.
+    // Nothing yet.
     pub fn new(alloc: Global) -> Trace<K>
         ensures { result ≡ no_trace }
     {
@@ -57,14 +57,14 @@ impl<K: Keep> Trace<K> {
         }
     }
 
-    /// How many children's answers aren't taken.
+    // How many children's answers aren't taken.
     pub fn awaited_count(&self) -> u64
         ensures { result ≡ length (awaited self.now.unmerged) }
     {
         self.after.len() as u64
     }
 
-    /// One more event of the task's own.
+    // One more event of the task's own.
     #[inline(always)]
     pub fn emit(&mut self, alloc: Global, event: Event) -> Result<(), Memory>
         ensures { OnOk result (self.new ≡ emit event self.old) }
@@ -82,8 +82,8 @@ impl<K: Keep> Trace<K> {
         Ok(())
     }
 
-    /// One more event of the task's own: of this kind, with this path and rank as its pedigree. It is made only where
-    /// it is kept.
+    // One more event of the task's own: of this kind, with this path and rank as its pedigree. It is made only where
+    // it is kept.
     #[inline(always)]
     pub fn emit_at(
         &mut self,
@@ -106,7 +106,7 @@ impl<K: Keep> Trace<K> {
         Ok(())
     }
 
-    /// One more child.
+    // One more child.
     #[tactic(auto, using(crate::proofs::Moves::Starts::parts_more))]
     pub fn add_child(&mut self, child: &Origin, destination: Destination) -> Result<(), Memory>
         ensures { OnOk result (self.new ≡ add_child child.now (destination_of destination) self.old) }
@@ -132,7 +132,7 @@ impl<K: Keep> Trace<K> {
         Ok(())
     }
 
-    /// The outcome of a task with this trace: the fault in it, or else this one.
+    // The outcome of a task with this trace: the fault in it, or else this one.
     pub fn end(&mut self, outcome: Outcome) -> Outcome
         ensures ended { result ≡ ended_by self.old.fault outcome }
         ensures prefix { self.new.prefix ≡ self.old.prefix }
@@ -146,14 +146,14 @@ impl<K: Keep> Trace<K> {
         }
     }
 
-    /// Whether no answer is awaited.
+    // Whether no answer is awaited.
     pub fn awaits_none(&self) -> bool
         ensures { IsTrue result ↔ (self.now.unmerged ≡ []) }
     {
         self.after.is_empty()
     }
 
-    /// Takes the children out, with the events after each.
+    // Takes the children out, with the events after each.
     #[inline(always)]
     pub fn take_children(&mut self, alloc: Global) -> Vec<AfterChild<K>>
         ensures parted { IsParted self.old self.old.prefix self.old.fault result.items }
@@ -163,7 +163,7 @@ impl<K: Keep> Trace<K> {
         mem::replace(&mut self.after, Vec::new(alloc))
     }
 
-    /// Takes the fault out, if there is one.
+    // Takes the fault out, if there is one.
     #[inline(always)]
     pub fn take_fault(&mut self) -> Option<Fault>
         ensures fault { result ≡ self.old.fault }
@@ -172,7 +172,7 @@ impl<K: Keep> Trace<K> {
         self.fault.take()
     }
 
-    /// The events before the first child, and the fault that ends them, if there is one.
+    // The events before the first child, and the fault that ends them, if there is one.
     #[inline(always)]
     pub fn prefix(self) -> (Out<K>, Option<Fault>)
         ensures prefix { result.0 ≡ self.prefix }

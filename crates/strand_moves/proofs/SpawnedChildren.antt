@@ -1,3 +1,4 @@
 pub mod ChildLemmas
 pub mod Items
 pub mod Spawning
+pub mod Waiting

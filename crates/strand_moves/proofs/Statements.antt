@@ -8,3 +8,4 @@ pub mod FastPathLemmas
 pub mod FoundParts
 pub mod Going
 pub mod BoxedSpawns
+pub mod WaitMoves

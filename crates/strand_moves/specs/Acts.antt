@@ -39,7 +39,7 @@ pub record Stays (old new : InstanceParts) : Type 0 where
   pub scopes : open_scopes new ≡ open_scopes old
   pub leaving : new.leaving ≡ old.leaving
 
--- one frame more stands there at most, and no step is paid
+-- at most one frame more is open, and no step is paid
 pub record BeginsOne (old new : InstanceParts) : Type 0 where
   pub steps : new.steps ≡ old.steps
   pub frames : length new.below.items ≤ length old.below.items + 1
@@ -50,7 +50,7 @@ StaysUnlessMemory old new (Ok move_result) = Stays old new
 StaysUnlessMemory old new (Err (error.Fault kind)) = Stays old new
 StaysUnlessMemory old new (Err error.Memory) = Unit {0}
 
--- one scope more is open, in which it goes on
+-- one scope more is open, and the instance goes on in it
 pub record GoesIn (plan : PlanView) (old new : InstanceParts) : Type 0 where
   pub fits : FitsGamma plan.gamma new.trail
   pub path : new.trail.path ≡ old.trail.path ++ old.rank ∷ []
@@ -60,7 +60,7 @@ pub record GoesIn (plan : PlanView) (old new : InstanceParts) : Type 0 where
   pub steps : new.steps ≡ old.steps
   pub leaving : new.leaving ≡ old.leaving
 
--- an instance still, and its path
+-- it is still an instance, with the same path
 pub record IsKept (plan : PlanView) (old new : InstanceParts) : Type 0 where
   pub instance : IsInstance plan new
   pub path : path_of new ≡ path_of old
@@ -76,8 +76,8 @@ abbrev pub first_fault : List (Bool × FaultKind) → Result (Unit {0}) FaultKin
 first_fault [] = Ok tt
 first_fault (condition ∷ others) = if condition.0 then first_fault others else Err condition.1
 
--- A loop of so many iterations begins where there are steps for them, its target has room, and its pedigrees are within the depth. The first
--- of these that fails is its fault.
+-- A loop of n iterations begins where there are steps for them, its target has room, and its pedigrees are within the depth. The first of
+-- these that doesn't hold is its fault.
 abbrev pub loop_begins : PlanView → List ℕ → ℕ → Option Name → Env → ℕ → Result (Unit {0}) FaultKind
 loop_begins plan path n target env steps =
     first_fault ((nat_lt n (steps + 1), Budget) ∷ (has_room target n env, Index) ∷ (loop_fits plan path n, Depth) ∷ [])

@@ -1,4 +1,4 @@
--- Which statements of a function's body, or of a scope's block, are left, by the blocks that were entered and the place in the innermost one.
+-- Which statements of a function's body, or of a scope's block, are left, by the blocks that were entered and the index in the innermost one.
 use Rattle.std.specs.Prelude.{◌≡◌, ℕ, ◌-◌, ◌<◌, List, [], ◌∷◌, ◌++◌, Option, Some, None, length, slice_get, drop}
 use Rattle.script_grammar.specs.declared.tree.Expr.{Expr}
 use Rattle.script_grammar.specs.declared.tree.Stmt.{Stmt, out-Stmt}
@@ -21,7 +21,7 @@ abbrev pub branch_at : Option Stmt → Branch → List Stmt
 branch_at None p = []
 branch_at (Some st) p = branch_of (out-Act (out-Stmt st).act) p
 
--- where the statement stands that was entered: the enclosing block goes on at a loop itself, and after an `if`
+-- the index of the statement that was entered: the enclosing block goes on at a loop itself, and after an `if`
 abbrev pub entered_at : Branch → ℕ → ℕ
 entered_at branch.Yes back = back - 1
 entered_at branch.No back = back - 1
@@ -62,7 +62,7 @@ pub record IsAfterStatement (body : List Stmt) (c : Cursor) (st : Stmt) : Type 0
   pub some : 0 < c.next
   pub there : slice_get (block_of body c.entered.items) (c.next - 1) ≡ Some st
 
--- the next statement and those after it
+-- The cursor passes this statement, the next one.
 pub record PassesStatement (body : List Stmt) (old new : Cursor) (st : Stmt) : Type 0 where
   pub first : statements_left body old ≡ st ∷ statements_left body new
   pub after : IsAfterStatement body new st

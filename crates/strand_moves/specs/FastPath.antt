@@ -92,12 +92,12 @@ is_plain (act.Scope a) = false
 abbrev pub ByFault : Run Effect Fault Reached → Type 0
 ByFault run = (f : Fault) × (run ≡ record { items = []; ending = Err f })
 
--- What a statement does was done and showed nothing. Or nothing changed, and a plain one meets a fault.
+-- Either the statement was done and showed nothing, or nothing changed, and the statement, if it is plain, meets a fault.
 abbrev pub IsDone : Stmt → Act-F Act Stmt → InstanceParts → InstanceParts → Bool → Type 0
 IsDone st a old new true = (plan : PlanView) → acted plan (present_of old) (machine_of plan old) st a ≡ run_of (move_result.Went effect.Nothing) (machine_of plan new)
 IsDone st a old new false = (new ≡ old) × ((plan : PlanView) → is_plain a ≡ true → ByFault (acted plan (present_of old) (machine_of plan old) st a))
 
--- The same of the statement after which the cursor stands, and whose step is paid.
+-- The same for the statement that the cursor has just passed and whose step is paid.
 abbrev pub IsSilent : Stmt → InstanceParts → InstanceParts → Bool → Type 0
 IsSilent st old new true =
     (plan : PlanView) → IsAfterStatement (statements_of plan old.top) old.top.cursor st →
@@ -129,14 +129,14 @@ is_emitting (act.While e a) = false
 is_emitting (act.Pfor x lo hi target c) = false
 is_emitting (act.Scope a) = false
 
--- What a statement does was done, and the sink took the event that it showed. Or nothing changed, and an emitting one meets a fault.
+-- Either the statement was done and the sink took its event, or nothing changed, and the statement, if it is an emitting one, meets a fault.
 abbrev pub HasEmitted : {S : Type 0} → (Event → S → S) → PlanView → Stmt → Act-F Act Stmt → InstanceParts → S → InstanceParts → S → Bool → Type 0
 HasEmitted after plan st a old from new to true =
     (e : Event) × (to ≡ after e from) × (acted plan (present_of old) (machine_of plan old) st a ≡ run_of (move_result.Went (effect.Emitted e)) (machine_of plan new))
 HasEmitted after plan st a old from new to false =
     (new ≡ old) × (to ≡ from) × (is_emitting a ≡ true → ByFault (acted plan (present_of old) (machine_of plan old) st a))
 
--- A call was begun, or what there isn't was skipped. Or nothing changed.
+-- Either a call was begun, or skipped where its function doesn't exist; or nothing changed.
 abbrev pub HasCalled : PlanView → Stmt → Act-F Act Stmt → InstanceParts → InstanceParts → Bool → Type 0
 HasCalled plan st a old new true =
     (acted plan (present_of old) (machine_of plan old) st a ≡ run_of (move_result.Went effect.Nothing) (machine_of plan new)) × Stays old new × BeginsOne old new
@@ -151,14 +151,14 @@ pub record StaysThere (old new : InstanceParts) : Type 0 where
   pub target : new.top.target ≡ old.top.target
   pub steps : new.steps ≡ old.steps
 
--- the innermost frame stands where it stood, and no step is paid
+-- the innermost frame is where it was, and no step is paid
 pub record IsThere (old new : InstanceParts) : Type 0 where
   pub there : StaysThere old new
   pub cursor : new.top.cursor ≡ old.top.cursor
   pub stays : Stays old new
   pub few : Costs old new
 
--- A statement whose step is paid was done by the call of this form. Or its step was taken back, and nothing else changed.
+-- Either a statement whose step is paid was done by the call of this form, or its step was given back and nothing else changed.
 abbrev pub HasGone : {S : Type 0} → (Event → S → S) → PlanView → Stmt → InstanceParts → S → InstanceParts → S → Form → Type 0
 HasGone after plan st old from new to form.Emitting = HasEmitted after plan st (out-Act (out-Stmt st).act) old from new to true × IsThere old new
 HasGone after plan st old from new to form.Calling = HasCalled plan st (out-Act (out-Stmt st).act) old new true × (to ≡ from) × Costs old new
@@ -170,11 +170,11 @@ IsSentMove after plan old from new to =
     ((move plan (path_of old) (machine_of plan old) ≡ run_of (move_result.Went effect.Nothing) (machine_of plan new)) × (to ≡ from))
     ⊎ ((e : Event) × (move plan (path_of old) (machine_of plan old) ≡ run_of (move_result.Went (effect.Emitted e)) (machine_of plan new)) × (to ≡ after e from))
 
--- One step less is left at least, or one frame.
+-- At least one step or one frame less is left.
 abbrev pub Shortens : InstanceParts → InstanceParts → Type 0
 Shortens old new = 2 * new.steps + length new.below.items < 2 * old.steps + length old.below.items
 
--- The value of a frame went to the one below, which showed nothing. Or nothing changed.
+-- Either the value of a frame went to the one below, which showed nothing, or nothing changed.
 pub record GivesBackIfAny (plan : PlanView) (old new : InstanceParts) : Type 0 where
   pub straight_run : SilentRun plan old new
   pub path : path_of new ≡ path_of old
@@ -193,7 +193,7 @@ pub record MakesEnd {S : Type 0} (after : Event → S → S) (plan : PlanView) (
   pub sound : IsInstance plan new
   pub shorter : Shortens old new
 
--- A frame made moves of its end, after which the instance goes on. Or nothing changed.
+-- Either a frame made moves of its end, after which the instance goes on, or nothing changed.
 abbrev pub EndsFrame : {S : Type 0} → (Event → S → S) → PlanView → InstanceParts → S → InstanceParts → S → Bool → Type 0
 EndsFrame after plan old from new to true = MakesEnd after plan old from new to
 EndsFrame after plan old from new to false = (new ≡ old) × (to ≡ from)

@@ -18,7 +18,7 @@ pub record AreSlots (slots : List ℕ) (plan : PlanView) : Type 0 where
 abbrev pub FindsCallee : PlanView → Name → Type 0
 FindsCallee plan x = finds_callee (functions_of plan) x ≡ true
 
--- and the tables have each variable that is named here, and each function that is called
+-- the tables have each variable that is named here, and each function that is called
 abbrev pub FindsStatement : PlanView → List ℕ → EnvironmentView → Stmt → Type 0
 FindsStatement plan slots env st = every_in_statement (has_slot slots env.names) (finds_callee (functions_of plan)) st ≡ true
 
@@ -35,7 +35,7 @@ FindsVariables slots env st = (calls : Name → Bool) × (every_in_statement (ha
 abbrev pub FindsRightVariables : List ℕ → EnvironmentView → Right → Type 0
 FindsRightVariables slots env r = (calls : Name → Bool) × (every_in_right (has_slot slots env.names) calls r ≡ true)
 
--- Each variable that a spawn names is such a one, and so is what it calls.
+-- Each variable that a spawn names passes one test, and what it calls the other.
 pub record EveryInSpawn (is calls : Name → Bool) (to : Option Name) (c : CallText) : Type 0 where
   pub target : every_in_target is to ≡ true
   pub called : calls c.name ≡ true

@@ -1,4 +1,4 @@
--- What an instance is in the words of the strand's meaning.
+-- An instance as the machine that `strand_meaning` defines.
 use Rattle.std.specs.Prelude.{◌≡◌, ℕ, ◌+◌, ◌<◌, ◌^◌, Bool, true, false, List, [], ◌∷◌, ◌++◌, Option, Some, None, map, reverse, length, All, if◌then◌else◌}
 use Rattle.dotmix.specs.Trails.{FitsGamma}
 use Rattle.script_grammar.specs.declared.tree.Function.{Function}
@@ -18,7 +18,7 @@ abbrev pub body_in : Option Function → List Stmt
 body_in None = []
 body_in (Some f) = f.body
 
--- a function's body, by its place in the script
+-- a function's body, by its index in the script
 abbrev pub body_of : PlanView → ℕ → List Stmt
 body_of plan function = body_in (function_at (functions_of plan) function)
 
@@ -37,7 +37,7 @@ levels_of body (l ∷ ls) = record { rank = l.rank; left = statements_left (bloc
 abbrev pub statements_of : PlanView → Frame → List Stmt
 statements_of plan a = block_inside (body_of plan a.function) (reverse a.levels.items)
 
--- a frame that is, or isn't, after the sync at the end of its innermost scope
+-- a frame, by whether it is past the sync at the end of its innermost scope
 abbrev pub frame_of : PlanView → Bool → Frame → meaning.Frame
 frame_of plan leaving a = record {
   function = a.function;
@@ -71,7 +71,7 @@ open_scopes i = scopes_of (i.top ∷ reverse i.below.items)
 abbrev pub present_of : InstanceParts → List ℕ
 present_of i = i.trail.path
 
--- the path around these scopes, inside which a path stands
+-- the path around these scopes, by the path inside them
 abbrev pub path_around : List Level → List ℕ → List ℕ
 path_around [] here = here
 path_around (l ∷ ls) here = path_around ls l.trail.path
@@ -80,18 +80,18 @@ path_around (l ∷ ls) here = path_around ls l.trail.path
 abbrev pub path_of : InstanceParts → List ℕ
 path_of i = path_around (open_scopes i) i.trail.path
 
--- a path stands inside these scopes, whose trails are of the plan's coefficients
+-- this path is inside these scopes, whose trails are of the plan's coefficients
 abbrev pub AreAround : PlanView → List Level → List ℕ → Type 0
 AreAround plan [] here = Unit {0}
 AreAround plan (l ∷ ls) here = (here ≡ l.trail.path ++ l.rank ∷ []) × FitsGamma plan.gamma l.trail × AreAround plan ls l.trail.path
 
--- the ranks from which an instance goes on after these scopes, all together
+-- the sum of the ranks from which an instance goes on after these scopes
 abbrev pub ranks_after : List Level → ℕ
 ranks_after [] = 0
 ranks_after (l ∷ ls) = l.rank + 1 + ranks_after ls
 
--- What an instance's rank may come to, at most, with those from which it goes on after its scopes: a rank costs a step, and the step of a scope
--- pays for the sync at its end. After that sync the rank in it doesn't count any more.
+-- A bound on what an instance's rank may come to, with those from which it goes on after its scopes: a rank costs a step, and the step of a
+-- scope pays for the sync at its end. After that sync the rank in the scope doesn't count any more.
 abbrev pub rank_bound : InstanceParts → ℕ
 rank_bound i = (if i.leaving then 0 else i.rank) + i.steps + ranks_after (open_scopes i)
 
@@ -107,11 +107,11 @@ pub record IsNamed (plan : PlanView) (a : Frame) : Type 0 where
   pub of_plan : function_at (functions_of plan) a.function ≡ Some function
   pub names : a.env.names ≡ variable_names function
 
--- The table has the slot of what a call's value goes to among the caller's variables, if there is a target.
+-- The table has the slot of the caller's variable that a call's value goes to, if there is one.
 abbrev pub IsNamedIn : PlanView → Frame → Option Name → Type 0
 IsNamedIn plan caller target = FindsTarget (table_of_slots (functions_of plan)) caller.env target
 
--- the same of a frame with this target and of each below it, by the frames below, the innermost first
+-- the same for a frame with this target and for each frame below it, the innermost first
 abbrev pub TargetsAreNamed : PlanView → Option Name → List Frame → Type 0
 TargetsAreNamed plan target [] = Unit {0}
 TargetsAreNamed plan target (caller ∷ below) = IsNamedIn plan caller target × TargetsAreNamed plan caller.target below
@@ -120,11 +120,11 @@ pub record AreNamed (plan : PlanView) (i : InstanceParts) : Type 0 where
   pub each : All (IsNamed plan) (i.top ∷ i.below.items)
   pub targets : TargetsAreNamed plan i.top.target (reverse i.below.items)
 
--- No move changes whose variables they are.
+-- The variables of each frame stay those of its function.
 abbrev pub KeepsNames : PlanView → InstanceParts → InstanceParts → Type 0
 KeepsNames plan old new = AreNamed plan old → AreNamed plan new
 
--- An instance of this plan: its strand, and its open scopes. Where the sync at the end of a scope is after it, no statement is left in that scope.
+-- An instance of this plan: its strand, and its open scopes. Where it is past the sync at the end of a scope, no statement is left in that scope.
 pub record IsInstance (plan : PlanView) (i : InstanceParts) : Type 0 where
   pub strand : IsStrand plan i
   pub few : rank_bound i < 2 ^ 32

@@ -7,4 +7,5 @@ pub mod FastPath
 pub mod StraightRuns
 pub mod InstanceParts
 pub mod Spawns
+pub mod Waits
 pub mod Standing

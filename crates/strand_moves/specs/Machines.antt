@@ -1,4 +1,4 @@
--- What an instance is in the words of the strand's meaning: what stands in its box.
+-- A boxed instance as the machine that `strand_meaning` defines.
 use Rattle.std.specs.Prelude.{ℕ, List, Option}
 use Rattle.script_grammar.specs.declared.tree.Stmt.{Stmt}
 use Rattle.serial_meaning.specs.Plan.{PlanView}
@@ -8,6 +8,8 @@ use Rattle.strand_moves.specs.declared.instance.Instance.{Instance}
 use Rattle.strand_moves.specs.StraightRuns as straight_runs
 use Rattle.strand_moves.specs.InstanceParts as instance_parts
 use Rattle.strand_moves.specs.Spawns as spawns
+use Rattle.strand_moves.specs.Waits as waits
+use Rattle.strand_moves.specs.declared.effects.Waits.{Waits}
 use Rattle.strand_moves.specs.declared.effects.SpawnedChild.{SpawnedChild}
 use Rattle.strand_moves.specs.declared.effects.MoveResult.{MoveResult}
 
@@ -33,6 +35,9 @@ unpassed plan i next = straight_runs.unpassed plan i.parts.value next
 
 abbrev pub HasSpawned : {S : Type 0} → (Event → S → S) → PlanView → Instance → S → Option Stmt → Instance → S → Option SpawnedChild → Type 0
 HasSpawned after plan old from next new to done = spawns.HasSpawned after plan old.parts.value from next new.parts.value to done
+
+abbrev pub HasWaited : {S : Type 0} → (Event → S → S) → PlanView → Instance → S → Option Stmt → Instance → S → Option Waits → Type 0
+HasWaited after plan old from next new to done = waits.HasWaited after plan old.parts.value from next new.parts.value to done
 
 -- Moves in a row that showed nothing, or an event, which the sink took; and one more.
 abbrev pub RunsOn : {S : Type 0} → (Event → S → S) → PlanView → Instance → S → MoveResult → Instance → S → Type 0

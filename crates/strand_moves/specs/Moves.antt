@@ -72,7 +72,7 @@ Makes run strand m (Err error.Memory) = Unit {0}
 abbrev pub present_pedigree : List ℕ → Machine → List ℕ
 present_pedigree here m = here ++ m.rank ∷ []
 
--- what a statement does at a present path that is paid and stands no longer among those left
+-- what a statement does at a present path, once it is paid and no longer among those left
 unfoldable pub acted : PlanView → List ℕ → Machine → Stmt → Act-F Act Stmt → Run Effect Fault Reached
 acted plan here m st a =
     let r = does (parallel plan (child_destination (length m.below) a)) plan here inside (length m.below) st a (state_of m) in record { items = r.items; ending = reached plan (with_left m m.top.left) (machine_inside plan st a m.top.left m) r.ending }

@@ -31,7 +31,7 @@ IsBoxedSpawn e done result = (result ≡ spawn_as_move e done) ⊎ (result ≡ E
 abbrev pub DoesAs : Stmt → Option Name → CallText → Type 0
 DoesAs st to c = (plan : PlanView) (here : List ℕ) (m : Machine) → acted plan here m st (out-Act (out-Stmt st).act) ≡ acted plan here m st (spawn_to to c)
 
--- The spawn was done that the instance made after its cursor passed, and the sink took its event. Or nothing changed.
+-- Either the spawn that the cursor has just passed was done and the sink took its event, or nothing changed.
 abbrev pub HasSpawned : {S : Type 0} → (Event → S → S) → PlanView → InstanceParts → S → Option Stmt → InstanceParts → S → Option SpawnedChild → Type 0
 HasSpawned after plan old from next new to None = (new ≡ old) × (to ≡ from)
 HasSpawned after plan old from next new to (Some s) =

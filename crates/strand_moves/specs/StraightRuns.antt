@@ -13,7 +13,7 @@ use Rattle.strand_moves.specs.Cursors.{IsAfterStatement, statements_left, Passes
 use Rattle.strand_moves.specs.Moves.{run_of}
 use Rattle.strand_moves.specs.InstanceParts.{IsInstance, machine_of, path_of, statements_of}
 
--- They lead from the first of these instances to the other. A sink takes the events that they show.
+-- Such moves lead from the first of these instances to the other. A sink takes the events that they show.
 pub data StraightRun {S : Type 0} (after : Event → S → S) (plan : PlanView) (first : InstanceParts) (start : S) : InstanceParts → S → Type 0 where
   Still : (now : InstanceParts) (sent : S) → now ≡ first → sent ≡ start → StraightRun after plan first start now sent
   More : (before now : InstanceParts) (sent : S) → StraightRun after plan first start before sent → move plan (path_of before) (machine_of plan before) ≡ run_of (move_result.Went effect.Nothing) (machine_of plan now) → path_of now ≡ path_of before →
@@ -21,13 +21,13 @@ pub data StraightRun {S : Type 0} (after : Event → S → S) (plan : PlanView) 
   Emits : (before now : InstanceParts) (earlier sent : S) (e : Event) → StraightRun after plan first start before earlier → move plan (path_of before) (machine_of plan before) ≡ run_of (move_result.Went (effect.Emitted e)) (machine_of plan now) →
       sent ≡ after e earlier → path_of now ≡ path_of before → IsInstance plan now → StraightRun after plan first start now sent
 
--- They lead to an instance that makes one move more, and that one was made.
+-- Such moves, and then one move more.
 pub record RunsOn {S : Type 0} (after : Event → S → S) (plan : PlanView) (first : InstanceParts) (start : S) (m : MoveResult) (now : InstanceParts) (sent : S) : Type 0 where
   pub before : InstanceParts
   pub straight_run : StraightRun after plan first start before sent
   pub last : move plan (path_of before) (machine_of plan before) ≡ run_of m (machine_of plan now)
 
--- the statement after which a cursor stands that passed it, where one was left
+-- the statement that the cursor passed, if one was left
 abbrev pub IsNextStatement : List Stmt → Cursor → Cursor → Option Stmt → Type 0
 IsNextStatement body old new None = (statements_left body old ≡ []) × (statements_left body new ≡ [])
 IsNextStatement body old new (Some st) = PassesStatement body old new st
@@ -41,11 +41,11 @@ abbrev pub with_next : Option Stmt → List Stmt → List Stmt
 with_next None left = []
 with_next (Some st) left = st ∷ left
 
--- the machine before its cursor passed
+-- the machine before its cursor passed this statement
 abbrev pub unpassed : PlanView → InstanceParts → Option Stmt → Machine
 unpassed plan i next = let m = machine_of plan i in record m { top = record m.top { left = with_next next m.top.left } }
 
--- They lead to an instance whose cursor then passed its next statement, if one was left.
+-- Such moves lead to an instance whose cursor then passed its next statement, if one was left.
 pub record ComesToStatement {S : Type 0} (after : Event → S → S) (plan : PlanView) (first : InstanceParts) (start : S) (now : InstanceParts) (sent : S) (next : Option Stmt) : Type 0 where
   pub before : InstanceParts
   pub straight_run : StraightRun after plan first start before sent
@@ -73,7 +73,7 @@ pub record StaysInBlock (old new : InstanceParts) : Type 0 where
   pub entered : new.top.cursor.entered.items ≡ old.top.cursor.entered.items
   pub few : new.steps ≤ old.steps
 
--- A move that showed nothing was made in the same block, and its step paid. Or nothing changed.
+-- Either a move that showed nothing was made in the same block and its step paid, or nothing changed.
 abbrev pub IsMoveInBlock : PlanView → InstanceParts → InstanceParts → Bool → Type 0
 IsMoveInBlock plan old new true = IsSilentMove plan old new × StaysInBlock old new × (new.steps + 1 ≡ old.steps)
 IsMoveInBlock plan old new false = new ≡ old
@@ -85,7 +85,7 @@ pub record GoesOnInBlock {S : Type 0} (after : Event → S → S) (plan : PlanVi
   pub sound : IsInstance plan new
   pub stays : StaysInBlock old new
 
--- A move was made in the same block, and its step paid, and the sink took what it showed. Or nothing changed.
+-- Either a move was made in the same block, its step paid, and the sink took what it showed; or nothing changed.
 abbrev pub IsSentInBlock : {S : Type 0} → (Event → S → S) → PlanView → InstanceParts → S → InstanceParts → S → Bool → Type 0
 IsSentInBlock after plan old from new to true = GoesOnInBlock after plan old from new to × (new.steps + 1 ≡ old.steps)
 IsSentInBlock after plan old from new to false = (new ≡ old) × (to ≡ from)

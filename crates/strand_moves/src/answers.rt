@@ -17,7 +17,7 @@ use std::alloc::Global;
 use strand_values::Target;
 
 impl InstanceParts {
-    /// Takes the fault of a child of the frame with `height` others below it.
+    // Takes the fault of a child of the frame with `height` others below it.
     pub fn receive_fault(&mut self, height: usize, fault: Fault)
         ensures machine { (plan : PlanView) (target : _) → machine_of plan self.new ≡ changed height (frame_with_answer target (Err fault)) (machine_of plan self.old) }
         ensures path { path_of self.new ≡ path_of self.old }
@@ -30,8 +30,8 @@ impl InstanceParts {
         }
     }
 
-    /// Takes the value of a child of the frame with `height` others below it. Where that frame has no such variable,
-    /// nothing changes.
+    // Takes the value of a child of the frame with `height` others below it. Where that frame has no such variable,
+    // nothing changes.
     pub fn receive_value(
         &mut self,
         plan: &Plan,
@@ -52,7 +52,7 @@ impl InstanceParts {
         }
     }
 
-    /// Takes the values of a loop of the innermost frame.
+    // Takes the values of a loop of the innermost frame.
     pub fn receive_values(
         &mut self,
         alloc: Global,
@@ -69,7 +69,7 @@ impl InstanceParts {
         self.top.env.fill(alloc, plan.slots(), target, values);
     }
 
-    /// The least fault among the answers that the innermost frame took since its last sync.
+    // The least fault among the answers that the innermost frame took since its last sync.
     pub fn childs_fault(&self) -> Option<&Fault>
         ensures { (plan : PlanView) → option_copied result ≡ (machine_of plan self.now).top.faulted }
     {

@@ -6,7 +6,8 @@ ghost use Rattle.dotmix.specs.Trails.{FitsGamma};
 ghost use Rattle.script_grammar.specs.declared.tree.Act.TheOpen as act;
 ghost use Rattle.script_check.specs.Slots.{every_in_statement};
 ghost use Rattle.script_grammar.specs.declared.tree.Name.{Name};
-ghost use Rattle.script_grammar.specs.declared.tree.Stmt.{Stmt};
+ghost use Rattle.script_grammar.specs.declared.tree.Act.{out-Act};
+ghost use Rattle.script_grammar.specs.declared.tree.Stmt.{Stmt, out-Stmt};
 ghost use Rattle.serial_meaning.specs.Exec.{with_loop_values};
 ghost use Rattle.serial_meaning.specs.Functions.{function_at};
 ghost use Rattle.serial_meaning.specs.Open.{answer_placeholder};
@@ -23,10 +24,10 @@ ghost use Rattle.strand_values.specs.declared.evaluation_error.EvaluationError.T
 ghost use Rattle.strand_moves.specs.Moves.{IsTrailOf, MovesTrail, HasEffects, spawn_to};
 ghost use Rattle.strand_moves.specs.StraightRuns.{HasPassedStatement};
 ghost use Rattle.strand_moves.specs.Spawns.{DoesAs, HasSpawned, IsBoxedSpawn, SpawnsTrail, spawn_as_move};
-ghost use Rattle.strand_moves.specs.declared.effects.Effects.TheVariants as effect;
+ghost use Rattle.strand_moves.specs.Waits.{HasWaited, ShowsTrailAfter, WaitsTrail, wait_as_move};
 
 use crate::calls::function_in;
-use crate::effects::{Child, Effects, LoopedChild, MoveResult, SpawnedChild};
+use crate::effects::{Child, Effects, LoopedChild, MoveResult, SpawnedChild, Waits};
 use crate::event_sink::EventSink;
 use crate::frame::target_of;
 use crate::instance_parts::InstanceParts;
@@ -154,17 +155,170 @@ impl InstanceParts {
         ensures named { (plan : PlanView) → KeepsNames plan self.old self.new }
     {
         let event = Event::Sync(self.pedigree()?);
-        let waits = self.top.spawned;
-        self.rank += 1;
-        self.top.spawned = false;
-        if waits {
+        if self.pass_sync() {
             return Ok(MoveResult::Went(Effects::Synced(event)));
         }
         Ok(MoveResult::Went(Effects::Emitted(event)))
     }
 
-    // A parallel loop.
-    pub(crate) fn pfor(
+    // Passes a sync, whose event isn't shown yet. Returns whether the instance waits there.
+    #[inline(always)]
+    fn pass_sync(&mut self) -> bool
+        requires { self.old.rank < 2 ^ 32 }
+        ensures waits { result ≡ self.old.top.spawned }
+        ensures passed { self.new ≡ record self.old { rank = self.old.rank + 1; top = record self.old.top { spawned = false } } }
+        ensures stays { Stays self.old self.new }
+        ensures few { Costs self.old self.new }
+        ensures named { (plan : PlanView) → KeepsNames plan self.old self.new }
+    {
+        let waits = self.top.spawned;
+        self.rank += 1;
+        self.top.spawned = false;
+        waits
+    }
+
+    // The sync that the cursor has just passed. Its event goes to the sink. Where no step is left nothing changes.
+    fn sync_sent<S: EventSink>(
+        &mut self,
+        alloc: Global,
+        plan: &Plan,
+        statement: &Stmt,
+        sink: &mut S,
+    ) -> Result<Option<Waits>, Memory>
+        requires sound { IsInstance plan.now self.old }
+        requires passed { HasPassedStatement plan.now self.old (Some statement.now) }
+        requires is { out-Act (out-Stmt statement.now).act ≡ act.Sync }
+        ensures did { IfOk result (HasWaited S.after plan.now self.old sink.old (Some statement.now) self.new sink.new) }
+        ensures child { IfOk result (WaitsTrail plan.now) }
+        ensures path { IfOk result (λ _. path_of self.new ≡ path_of self.old) }
+        ensures sound { IfOk result (λ _. IsInstance plan.now self.new) }
+    {
+        if self.steps == 0 {
+            return Ok(None);
+        }
+        self.steps -= 1;
+        sink.emit_at(alloc, &self.trail.path, self.rank, EventKind::Sync)?;
+        if self.pass_sync() {
+            return Ok(Some(Waits::ForChildren));
+        }
+        Ok(Some(Waits::Nothing))
+    }
+
+    // The sync or the parallel loop that the cursor has just passed. Its event goes to the sink. Where the statement is
+    // another one, or meets a fault, nothing changes.
+    pub(crate) fn wait_statement<S: EventSink>(
+        &mut self,
+        alloc: Global,
+        plan: &Plan,
+        statement: &Stmt,
+        sink: &mut S,
+    ) -> Result<Option<Waits>, Memory>
+        requires sound { IsInstance plan.now self.old }
+        requires passed { HasPassedStatement plan.now self.old (Some statement.now) }
+        ensures did { IfOk result (HasWaited S.after plan.now self.old sink.old (Some statement.now) self.new sink.new) }
+        ensures child { IfOk result (WaitsTrail plan.now) }
+        ensures path { IfOk result (λ _. path_of self.new ≡ path_of self.old) }
+        ensures sound { IfOk result (λ _. IsInstance plan.now self.new) }
+    {
+        match &statement.act {
+            Act::Sync => self.sync_sent(alloc, plan, statement, sink),
+            Act::Pfor { .. } => self.loop_sent(alloc, plan, statement, sink),
+            _ => Ok(None),
+        }
+    }
+
+    // The same of a parallel loop.
+    fn loop_sent<S: EventSink>(
+        &mut self,
+        alloc: Global,
+        plan: &Plan,
+        statement: &Stmt,
+        sink: &mut S,
+    ) -> Result<Option<Waits>, Memory>
+        requires sound { IsInstance plan.now self.old }
+        requires passed { HasPassedStatement plan.now self.old (Some statement.now) }
+        ensures did { IfOk result (HasWaited S.after plan.now self.old sink.old (Some statement.now) self.new sink.new) }
+        ensures child { IfOk result (WaitsTrail plan.now) }
+        ensures path { IfOk result (λ _. path_of self.new ≡ path_of self.old) }
+        ensures sound { IfOk result (λ _. IsInstance plan.now self.new) }
+    {
+        let Act::Pfor {
+            var: _,
+            lo,
+            hi,
+            target,
+            call,
+        } = &statement.act
+        else {
+            return Ok(None);
+        };
+        if self.steps == 0 {
+            return Ok(None);
+        }
+        self.steps -= 1;
+        let rank = self.rank;
+        match self.pfor(alloc, plan, plan.slots(), lo, hi, target, call) {
+            Ok(waits) => {
+                sink.emit_at(alloc, &self.trail.path, rank, EventKind::Loop)?;
+                Ok(Some(waits))
+            }
+            Err(EvaluationError::Fault(_)) => {
+                self.steps += 1;
+                Ok(None)
+            }
+            Err(EvaluationError::Memory) => Err(Memory),
+        }
+    }
+
+    // A parallel loop, whose event isn't shown yet.
+    #[inline(always)]
+    fn pfor(
+        &mut self,
+        alloc: Global,
+        plan: &Plan,
+        slots: &[u16],
+        lo: &Expr,
+        hi: &Expr,
+        target: &Option<Name>,
+        call: &CallText,
+    ) -> Result<Waits, EvaluationError>
+        requires strand { IsStrand plan.now self.old }
+        requires steps { self.old.steps < 2 ^ 32 }
+        requires finds { FindsLoop plan.now slots.now self.old.top.env lo.now hi.now target.now call.now }
+        ensures shows { (st : Stmt) (var : _) → Acts plan.now st (act.Pfor var lo.now hi.now target.now call.now) self.old self.new (wait_as_move (event.Loop (present_of self.old ++ self.old.rank ∷ [])) result) }
+        ensures same { (kind : FaultKind) → result ≡ Err (Fault kind) → self.new ≡ self.old }
+        ensures child { IfOk result (ShowsTrailAfter plan.now) }
+        ensures stays { Stays self.old self.new }
+        ensures few { Costs self.old self.new }
+        ensures named { (plan : PlanView) → KeepsNames plan self.old self.new }
+    {
+        let first = number(&self.top.env.value(slots, lo)?);
+        let end = number(&self.top.env.value(slots, hi)?);
+        let rest = self.top.env.values(alloc, slots, call.args.as_slice())?;
+        let count = iteration_count(first, end);
+        self.begin_loop(plan, slots, target, count)?;
+        if count == 0 {
+            self.pass_loop(alloc, slots, target);
+            return Ok(Waits::Nothing);
+        }
+        let function = plan.callee(&call.name);
+        let (trail, path) = self.child_place(alloc, plan)?;
+        let range = IterRange { lo: 0, hi: count };
+        let origin = Origin::Loop {
+            function,
+            rest,
+            first,
+            path,
+            range,
+        };
+        let child = Child { origin, trail };
+        let looped = looped_child(alloc, target, child)?;
+        self.pass_loop(alloc, slots, target);
+        Ok(Waits::ForLoop(looped))
+    }
+
+    // The same, with its event, as a move.
+    pub(crate) fn pfor_move(
         &mut self,
         alloc: Global,
         plan: &Plan,
@@ -183,26 +337,9 @@ impl InstanceParts {
         ensures few { Costs self.old self.new }
         ensures named { (plan : PlanView) → KeepsNames plan self.old self.new }
     {
-        let first = number(&self.top.env.value(slots, lo)?);
-        let end = number(&self.top.env.value(slots, hi)?);
-        let rest = self.top.env.values(alloc, slots, call.args.as_slice())?;
-        let count = iteration_count(first, end);
-        self.begin_loop(plan, slots, target, count)?;
-        if count == 0 {
-            return Ok(MoveResult::Went(self.pass_loop(alloc, slots, target)?));
-        }
-        let function = plan.callee(&call.name);
-        let (trail, path) = self.child_place(alloc, plan)?;
-        let range = IterRange { lo: 0, hi: count };
-        let origin = Origin::Loop {
-            function,
-            rest,
-            first,
-            path,
-            range,
-        };
-        let child = Child { origin, trail };
-        Ok(MoveResult::Went(self.loop_effect(alloc, slots, target, child)?))
+        let event = Event::Loop(self.pedigree()?);
+        let done = self.pfor(alloc, plan, slots, lo, hi, target, call);
+        wait_as_move(event, done)
     }
 
     // Checks and pays what a loop of `count` iterations needs: its steps, an item of its target for each, and the
@@ -218,70 +355,33 @@ impl InstanceParts {
         ensures result { result ≡ loop_begins plan.now (present_of self.old) count target.now self.old.top.env.variables self.old.steps }
         ensures ok { OnOk result (self.new.steps + count ≡ self.old.steps) }
         ensures less { self.new.steps ≤ self.old.steps }
+        ensures same { OnErr result (self.new ≡ self.old) }
         ensures others { self.new ≡ record self.old { steps = self.new.steps } }
     {
         if count > self.steps {
             return Err(FaultKind::Budget);
         }
-        self.steps -= count;
         if !self.top.env.has_room(slots, target.as_ref(), count) {
             return Err(FaultKind::Index);
         }
         if count != 0 && self.trail.path.len() + 2 >= plan.limits.depth as u64 {
             return Err(FaultKind::Depth);
         }
+        self.steps -= count;
         Ok(())
     }
 
-    // A loop without iterations.
-    fn pass_loop(
-        &mut self,
-        alloc: Global,
-        slots: &[u16],
-        target: &Option<Name>,
-    ) -> Result<Effects, Memory>
+    // Passes a loop: its target has no value until it has ended.
+    fn pass_loop(&mut self, alloc: Global, slots: &[u16], target: &Option<Name>)
         requires rank { self.old.rank < 2 ^ 32 }
         requires target { FindsTarget slots.now self.old.top.env target.now }
-        ensures effects { IfOk result (λ s. s ≡ effect.Emitted (event.Loop (present_of self.old ++ self.old.rank ∷ []))) }
-        ensures passed { OnOk result (self.new ≡ record self.old { rank = self.old.rank + 1; top = record self.old.top { env = with_variables self.old.top.env (with_loop_values target.now [] self.old.top.env.variables) } }) }
+        ensures passed { self.new ≡ record self.old { rank = self.old.rank + 1; top = record self.old.top { env = with_variables self.old.top.env (with_loop_values target.now [] self.old.top.env.variables) } } }
         ensures stays { Stays self.old self.new }
         ensures few { Costs self.old self.new }
         ensures named { (plan : PlanView) → KeepsNames plan self.old self.new }
     {
         self.top.env.clear(alloc, slots, target.as_ref());
-        let event = Event::Loop(self.pedigree()?);
         self.rank += 1;
-        Ok(Effects::Emitted(event))
-    }
-
-    // A loop of one iteration or more.
-    fn loop_effect(
-        &mut self,
-        alloc: Global,
-        slots: &[u16],
-        target: &Option<Name>,
-        child: Child,
-    ) -> Result<Effects, Memory>
-        requires rank { self.old.rank < 2 ^ 32 }
-        requires target { FindsTarget slots.now self.old.top.env target.now }
-        ensures effects { IfOk result (λ s. s ≡ effect.Looped (event.Loop (present_of self.old ++ self.old.rank ∷ [])) (record { child = child; target = target.now })) }
-        ensures passed { OnOk result (self.new ≡ record self.old { rank = self.old.rank + 1; top = record self.old.top { env = with_variables self.old.top.env (with_loop_values target.now [] self.old.top.env.variables) } }) }
-        ensures stays { Stays self.old self.new }
-        ensures few { Costs self.old self.new }
-        ensures named { (plan : PlanView) → KeepsNames plan self.old self.new }
-    {
-        let into = target_of(target.as_ref());
-        let looped = boxed(
-            alloc,
-            LoopedChild {
-                child,
-                target: into,
-            },
-        )?;
-        self.top.env.clear(alloc, slots, target.as_ref());
-        let event = Event::Loop(self.pedigree()?);
-        self.rank += 1;
-        Ok(Effects::Looped { event, looped })
     }
 
     // The trail of a child of this strand, and its path, which shares the trail's memory.
@@ -359,7 +459,34 @@ fn spawn_as_move(
     }
 }
 
-// Boxes a value, so that `Effects` stays small.
+// The loop that this child runs.
+fn looped_child(
+    alloc: Global,
+    target: &Option<Name>,
+    child: Child,
+) -> Result<Boxed<LoopedChild>, Memory>
+    ensures { IfOk result (λ looped. looped ≡ record { child = child; target = target.now }) }
+{
+    let target = target_of(target.as_ref());
+    boxed(alloc, LoopedChild { child, target })
+}
+
+// What an instance waits for after this event, as a move.
+fn wait_as_move(
+    event: Event,
+    done: Result<Waits, EvaluationError>,
+) -> Result<MoveResult, EvaluationError>
+    ensures { result ≡ wait_as_move event done }
+{
+    match done {
+        Ok(Waits::Nothing) => Ok(MoveResult::Went(Effects::Emitted(event))),
+        Ok(Waits::ForChildren) => Ok(MoveResult::Went(Effects::Synced(event))),
+        Ok(Waits::ForLoop(looped)) => Ok(MoveResult::Went(Effects::Looped { event, looped })),
+        Err(error) => Err(error),
+    }
+}
+
+// Boxes a value, so that `Effects` and `Waits` stay small.
 fn boxed<T: Drop>(alloc: Global, it: T) -> Result<Boxed<T>, Memory>
     ensures { IfOk result (λ box. box ≡ it) }
 {

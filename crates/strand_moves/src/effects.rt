@@ -28,6 +28,17 @@ pub struct LoopedChild {
     pub target: Option<Target>,
 }
 
+/// What an instance waits for after the event of a sync or of a parallel loop.
+#[derive(Drop)]
+pub enum Waits {
+    /// It goes on.
+    Nothing,
+    /// A sync, for its children.
+    ForChildren,
+    /// A loop of one iteration or more. It is boxed, so that this type stays small.
+    ForLoop(Boxed<LoopedChild>),
+}
+
 /// What a move shows, in order: an event, if any, and then a child or a wait; or where a scope begins or has ended.
 #[derive(Drop)]
 pub enum Effects {

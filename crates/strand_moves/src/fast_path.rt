@@ -1,4 +1,5 @@
-// Moves in a row that show nothing, or an event alone: most moves are of this kind.
+// Moves in a row that show nothing, or an event alone: most moves are of this kind. They are dispatched apart from `statement`, so that
+// no result is made and matched for each move, and the block that the cursor is in isn't looked up again.
 
 ghost use Rattle.std.specs.Prelude.{◌≡◌, ◌<◌, ◌+◌, ◌^◌, [], false, true, IfOk};
 ghost use Rattle.std.specs.Option.{option_copied};
@@ -74,7 +75,7 @@ fn sent<S: EventSink>(
     }
 }
 
-// Which call does a statement that isn't plain in a straight run, if any does.
+// Which call of a straight run does a statement that isn't plain, if one does.
 #[derive(Clone, Copy, Debug, PartialEq, Eq)]
 pub(crate) enum Form {
     Emitting,
@@ -104,10 +105,10 @@ fn form_of_right(r: &Right) -> Form {
 }
 
 impl InstanceParts {
-    // Moves in a row, as far as they are plain or emitting statements, calls, or ends of frames after which the instance goes on: the first
-    // two give a variable a value, make an array, store an item, print, or are an `if` or a `while`. The text is found once and where another
-    // frame goes on, and a block again only where one is entered or left. The cursor passes the first statement that is none of these, or
-    // that meets a fault, if there is one.
+    // Moves in a row, as long as they are plain or emitting statements, calls, or ends of frames after which the instance goes on. Plain and
+    // emitting statements give a variable a value, make an array, store an item, print, or are an `if` or a `while`. The text is looked up
+    // once for each frame that goes on, and the block only where one is entered or left. At the end the cursor has passed the first statement
+    // that is none of these or meets a fault, if there is one.
     #[inline(always)]
     pub(crate) fn straight_run<'a, S: EventSink>(
         &mut self,

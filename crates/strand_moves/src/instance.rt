@@ -8,7 +8,7 @@ ghost use Rattle.strand_meaning.specs.Machine.{Stands, function_begun, move};
 ghost use Rattle.strand_meaning.specs.Found.{FindsAt, FindsInnermost, functions_in};
 ghost use Rattle.strand_meaning.specs.Task.{frame_with_answer, changed, with_values};
 
-use crate::effects::{MoveResult, SpawnedChild};
+use crate::effects::{MoveResult, SpawnedChild, Waits};
 use crate::event_sink::EventSink;
 use crate::frame::Frame;
 use crate::instance_parts::InstanceParts;
@@ -26,9 +26,10 @@ pub struct Instance {
 }
 
 impl Instance {
-    ghost use Rattle.strand_moves.specs.Machines.{ComesToStatement, HasPassedStatement, HasSpawned, IsInstance, machine_of, path_of, unpassed};
+    ghost use Rattle.strand_moves.specs.Machines.{ComesToStatement, HasPassedStatement, HasSpawned, HasWaited, IsInstance, machine_of, path_of, unpassed};
     ghost use Rattle.strand_moves.specs.Moves.{run_of, MovesTrail};
     ghost use Rattle.strand_moves.specs.Spawns.{SpawnsTrail};
+    ghost use Rattle.strand_moves.specs.Waits.{WaitsTrail};
 
     /// An instance of the function with this index, before its first move.
     #[inline(always)]
@@ -50,6 +51,14 @@ impl Instance {
         Ok(Instance { parts })
     }
 
+    /// Moves the present path to memory of its own, where there is some. Then the paths of further children share no list of blocks with those of
+    /// earlier ones.
+    pub fn unshare_path(&mut self, alloc: Global)
+        ensures { self.new ≡ self.old }
+    {
+        self.parts.trail.path.unshare(alloc);
+    }
+
     /// One move. After `Memory` the instance must not be used any more.
     pub fn make_move(&mut self, alloc: Global, plan: &Plan) -> Result<MoveResult, Memory>
         requires { IsInstance plan.now self.old }
@@ -61,8 +70,8 @@ impl Instance {
         self.parts.make_move(alloc, plan)
     }
 
-    /// Moves in a row that show nothing or an event, which the sink takes. The answer is the statement whose move is next, if one is left, for
-    /// `spawn` or `make`. Where there was no memory for one the instance is of no more use.
+    /// Makes moves in a row that show nothing or an event, which the sink takes. Returns the statement whose move is next, if one is left, for
+    /// `spawn`, `wait` or `make`. After `Memory` the instance must not be used any more.
     pub fn straight_run<'a, S: EventSink>(
         &mut self,
         alloc: Global,
@@ -92,6 +101,25 @@ impl Instance {
         ensures sound { IfOk result (λ _. IsInstance plan.now self.new) }
     {
         self.parts.spawn_statement(alloc, plan, statement, sink)
+    }
+
+    /// The next move, where it is a written sync or a parallel loop. Its event goes to the sink. Otherwise, or where it
+    /// meets a fault, nothing changes.
+    pub fn wait<S: EventSink>(
+        &mut self,
+        alloc: Global,
+        plan: &Plan,
+        statement: &Stmt,
+        sink: &mut S,
+    ) -> Result<Option<Waits>, Memory>
+        requires sound { IsInstance plan.now self.old }
+        requires passed { HasPassedStatement plan.now self.old (Some statement.now) }
+        ensures did { IfOk result (HasWaited S.after plan.now self.old sink.old (Some statement.now) self.new sink.new) }
+        ensures child { IfOk result (WaitsTrail plan.now) }
+        ensures path { IfOk result (λ _. path_of self.new ≡ path_of self.old) }
+        ensures sound { IfOk result (λ _. IsInstance plan.now self.new) }
+    {
+        self.parts.wait_statement(alloc, plan, statement, sink)
     }
 
     /// The next move. After `Memory` the instance must not be used any more.

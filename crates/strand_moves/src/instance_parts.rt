@@ -37,7 +37,7 @@ impl InstanceParts {
     ghost use Rattle.strand_moves.specs.Moves.{run_of, Makes, MovesTrail, present_pedigree};
     ghost use Rattle.strand_moves.specs.StraightRuns.{HasPassedStatement, unpassed};
 
-    /// An instance of the function with this index, before its first move.
+    // An instance of the function with this index, before its first move.
     #[inline(always)]
     pub fn new(
         alloc: Global,
@@ -57,7 +57,7 @@ impl InstanceParts {
         let Some(names) = plan.names(function) else {
             unreachable!()
         };
-        // its contract says that no two parameters have the same name
+        // Read for the proof: no two parameters have the same name.
         plan.slots();
         let env = Environment::bound(alloc, names, f.params.as_slice(), args)?;
         let parts = InstanceParts {
@@ -77,7 +77,7 @@ impl InstanceParts {
         }
     }
 
-    /// One move. After `Memory` the instance must not be used any more.
+    // One move. After `Memory` the instance must not be used any more.
     pub fn make_move(&mut self, alloc: Global, plan: &Plan) -> Result<MoveResult, Memory>
         requires { IsInstance plan.now self.old }
         ensures moves { IfOk result (λ move_result. move plan.now (path_of self.old) (machine_of plan.now self.old) ≡ run_of move_result (machine_of plan.now self.new)) }
@@ -92,7 +92,7 @@ impl InstanceParts {
         }
     }
 
-    // The move of a statement that the cursor has just passed, or where none was left.
+    // The move of the statement that the cursor has just passed, or, where none was left, of the end of the block.
     #[inline(always)]
     pub(crate) fn make(
         &mut self,

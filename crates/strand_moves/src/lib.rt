@@ -22,7 +22,7 @@ mod right;
 mod scopes;
 mod statement;
 
-pub use effects::{Child, Effects, LoopedChild, MoveResult, SpawnedChild};
+pub use effects::{Child, Effects, LoopedChild, MoveResult, SpawnedChild, Waits};
 pub use event_sink::EventSink;
 pub use instance::Instance;
 pub use memory::Memory;

@@ -61,7 +61,7 @@ fn drawn<'a>(statement: &'a Stmt) -> Option<&'a Name>
     }
 }
 
-// Whether the statement at this index of a block is a draw. A hint alone: the move looks itself.
+// Whether the statement at this index of a block is a draw. Only a hint: the move itself checks again.
 #[inline(always)]
 fn draws_at(block: &[Stmt], index: usize) -> bool {
     match block.get(index) {
@@ -99,8 +99,8 @@ impl InstanceParts {
         }
     }
 
-    // Moves in a row that assign plain numbers or draws, from where the cursor stands in this block, the body of a loop with this
-    // condition, and the steps by which the loop goes round. The cursor goes back to the block's first statement, and through no other block.
+    // Moves in a row in the body of a loop with this condition: those that assign plain numbers or draws, and those by which the loop goes
+    // round. The cursor stays in this block, and goes back to its first statement for each iteration.
     #[inline(never)]
     fn plain_run<S: EventSink>(
         &mut self,

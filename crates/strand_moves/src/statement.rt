@@ -1,4 +1,6 @@
-// Statements.
+// Each statement as one move, whose result says what it shows or which fault it meets. Most kinds are dispatched in `fast_path` too:
+// a straight run wants no result, only whether the statement was done. What isn't done there is done here. Both make the same calls
+// for a kind, such as `array` and `branch`.
 
 ghost use Rattle.std.specs.Prelude.{◌≡◌, ◌<◌, ◌+◌, ◌^◌, false, List, Err, IfOk};
 ghost use Rattle.script_grammar.specs.declared.tree.Stmt.{Stmt, out-Stmt};
@@ -61,7 +63,7 @@ impl InstanceParts {
                 hi,
                 target,
                 call,
-            } => self.pfor(alloc, plan, slots, lo, hi, target, call),
+            } => self.pfor_move(alloc, plan, slots, lo, hi, target, call),
             Act::Scope(_) => self.scope(alloc, plan),
         }
     }

@@ -9,8 +9,8 @@ use Rattle.strand_machine.specs.Made.{StepsOn, CanEnd, ended_move}
 use Rattle.strand_machine.specs.Stops.{IsStep}
 use Rattle.strand_machine.specs.Tasks.{IsSound, view_of, waiting}
 use Rattle.strand_machine.specs.declared.task_state.TaskState.{TaskState}
-use Rattle.strand_machine.specs.declared.stop.MoveOrStop.{MoveOrStop}
-use Rattle.strand_machine.specs.declared.stop.MoveOrStop.TheVariants as step
+use Rattle.strand_machine.specs.MoveOrStop.{MoveOrStop}
+use Rattle.strand_machine.specs.MoveOrStop as step
 use Rattle.strand_machine.specs.declared.stop.Stop.TheVariants as stop
 use Rattle.strand_machine.specs.declared.remaining.Stage.{Stage}
 use Rattle.strand_machine.specs.declared.remaining.Stage.TheVariants as stage

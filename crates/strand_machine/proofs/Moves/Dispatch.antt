@@ -36,8 +36,8 @@ use Rattle.strand_machine.specs.AwaitedChildren.{awaited, destination_of}
 use Rattle.strand_machine.specs.Effects.{task_after_effects, HasSoundEffects, IsKnownChild}
 use Rattle.strand_machine.specs.Made.{IsSpawn, ended_move, made as made_so}
 use Rattle.strand_machine.specs.Stops.{IsStep}
-use Rattle.strand_machine.specs.declared.stop.MoveOrStop.{MoveOrStop as MadeStep}
-use Rattle.strand_machine.specs.declared.stop.MoveOrStop.TheVariants as step-in
+use Rattle.strand_machine.specs.MoveOrStop.{MoveOrStop as MadeStep}
+use Rattle.strand_machine.specs.MoveOrStop as step-in
 use Rattle.strand_machine.specs.declared.stop.Passed.TheVariants as passed-in
 use Rattle.strand_machine.specs.declared.stop.Stop.TheVariants as stop-in
 use Rattle.strand_machine.specs.Tasks.{TaskView, view_of, fresh, cut_of, AwaitsLast, RunsAt, RemainsAt, IsSound, task_of, task_with, remaining_of, gone, waiting, with_child, ended_by}

@@ -13,8 +13,8 @@ use Rattle.strand_machine.specs.declared.task_state.TaskState.{TaskState}
 use Rattle.strand_machine.specs.declared.parts.Parts.{Parts}
 use Rattle.strand_machine.specs.declared.stop.Passed.{Passed}
 use Rattle.strand_machine.specs.declared.stop.Passed.TheVariants as passed
-use Rattle.strand_machine.specs.declared.stop.MoveOrStop.{MoveOrStop}
-use Rattle.strand_machine.specs.declared.stop.MoveOrStop.TheVariants as step
+use Rattle.strand_machine.specs.MoveOrStop.{MoveOrStop}
+use Rattle.strand_machine.specs.MoveOrStop as step
 use Rattle.strand_machine.specs.declared.stop.Stop.TheVariants as stop
 use Rattle.strand_machine.specs.declared.remaining.Remaining.{Remaining}
 use Rattle.strand_machine.proofs.NextStops.Advancing.{leads-start, run-falls, run-leads, run-stops, sound_holds}
@@ -49,9 +49,6 @@ module _ {K : Type 0} {E : Type 0} (b after : TaskState K) (w left : Remaining) 
       by_result (Err x) g k = tt
 
 -- what holds of the task, by what the move came to
-pub goes-holds : {K : Type 0} (p : Parts K) (x : Passed K) → x ≡ passed.Continues → IsSoundMade p x → HoldsOfTask p.state p.remaining
-goes-holds p x is h = sound_holds p.state p.remaining (subst (IsSoundMade p) is h)
-
 pub waits-holds : {K : Type 0} (p : Parts K) (x : Passed K) → x ≡ passed.Waits → IsSoundMade p x → HoldsOfTask p.state p.remaining
 waits-holds p x is h = sound_holds p.state p.remaining (subst (IsSoundMade p) is h)
 

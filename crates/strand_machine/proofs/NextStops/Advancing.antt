@@ -24,12 +24,12 @@ use Rattle.strand_machine.specs.Links.{AreJoinNames, GiveView, JoinNames, task_g
 use Rattle.strand_machine.specs.Made.{IsRun, LeadsTo, StepsOn, stage_goes_on, remaining_goes_on}
 use Rattle.strand_machine.specs.Stops.{IsStep, IsStop, IsKnownStop, Advances, KeepsLinks, stop_of}
 use Rattle.strand_machine.proofs.NextStops.ByCut.{advances-so}
-use Rattle.strand_machine.specs.Tasks.{TaskView, HoldsOfTask, IsCutShort, IsSound, fresh, has_outcome, cut_of, view_of}
+use Rattle.strand_machine.specs.Tasks.{TaskView, HoldsOfTask, HasOutcome, IsSound, fresh, has_outcome, cut_of, view_of}
 use Rattle.strand_machine.specs.declared.task_state.TaskState.{TaskState}
 use Rattle.strand_machine.specs.declared.remaining.Remaining.{Remaining}
 use Rattle.strand_machine.specs.declared.remaining.Remaining.TheVariants as remaining
-use Rattle.strand_machine.specs.declared.stop.MoveOrStop.{MoveOrStop as MadeStep}
-use Rattle.strand_machine.specs.declared.stop.MoveOrStop.TheVariants as step-in
+use Rattle.strand_machine.specs.MoveOrStop.{MoveOrStop as MadeStep}
+use Rattle.strand_machine.specs.MoveOrStop as step-in
 use Rattle.strand_machine.specs.declared.stop.Stop.{Stop as MadeStop}
 use Rattle.strand_machine.specs.declared.stop.Stop.TheVariants as stop-in
 
@@ -239,16 +239,16 @@ is-short b w t view short other = by_remaining w (ap (λ (v : TaskView). has_out
     by_remaining (remaining.Finished v gone_on) e h = true≢false (sym e)
     by_remaining (remaining.Ends o) e h = h o refl
 
-held-short : {K : Type 0} (b : TaskState K) (w : Remaining) (o : Outcome) → w ≡ remaining.Ends o → HoldsOfTask b w → IsCutShort b o
-held-short b w o is h = subst (HoldsOfTask b) is h
+holds-outcome : {K : Type 0} (b : TaskState K) (w : Remaining) (o : Outcome) → w ≡ remaining.Ends o → HoldsOfTask b w → HasOutcome b o
+holds-outcome b w o is h = subst (HoldsOfTask b) is h
 
-pub short-answers : {K : Type 0} (b : TaskState K) (w : Remaining) (o : Outcome) (prefix : List Event) → w ≡ remaining.Ends o → prefix ≡ b.trace.prefix → HoldsOfTask b w → IsAnswer b.links.plan b.links.origin prefix o
-short-answers b w o prefix is same h = subst (λ (es : List Event). IsAnswer b.links.plan b.links.origin es o) (sym same) (held-short b w o is h).answers
+pub outcome-answers : {K : Type 0} (b : TaskState K) (w : Remaining) (o : Outcome) (prefix : List Event) → w ≡ remaining.Ends o → prefix ≡ b.trace.prefix → HoldsOfTask b w → IsAnswer b.links.plan b.links.origin prefix o
+outcome-answers b w o prefix is same h = subst (λ (es : List Event). IsAnswer b.links.plan b.links.origin es o) (sym same) (holds-outcome b w o is h).answers
 
 pub short-ends : {K : Type 0} (b : TaskState K) (w : Remaining) (o : Outcome) (t : TaskView) → view_of b w ≡ t → w ≡ remaining.Ends o → HoldsOfTask b w → (prefix : List Event) (answer : AnswerView) (give : GiveView AnswerTag) → prefix ≡ b.trace.prefix →
     answer ≡ record { plan = b.links.plan; origin = b.links.origin; out = prefix; outcome = o } → give ≡ task_give b.links.plan b.links.origin b.links.joins → Advances {K = K} t (stop-in.Done answer give)
 short-ends {K} b w o t view is h prefix answer give same e g = subst (λ (v : TaskView). Advances {K = K} v (stop-in.Done answer give)) view (subst (λ (x : Remaining). Advances {K = K} (view_of b x) (stop-in.Done answer give)) (sym is) (advances-so (view_of b (remaining.Ends o)) (stop-in.Done answer give) (Some o) refl (record {
   is = ap (λ (a : AnswerView). stop-in.Done a give) (e ∙ ap (λ (es : List Event). record { plan = b.links.plan; origin = b.links.origin; out = es; outcome = o }) same)
       ∙ ap (λ (y : GiveView AnswerTag). stop-in.Done (record { plan = b.links.plan; origin = b.links.origin; out = b.trace.prefix; outcome = o }) y) g;
-  known = (held-short b w o is h).known;
+  known = (holds-outcome b w o is h).known;
 })))

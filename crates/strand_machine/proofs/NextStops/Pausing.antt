@@ -14,8 +14,8 @@ use Rattle.strand_machine.specs.Stops.{Advances, HasEnded, IsCutEnd, IsStop, Pau
 use Rattle.strand_machine.specs.Tasks.{HoldsOfTask, TaskView, cut_of, ended_by, has_outcome, view_of}
 use Rattle.strand_machine.specs.declared.task_state.TaskState.{TaskState}
 use Rattle.strand_machine.specs.declared.parts.Parts.{Parts}
-use Rattle.strand_machine.specs.declared.stop.MoveOrStop.{MoveOrStop}
-use Rattle.strand_machine.specs.declared.stop.MoveOrStop.TheVariants as step-in
+use Rattle.strand_machine.specs.MoveOrStop.{MoveOrStop}
+use Rattle.strand_machine.specs.MoveOrStop as step-in
 use Rattle.strand_machine.specs.declared.stop.Passed.{Passed}
 use Rattle.strand_machine.specs.declared.stop.Passed.TheVariants as passed-in
 use Rattle.strand_machine.specs.declared.stop.Paused.{Paused}

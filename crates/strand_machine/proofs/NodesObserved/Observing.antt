@@ -1,9 +1,10 @@
 -- What is observed of a step.
-use Rattle.std.proofs.Common.{◌≡◌, ℕ, List, [], ◌++◌, Option, Some, None, refl, sym, ap, ◌∙◌, subst}
+use Rattle.std.proofs.Common.{◌≡◌, ◌<◌, ℕ, List, [], ◌++◌, Option, Some, None, refl, sym, ap, ◌∙◌, subst}
 use Rattle.serial_meaning.specs.declared.event.Event.{Event}
 use Rattle.serial_meaning.specs.declared.event.Fault.{Fault}
 use Rattle.serial_meaning.specs.declared.keep.All.{All}
 use Rattle.strand_meaning.specs.Laws.{MovesFall, StopsAreSound}
+use Rattle.strand_meaning.specs.Left.{moves_left}
 use Rattle.strand_meaning.specs.Observation as meaning
 use Rattle.strand_meaning.specs.Observation.{newest, also, no_observation, step_observation, Shows, Now, Later}
 use Rattle.strand_meaning.specs.Sound.{IsTask}
@@ -13,15 +14,18 @@ use Rattle.strand_meaning.proofs.NodesObserved.StopsObserved.{also-assoc}
 use Rattle.strand_meaning.proofs.NodesObserved.EventsOfPedigree.{events_at-append}
 use Rattle.strand_machine.specs.Probes.{probe_after}
 use Rattle.strand_machine.specs.Observed.{IsObserved, with_step}
-use Rattle.strand_machine.specs.Made.{LeadsTo}
+use Rattle.strand_machine.specs.Made.{IsSoundMade, LeadsTo, made}
 use Rattle.strand_machine.specs.Stops.{IsStep, stop_of}
-use Rattle.strand_machine.specs.Tasks.{TaskView}
+use Rattle.strand_machine.specs.Tasks.{HoldsOfTask, IsSound, TaskView, task_of, view_of}
+use Rattle.strand_machine.specs.declared.parts.Parts.{Parts}
 use Rattle.strand_machine.specs.declared.probe.StrandProbe.{StrandProbe}
 use Rattle.strand_machine.specs.declared.observe.Observed.{Observed}
-use Rattle.strand_machine.specs.declared.stop.MoveOrStop.{MoveOrStop as MadeStep}
-use Rattle.strand_machine.specs.declared.stop.MoveOrStop.TheVariants as step-in
+use Rattle.strand_machine.specs.MoveOrStop.{MoveOrStop as MadeStep}
+use Rattle.strand_machine.specs.MoveOrStop as step-in
+use Rattle.strand_machine.specs.declared.stop.Passed.{Passed}
+use Rattle.strand_machine.specs.declared.stop.Passed.TheVariants as passed
 use Rattle.strand_machine.specs.declared.stop.Stop.{Stop as MadeStop}
-use Rattle.strand_machine.proofs.NextStops.Advancing.{leads-start, leads-on, stops-there}
+use Rattle.strand_machine.proofs.NextStops.Advancing.{falls, is-sound, leads-start, leads-on, stops-there}
 use Rattle.strand_machine.proofs.NodesObserved.Probes.{looks-append, own-append}
 
 newest-none : (f : Option Fault) → newest None f ≡ f
@@ -93,3 +97,38 @@ module _ (first : TaskView) (j : List ℕ) (probe : StrandProbe) (now : TaskView
         fault = ap (λ (n : Observed). n.fault) same ∙ ap (λ (f : Option Fault). newest f step-shows.fault) h.fault;
         child_fault = ap (λ (n : Observed). n.child_fault) same ∙ ap (λ (f : Option Fault). newest f step-shows.child_fault) h.child_fault;
       }
+
+-- The parts of a task to which moves in a row have led, with what was observed on the way.
+pub record IsObservedWay (first : TaskView) (j : List ℕ) (before : StrandProbe) (p : Parts All) (observation : Observed) : Type 0 where
+  pub sound : IsSound p.state p.remaining
+  pub leads : LeadsObserved first j before (view_of p.state p.remaining) observation
+
+pub observed-way : (t : TaskView) (j : List ℕ) (probe : StrandProbe) (p : Parts All) (observation : Observed) → view_of p.state p.remaining ≡ t → t.cut ≡ None → HoldsOfTask p.state p.remaining →
+    observation ≡ record { probe = probe; events = []; fault = None; child_fault = None } → IsObservedWay t j probe p observation
+observed-way t j probe p observation same goes holds h = record {
+  sound = is-sound p.state p.remaining t same goes holds;
+  leads = subst (λ (v : TaskView). LeadsObserved t j probe v observation) (sym same) (observed-start t j probe observation goes h);
+}
+
+-- One step further, of the parts `now`, which are those of the way.
+module _ (first : TaskView) (j : List ℕ) (probe : StrandProbe) (old now next : Parts All) (observation after : Observed) (x : Passed All) (at : now ≡ old) (way : IsObservedWay first j probe old observation)
+    (same : after ≡ with_step j (step_observation (task_of now.state now.remaining)) observation) (steps : IsStep (view_of now.state now.remaining) (made next x)) (sound : IsSoundMade next x) where
+  abbrev here : TaskView
+  here = view_of now.state now.remaining
+
+  leads-here : LeadsObserved first j probe here observation
+  leads-here = subst (λ (p : Parts All). LeadsObserved first j probe (view_of p.state p.remaining) observation) (sym at) way.leads
+
+  pub observed-way-on : MovesFall → x ≡ passed.Continues → IsObservedWay first j probe next after
+  observed-way-on law is = record {
+    sound = subst (IsSoundMade next) is sound;
+    leads = observed-on first j probe here observation after leads-here same law (view_of next.state next.remaining) (made next x) steps (ap (made next) is);
+  }
+
+  pub observed-way-falls : MovesFall → x ≡ passed.Continues → moves_left (task_of next.state next.remaining) < moves_left (task_of old.state old.remaining)
+  observed-way-falls law is =
+      subst (λ (p : Parts All). moves_left (task_of next.state next.remaining) < moves_left (task_of p.state p.remaining)) at (falls law here (view_of next.state next.remaining) (made next x) steps (ap (made next) is))
+
+  pub observed-way-stops : StopsAreSound → IsTask first.task → (stop : MadeStop All) → step-in.Stops stop ≡ made next x →
+      IsObserved first j probe (record { stop = stop; probe = after.probe; events = after.events; fault = after.fault; child_fault = after.child_fault })
+  observed-way-stops law known stop is = observed-stop first j probe here observation after leads-here same law known stop (made next x) steps (sym is)

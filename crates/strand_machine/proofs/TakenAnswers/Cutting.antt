@@ -18,12 +18,12 @@ use Rattle.strand_meaning.specs.Trace.{AwaitedChild, Trace, merged_answer, merge
 use Rattle.strand_meaning.specs.Sound.{IsTask}
 use Rattle.strand_meaning.specs.Task.{takes, more_values}
 use Rattle.strand_machine.specs.Links.{LinksView, tag, tags, origins}
-use Rattle.strand_machine.specs.Merge.{AreSaid, BecomesRemaining, EndsShort, IsShort, KeepsRest, Merge, IsMergeOf, TakesAnswers, RemainingFindsAll, IsRemainingOfPlan, end_of, ended_of, result_of_outcome, meanings, merge_of, trace_of, with_stage}
+use Rattle.strand_machine.specs.Merge.{AreAnswers, BecomesRemaining, EndsShort, IsShort, KeepsRest, Merge, IsMergeOf, TakesAnswers, RemainingFindsAll, IsRemainingOfPlan, end_of, ended_of, result_of_outcome, meanings, merge_of, trace_of, with_stage}
 use Rattle.strand_machine.specs.AwaitedChildren.{awaited, awaited_child, awaited_children, destination_of}
 use Rattle.strand_machine.specs.declared.destination.Destination.{Destination}
 use Rattle.strand_machine.specs.declared.destination.Destination.TheVariants as destination
 use Rattle.strand_machine.specs.Stops.{IsCutOn, WentOn, answer_tags, any_cut, is_cut, prefix_with, view_on}
-use Rattle.strand_machine.specs.Tasks.{TaskView, IsCutShort, task_of, view_of, remaining_of}
+use Rattle.strand_machine.specs.Tasks.{TaskView, HasOutcome, task_of, view_of, remaining_of}
 use Rattle.strand_machine.specs.declared.task_state.TaskState.{TaskState}
 use Rattle.strand_machine.specs.declared.merge.Merging.{Merging}
 use Rattle.strand_machine.specs.declared.parts.Parts.{Parts}
@@ -118,7 +118,7 @@ or-right : (a b : Bool) → (a || b) ≡ false → b ≡ false
 or-right false b h = h
 or-right true b h = absurd (true≢false h)
 
-pub whole-answers : AnswersAreEvaluations → (answers : List AnswerView) → AreSaid answers → any_cut answers ≡ false → answer_evaluations answers ≡ meanings (answer_tags answers)
+pub whole-answers : AnswersAreEvaluations → (answers : List AnswerView) → AreAnswers answers → any_cut answers ≡ false → answer_evaluations answers ≡ meanings (answer_tags answers)
 whole-answers law [] said whole = refl
 whole-answers law (a ∷ answers) said whole =
     ap (λ (e : Evaluation). e ∷ answer_evaluations answers) (law a.plan a.origin a.out a.outcome (eval-of a.plan a.origin a.out a.outcome (or-left (is_cut a.outcome) (any_cut answers) whole) said.0))
@@ -126,7 +126,7 @@ whole-answers law (a ∷ answers) said whole =
 
 -- Answers of children
 
-pub answers-of : (plan : PlanView) (ps : List AwaitedChild) (answers : List AnswerView) → AreSaid answers → answer_tags answers ≡ tags plan (awaited ps) → AreAnswersOf plan ps answers
+pub answers-of : (plan : PlanView) (ps : List AwaitedChild) (answers : List AnswerView) → AreAnswers answers → answer_tags answers ≡ tags plan (awaited ps) → AreAnswersOf plan ps answers
 answers-of plan [] [] said e = tt
 answers-of plan [] (a ∷ answers) said e = absurd (cc)
 answers-of plan (p ∷ ps) [] said e = absurd (cc)
@@ -241,7 +241,7 @@ same-end : (links : LinksView) (g : Merge) (h : EndsShort links g) (o : Outcome)
 same-end links g h o r e is = let some : Some h.outcome ≡ Some o = sym h.ended ∙ sym e ∙ is in cc
 
 pub short-holds : {K : Type 0} (links : LinksView) (g : Merge) → EndsShort links g → (o : Outcome) (r : Option Outcome) → r ≡ ended_of g → r ≡ Some o →
-    (b : TaskState K) → b.links ≡ links → b.trace ≡ record { prefix = g.prefix; fault = None; unmerged = [] } → b.waiting ≡ false → IsCutShort b o
+    (b : TaskState K) → b.links ≡ links → b.trace ≡ record { prefix = g.prefix; fault = None; unmerged = [] } → b.waiting ≡ false → HasOutcome b o
 short-holds links g h o r e is b same trace waits =
     let prefix : b.trace.prefix ≡ g.prefix = ap (λ (p : Trace). p.prefix) trace in
     let end = same-end links g h o r e is in

@@ -9,7 +9,7 @@ use Rattle.strand_machine.specs.Made.{IsSpawn, made}
 use Rattle.strand_machine.specs.Stops.{KeepsLinksInStep, step_of}
 use Rattle.strand_machine.specs.Tasks.{view_of}
 use Rattle.strand_machine.specs.declared.destination.Destination.TheVariants as destination
-use Rattle.strand_machine.specs.declared.stop.MoveOrStop.{MoveOrStop}
+use Rattle.strand_machine.specs.MoveOrStop.{MoveOrStop}
 use Rattle.strand_machine.specs.declared.remaining.Stage.TheVariants as stage
 use Rattle.strand_machine.specs.declared.remaining.Remaining.TheVariants as remaining
 use Rattle.strand_machine.proofs.Moves.Making.{made-ok}
@@ -96,36 +96,36 @@ returns-in-Spawned-clause-keeps g c =
 
 -- a loop
 
-pub spawn-requires-clause-known : goal.spawn-requires-clause-known
-spawn-requires-clause-known g c =
-    looped-known c.args.parts.now.state c.args.instance c.args.effects c.in-Looped.event c.unboxed-child.result (c.in-Looped.is ∙ ap (λ (o : LoopedChild). effect.Looped c.in-Looped.event o) (sym c.unboxed-child.ensures)) c.requires
+pub begin_looped-requires-clause-known : goal.begin_looped-requires-clause-known
+begin_looped-requires-clause-known g c =
+    looped-known c.args.parts.now.state c.args.instance c.args.effects c.in-Looped.event c.unboxed-in-Looped.result (c.in-Looped.is ∙ ap (λ (o : LoopedChild). effect.Looped c.in-Looped.event o) (sym c.unboxed-in-Looped.ensures)) c.requires
 
-pub spawn-requires-clause-trail : goal.spawn-requires-clause-trail
-spawn-requires-clause-trail g c =
-    looped-trail c.args.parts.now.state c.args.instance c.args.effects c.in-Looped.event c.unboxed-child.result (c.in-Looped.is ∙ ap (λ (o : LoopedChild). effect.Looped c.in-Looped.event o) (sym c.unboxed-child.ensures)) c.requires
+pub begin_looped-requires-clause-trail : goal.begin_looped-requires-clause-trail
+begin_looped-requires-clause-trail g c =
+    looped-trail c.args.parts.now.state c.args.instance c.args.effects c.in-Looped.event c.unboxed-in-Looped.result (c.in-Looped.is ∙ ap (λ (o : LoopedChild). effect.Looped c.in-Looped.event o) (sym c.unboxed-in-Looped.ensures)) c.requires
 
-pub spawn-requires-clause-sound : goal.spawn-requires-clause-sound
-spawn-requires-clause-sound g c =
-    looped-sound c.args.parts.now.state c.args.instance c.args.effects c.in-Looped.event c.unboxed-child.result c.emit-in-Looped.new.self (c.in-Looped.is ∙ ap (λ (o : LoopedChild). effect.Looped c.in-Looped.event o) (sym c.unboxed-child.ensures)) c.in_ok-emit-in-Looped.ensures c.requires
+pub begin_looped-requires-clause-sound : goal.begin_looped-requires-clause-sound
+begin_looped-requires-clause-sound g c =
+    looped-sound c.args.parts.now.state c.args.instance c.args.effects c.in-Looped.event c.unboxed-in-Looped.result c.emit-in-Looped.new.self (c.in-Looped.is ∙ ap (λ (o : LoopedChild). effect.Looped c.in-Looped.event o) (sym c.unboxed-in-Looped.ensures)) c.in_ok-emit-in-Looped.ensures c.requires
 
 pub returns-clause-step : goal.returns-clause-step
 returns-clause-step g c =
     let b = c.args.parts.now.state in
     let i = c.args.instance in
-    let o = c.unboxed-child.result in
+    let o = c.unboxed-in-Looped.result in
     let p = c.emit-in-Looped.new.self in
-    made-ok c.spawn.new.parts c.spawn.result
+    made-ok c.begin_looped.new.parts c.begin_looped.result
     (IsSpawn (with_trace b p) o.child.origin (destination.Looped o.target) (remaining.Runs (stage.AtLoop i)))
     (λ (r : MoveOrStop _). step_of r ≡ stops_at (child_in (effects_of c.args.effects)) (task_after_effects b i c.args.effects))
-    (λ r h. looped-step b i c.args.effects c.in-Looped.event o p r (c.in-Looped.is ∙ ap (λ (o : LoopedChild). effect.Looped c.in-Looped.event o) (sym c.unboxed-child.ensures)) c.in_ok-emit-in-Looped.ensures h) c.spawn.ensures.made
+    (λ r h. looped-step b i c.args.effects c.in-Looped.event o p r (c.in-Looped.is ∙ ap (λ (o : LoopedChild). effect.Looped c.in-Looped.event o) (sym c.unboxed-in-Looped.ensures)) c.in_ok-emit-in-Looped.ensures h) c.begin_looped.ensures.made
 
 pub returns-clause-keeps : goal.returns-clause-keeps
 returns-clause-keeps g c =
     let b = c.args.parts.now.state in
     let i = c.args.instance in
-    let o = c.unboxed-child.result in
+    let o = c.unboxed-in-Looped.result in
     let p = c.emit-in-Looped.new.self in
     let at = destination.Looped o.target in
-    made-ok c.spawn.new.parts c.spawn.result
+    made-ok c.begin_looped.new.parts c.begin_looped.result
     (IsSpawn (with_trace b p) o.child.origin at (remaining.Runs (stage.AtLoop i)))
-    (KeepsLinksInStep (view_of b (remaining.Runs (stage.Running i)))) (λ r h. spawns-keep b p (remaining.Runs (stage.Running i)) (remaining.Runs (stage.AtLoop i)) o.child.origin at r refl h) c.spawn.ensures.made
+    (KeepsLinksInStep (view_of b (remaining.Runs (stage.Running i)))) (λ r h. spawns-keep b p (remaining.Runs (stage.Running i)) (remaining.Runs (stage.AtLoop i)) o.child.origin at r refl h) c.begin_looped.ensures.made

@@ -1,19 +1,20 @@
-use Rattle.std.proofs.Common.{◌≡◌, refl, arith}
+use Rattle.std.proofs.Common.{◌≡◌, ◌∙◌, refl, sym, ap, arith}
 use Rattle.strand_meaning.specs.Task.{child_in, stops_at}
 use Rattle.strand_moves.specs.Moves.{effects_of}
 use Rattle.strand_moves.specs.declared.effects.Effects.TheVariants as effect
 use Rattle.strand_moves.specs.declared.effects.MoveResult.TheVariants as move_result
+use Rattle.strand_moves.specs.declared.effects.Waits.TheVariants as waits
 use Rattle.strand_machine.specs.Effects.{task_after_effects}
 use Rattle.strand_machine.specs.Made.{IsSpawn, made}
 use Rattle.strand_machine.specs.Stops.{KeepsLinksInStep, step_of}
 use Rattle.strand_machine.specs.Tasks.{gone, view_of}
 use Rattle.strand_machine.specs.declared.destination.Destination.TheVariants as destination
-use Rattle.strand_machine.specs.declared.stop.MoveOrStop.{MoveOrStop}
+use Rattle.strand_machine.specs.MoveOrStop.{MoveOrStop}
 use Rattle.strand_machine.specs.declared.remaining.Stage.TheVariants as stage
 use Rattle.strand_machine.specs.declared.remaining.Remaining.TheVariants as remaining
 use Rattle.strand_machine.proofs.NextStops.Advancing.{leads-start}
 use Rattle.strand_machine.proofs.Moves.Making.{made-ok}
-use Rattle.strand_machine.proofs.Moves.Moving.{came-has, came-sound, comes-heard, one-more, spawned-known, spawned-trail, spawned-sound, spawned-step, spawns-keep, went-sound, went-is, returned-sound, faulted-sound, syncs-sound, syncs-run, gives-run, faults-run, still-on, still-falls, emits-on, emits-falls, run-is-ok, runs-on, with_trace}
+use Rattle.strand_machine.proofs.Moves.Moving.{came-has, came-sound, comes-heard, one-more, spawned-known, spawned-trail, spawned-sound, spawned-step, looped-known, looped-trail, looped-sound, looped-step, spawns-keep, went-sound, went-is, returned-sound, faulted-sound, syncs-sound, syncs-run, gives-run, faults-run, still-on, still-falls, emits-on, emits-falls, run-is-ok, runs-on, with_trace}
 use Rattle.strand_machine.proofs.run.go.Goals as goal
 
 pub loop-next-init : goal.loop-next-init
@@ -91,128 +92,225 @@ returns-in-Ok-Some-clause-step g c =
     run-is-ok _ b k.before k.runs (made c.begin_spawned.new.parts) c.begin_spawned.result
     (went-is b k.before i _ m c.plan-plan.ensures k.last k.runs.sound (made c.begin_spawned.new.parts) shows c.begin_spawned.result refl steps keeps)
 
+-- a sync or a loop
+
+pub wait_next-requires-clause-sound : goal.wait_next-requires-clause-sound
+wait_next-requires-clause-sound g c =
+    let did = rw c.in-Ok-None.field-0-is at c.in-Ok-None.ensures.did in
+    came-sound c.steps_are_sound.ensures c.moves_fall.ensures c.plan-plan.result.now _ c.loop-next.parts.state c.loop-next.instance c.plan-plan.ensures c.loop-next.invariant c.straight_run.new.self c.straight_run.new.sink _ c.in-Ok.ensures c.spawn_next.new.instance did.0
+
+pub wait_next-requires-clause-passed : goal.wait_next-requires-clause-passed
+wait_next-requires-clause-passed g c =
+    let did = rw c.in-Ok-None.field-0-is at c.in-Ok-None.ensures.did in
+    came-has c.steps_are_sound.ensures c.moves_fall.ensures c.plan-plan.result.now _ c.loop-next.parts.state c.loop-next.instance c.plan-plan.ensures c.loop-next.invariant c.straight_run.new.self c.straight_run.new.sink _ c.in-Ok.ensures c.spawn_next.new.instance did.0 _ refl
+
+pub loop-next-smaller-in-Nothing : goal.loop-next-smaller-in-Nothing
+loop-next-smaller-in-Nothing g c =
+    let did = rw c.in-Ok-None.field-0-is at c.in-Ok-None.ensures.did in
+    let given = c.in-Ok-Some-wait_next.ensures in
+    let went = rw (c.in-Ok-Some-wait_next.field-0-is, c.in-Nothing.is) at given.did in
+    let shows = effect.Emitted went.0 in
+    let m = move_result.Went shows in
+    let b = gone (with_trace c.loop-next.parts.state c.spawn_next.new.trace) in
+    let came = comes-heard c.plan-plan.result.now c.loop-next.instance c.loop-next.parts.state.trace c.straight_run.new.self c.straight_run.new.sink c.spawn_next.new.trace _ did.1 c.in-Ok.ensures in
+    let k = one-more c.steps_are_sound.ensures c.moves_fall.ensures c.plan-plan.result.now _ c.loop-next.parts.state c.loop-next.instance c.plan-plan.ensures c.loop-next.invariant c.straight_run.new.self c.spawn_next.new.trace _ came c.spawn_next.new.instance did.0 _ refl c.wait_next.new.instance m went.2 given.path given.sound in
+    let falls = emits-falls b k.before c.wait_next.new.instance _ m c.plan-plan.ensures k.last k.runs.sound c.moves_fall.ensures shows went.0 c.wait_next.new.trace refl refl went.1 in
+    omega (arith, falls, k.fewer)
+
+pub loop-next-preserved-in-Nothing : goal.loop-next-preserved-in-Nothing
+loop-next-preserved-in-Nothing g c =
+    let did = rw c.in-Ok-None.field-0-is at c.in-Ok-None.ensures.did in
+    let given = c.in-Ok-Some-wait_next.ensures in
+    let went = rw (c.in-Ok-Some-wait_next.field-0-is, c.in-Nothing.is) at given.did in
+    let shows = effect.Emitted went.0 in
+    let m = move_result.Went shows in
+    let b = gone (with_trace c.loop-next.parts.state c.spawn_next.new.trace) in
+    let came = comes-heard c.plan-plan.result.now c.loop-next.instance c.loop-next.parts.state.trace c.straight_run.new.self c.straight_run.new.sink c.spawn_next.new.trace _ did.1 c.in-Ok.ensures in
+    let k = one-more c.steps_are_sound.ensures c.moves_fall.ensures c.plan-plan.result.now _ c.loop-next.parts.state c.loop-next.instance c.plan-plan.ensures c.loop-next.invariant c.straight_run.new.self c.spawn_next.new.trace _ came c.spawn_next.new.instance did.0 _ refl c.wait_next.new.instance m went.2 given.path given.sound in
+    emits-on b k.before c.wait_next.new.instance _ m c.plan-plan.ensures k.last k.runs.sound c.steps_are_sound.ensures c.moves_fall.ensures _ k.runs.leads shows went.0 c.wait_next.new.trace refl refl went.1 k.path k.sound ((rw (c.in-Ok-Some-wait_next.field-0-is, c.in-Nothing.is) at given.child) went.0)
+
+pub wait-requires : goal.wait-requires
+wait-requires g c =
+    let did = rw c.in-Ok-None.field-0-is at c.in-Ok-None.ensures.did in
+    let given = c.in-Ok-Some-wait_next.ensures in
+    let went = rw (c.in-Ok-Some-wait_next.field-0-is, c.in-ForChildren.is) at given.did in
+    let shows = effect.Synced went.0 in
+    let m = move_result.Went shows in
+    let b = gone (with_trace c.loop-next.parts.state c.spawn_next.new.trace) in
+    let came = comes-heard c.plan-plan.result.now c.loop-next.instance c.loop-next.parts.state.trace c.straight_run.new.self c.straight_run.new.sink c.spawn_next.new.trace _ did.1 c.in-Ok.ensures in
+    let k = one-more c.steps_are_sound.ensures c.moves_fall.ensures c.plan-plan.result.now _ c.loop-next.parts.state c.loop-next.instance c.plan-plan.ensures c.loop-next.invariant c.straight_run.new.self c.spawn_next.new.trace _ came c.spawn_next.new.instance did.0 _ refl c.wait_next.new.instance m went.2 given.path given.sound in
+    syncs-sound b k.before c.wait_next.new.instance _ m c.plan-plan.ensures k.last k.runs.sound c.steps_are_sound.ensures shows went.0 c.wait_next.new.trace refl refl went.1 k.path k.sound ((rw (c.in-Ok-Some-wait_next.field-0-is, c.in-ForChildren.is) at given.child) went.0)
+
+pub returns-in-ForChildren-clause-step : goal.returns-in-ForChildren-clause-step
+returns-in-ForChildren-clause-step g c =
+    let did = rw c.in-Ok-None.field-0-is at c.in-Ok-None.ensures.did in
+    let given = c.in-Ok-Some-wait_next.ensures in
+    let went = rw (c.in-Ok-Some-wait_next.field-0-is, c.in-ForChildren.is) at given.did in
+    let shows = effect.Synced went.0 in
+    let m = move_result.Went shows in
+    let b = gone (with_trace c.loop-next.parts.state c.spawn_next.new.trace) in
+    let came = comes-heard c.plan-plan.result.now c.loop-next.instance c.loop-next.parts.state.trace c.straight_run.new.self c.straight_run.new.sink c.spawn_next.new.trace _ did.1 c.in-Ok.ensures in
+    let k = one-more c.steps_are_sound.ensures c.moves_fall.ensures c.plan-plan.result.now _ c.loop-next.parts.state c.loop-next.instance c.plan-plan.ensures c.loop-next.invariant c.straight_run.new.self c.spawn_next.new.trace _ came c.spawn_next.new.instance did.0 _ refl c.wait_next.new.instance m went.2 given.path given.sound in
+    syncs-run b k.before c.wait_next.new.instance _ m c.plan-plan.ensures k.last k.runs.sound c.moves_fall.ensures _ k.runs.leads shows went.0 c.wait_next.new.trace refl refl went.1
+    (runs-on b k.before c.wait_next.new.instance _ m c.plan-plan.ensures k.last k.runs.sound k.path k.sound) _ c.wait.ensures.made
+
+pub begin_looped-requires-clause-known : goal.begin_looped-requires-clause-known
+begin_looped-requires-clause-known g c =
+    let o = c.unboxed.result in
+    let is = c.in-ForLoop.is ∙ ap waits.ForLoop (sym c.unboxed.ensures) in
+    let did = rw c.in-Ok-None.field-0-is at c.in-Ok-None.ensures.did in
+    let given = c.in-Ok-Some-wait_next.ensures in
+    let went = rw (c.in-Ok-Some-wait_next.field-0-is, is) at given.did in
+    let shows = effect.Looped went.0 o in
+    let m = move_result.Went shows in
+    let b = gone (with_trace c.loop-next.parts.state c.spawn_next.new.trace) in
+    let came = comes-heard c.plan-plan.result.now c.loop-next.instance c.loop-next.parts.state.trace c.straight_run.new.self c.straight_run.new.sink c.spawn_next.new.trace _ did.1 c.in-Ok.ensures in
+    let k = one-more c.steps_are_sound.ensures c.moves_fall.ensures c.plan-plan.result.now _ c.loop-next.parts.state c.loop-next.instance c.plan-plan.ensures c.loop-next.invariant c.straight_run.new.self c.spawn_next.new.trace _ came c.spawn_next.new.instance did.0 _ refl c.wait_next.new.instance m went.2 given.path given.sound in
+    let sound = went-sound b k.before c.wait_next.new.instance _ m c.plan-plan.ensures k.last k.runs.sound c.steps_are_sound.ensures shows refl k.path k.sound ((rw (c.in-Ok-Some-wait_next.field-0-is, is) at given.child) went.0) in
+    looped-known b c.wait_next.new.instance shows went.0 o refl sound
+
+pub begin_looped-requires-clause-trail : goal.begin_looped-requires-clause-trail
+begin_looped-requires-clause-trail g c =
+    let o = c.unboxed.result in
+    let is = c.in-ForLoop.is ∙ ap waits.ForLoop (sym c.unboxed.ensures) in
+    let did = rw c.in-Ok-None.field-0-is at c.in-Ok-None.ensures.did in
+    let given = c.in-Ok-Some-wait_next.ensures in
+    let went = rw (c.in-Ok-Some-wait_next.field-0-is, is) at given.did in
+    let shows = effect.Looped went.0 o in
+    let m = move_result.Went shows in
+    let b = gone (with_trace c.loop-next.parts.state c.spawn_next.new.trace) in
+    let came = comes-heard c.plan-plan.result.now c.loop-next.instance c.loop-next.parts.state.trace c.straight_run.new.self c.straight_run.new.sink c.spawn_next.new.trace _ did.1 c.in-Ok.ensures in
+    let k = one-more c.steps_are_sound.ensures c.moves_fall.ensures c.plan-plan.result.now _ c.loop-next.parts.state c.loop-next.instance c.plan-plan.ensures c.loop-next.invariant c.straight_run.new.self c.spawn_next.new.trace _ came c.spawn_next.new.instance did.0 _ refl c.wait_next.new.instance m went.2 given.path given.sound in
+    let sound = went-sound b k.before c.wait_next.new.instance _ m c.plan-plan.ensures k.last k.runs.sound c.steps_are_sound.ensures shows refl k.path k.sound ((rw (c.in-Ok-Some-wait_next.field-0-is, is) at given.child) went.0) in
+    looped-trail b c.wait_next.new.instance shows went.0 o refl sound
+
+pub begin_looped-requires-clause-sound : goal.begin_looped-requires-clause-sound
+begin_looped-requires-clause-sound g c =
+    let o = c.unboxed.result in
+    let is = c.in-ForLoop.is ∙ ap waits.ForLoop (sym c.unboxed.ensures) in
+    let did = rw c.in-Ok-None.field-0-is at c.in-Ok-None.ensures.did in
+    let given = c.in-Ok-Some-wait_next.ensures in
+    let went = rw (c.in-Ok-Some-wait_next.field-0-is, is) at given.did in
+    let shows = effect.Looped went.0 o in
+    let m = move_result.Went shows in
+    let b = gone (with_trace c.loop-next.parts.state c.spawn_next.new.trace) in
+    let came = comes-heard c.plan-plan.result.now c.loop-next.instance c.loop-next.parts.state.trace c.straight_run.new.self c.straight_run.new.sink c.spawn_next.new.trace _ did.1 c.in-Ok.ensures in
+    let k = one-more c.steps_are_sound.ensures c.moves_fall.ensures c.plan-plan.result.now _ c.loop-next.parts.state c.loop-next.instance c.plan-plan.ensures c.loop-next.invariant c.straight_run.new.self c.spawn_next.new.trace _ came c.spawn_next.new.instance did.0 _ refl c.wait_next.new.instance m went.2 given.path given.sound in
+    let sound = went-sound b k.before c.wait_next.new.instance _ m c.plan-plan.ensures k.last k.runs.sound c.steps_are_sound.ensures shows refl k.path k.sound ((rw (c.in-Ok-Some-wait_next.field-0-is, is) at given.child) went.0) in
+    looped-sound b c.wait_next.new.instance shows went.0 o c.wait_next.new.trace refl went.1 sound
+
+pub returns-in-ForLoop-clause-step : goal.returns-in-ForLoop-clause-step
+returns-in-ForLoop-clause-step g c =
+    let o = c.unboxed.result in
+    let is = c.in-ForLoop.is ∙ ap waits.ForLoop (sym c.unboxed.ensures) in
+    let did = rw c.in-Ok-None.field-0-is at c.in-Ok-None.ensures.did in
+    let given = c.in-Ok-Some-wait_next.ensures in
+    let went = rw (c.in-Ok-Some-wait_next.field-0-is, is) at given.did in
+    let shows = effect.Looped went.0 o in
+    let m = move_result.Went shows in
+    let b = gone (with_trace c.loop-next.parts.state c.spawn_next.new.trace) in
+    let came = comes-heard c.plan-plan.result.now c.loop-next.instance c.loop-next.parts.state.trace c.straight_run.new.self c.straight_run.new.sink c.spawn_next.new.trace _ did.1 c.in-Ok.ensures in
+    let k = one-more c.steps_are_sound.ensures c.moves_fall.ensures c.plan-plan.result.now _ c.loop-next.parts.state c.loop-next.instance c.plan-plan.ensures c.loop-next.invariant c.straight_run.new.self c.spawn_next.new.trace _ came c.spawn_next.new.instance did.0 _ refl c.wait_next.new.instance m went.2 given.path given.sound in
+    let i = c.wait_next.new.instance in
+    let p = c.wait_next.new.trace in
+    let from = remaining.Runs (stage.Running i) in
+    let to = remaining.Runs (stage.AtLoop i) in
+    let at = destination.Looped o.target in
+    let steps = made-ok c.begin_looped.new.parts c.begin_looped.result (IsSpawn (with_trace b p) o.child.origin at to) (λ (r : MoveOrStop _). step_of r ≡ stops_at (child_in (effects_of shows)) (task_after_effects b i shows))
+    (λ r h. looped-step b i shows went.0 o p r refl went.1 h) c.begin_looped.ensures.made in
+    let keeps = made-ok c.begin_looped.new.parts c.begin_looped.result (IsSpawn (with_trace b p) o.child.origin at to) (KeepsLinksInStep (view_of b from)) (λ r h. spawns-keep b p from to o.child.origin at r refl h) c.begin_looped.ensures.made in
+    run-is-ok _ b k.before k.runs (made c.begin_looped.new.parts) c.begin_looped.result
+    (went-is b k.before i _ m c.plan-plan.ensures k.last k.runs.sound (made c.begin_looped.new.parts) shows c.begin_looped.result refl steps keeps)
+
 -- another move
 
 pub make-requires-clause-sound : goal.make-requires-clause-sound
 make-requires-clause-sound g c =
     let did = rw c.in-Ok-None.field-0-is at c.in-Ok-None.ensures.did in
-    came-sound c.steps_are_sound.ensures c.moves_fall.ensures c.plan-plan.result.now _ c.loop-next.parts.state c.loop-next.instance c.plan-plan.ensures c.loop-next.invariant c.straight_run.new.self c.straight_run.new.sink _ c.in-Ok.ensures c.spawn_next.new.instance did.0
+    let also = rw c.in-Ok-None-wait_next.field-0-is at c.in-Ok-None-wait_next.ensures.did in
+    came-sound c.steps_are_sound.ensures c.moves_fall.ensures c.plan-plan.result.now _ c.loop-next.parts.state c.loop-next.instance c.plan-plan.ensures c.loop-next.invariant c.straight_run.new.self c.straight_run.new.sink _ c.in-Ok.ensures c.wait_next.new.instance (also.0 ∙ did.0)
 
 pub make-requires-clause-passed : goal.make-requires-clause-passed
 make-requires-clause-passed g c =
     let did = rw c.in-Ok-None.field-0-is at c.in-Ok-None.ensures.did in
-    came-has c.steps_are_sound.ensures c.moves_fall.ensures c.plan-plan.result.now _ c.loop-next.parts.state c.loop-next.instance c.plan-plan.ensures c.loop-next.invariant c.straight_run.new.self c.straight_run.new.sink _ c.in-Ok.ensures c.spawn_next.new.instance did.0 _ refl
+    let also = rw c.in-Ok-None-wait_next.field-0-is at c.in-Ok-None-wait_next.ensures.did in
+    came-has c.steps_are_sound.ensures c.moves_fall.ensures c.plan-plan.result.now _ c.loop-next.parts.state c.loop-next.instance c.plan-plan.ensures c.loop-next.invariant c.straight_run.new.self c.straight_run.new.sink _ c.in-Ok.ensures c.wait_next.new.instance (also.0 ∙ did.0) _ refl
 
 pub apply_effects-requires : goal.apply_effects-requires
 apply_effects-requires g c =
     let m = c.in-Ok-Went.ensures in
     let did = rw c.in-Ok-None.field-0-is at c.in-Ok-None.ensures.did in
-    let came = comes-heard c.plan-plan.result.now c.loop-next.instance c.loop-next.parts.state.trace c.straight_run.new.self c.straight_run.new.sink c.spawn_next.new.trace _ did.1 c.in-Ok.ensures in
-    let k = one-more c.steps_are_sound.ensures c.moves_fall.ensures c.plan-plan.result.now _ c.loop-next.parts.state c.loop-next.instance c.plan-plan.ensures c.loop-next.invariant c.straight_run.new.self c.spawn_next.new.trace _ came c.spawn_next.new.instance did.0 _ refl c.make.new.self _ m.moves m.path m.sound in
-    went-sound (gone (with_trace c.loop-next.parts.state c.spawn_next.new.trace)) k.before c.make.new.self _ _ c.plan-plan.ensures k.last k.runs.sound c.steps_are_sound.ensures c.in-Ok-Went.effects c.in-Ok-Went.field-0-is k.path k.sound m.child
-
-pub wait-requires : goal.wait-requires
-wait-requires g c =
-    let m = c.in-Ok-Went-Synced.ensures in
-    let did = rw c.in-Ok-None.field-0-is at c.in-Ok-None.ensures.did in
-    let came = comes-heard c.plan-plan.result.now c.loop-next.instance c.loop-next.parts.state.trace c.straight_run.new.self c.straight_run.new.sink c.spawn_next.new.trace _ did.1 c.in-Ok.ensures in
-    let k = one-more c.steps_are_sound.ensures c.moves_fall.ensures c.plan-plan.result.now _ c.loop-next.parts.state c.loop-next.instance c.plan-plan.ensures c.loop-next.invariant c.straight_run.new.self c.spawn_next.new.trace _ came c.spawn_next.new.instance did.0 _ refl c.make.new.self _ m.moves m.path m.sound in
-    let s = c.in-Ok-Went-Synced in
-    syncs-sound (gone (with_trace c.loop-next.parts.state c.spawn_next.new.trace)) k.before c.make.new.self _ _ c.plan-plan.ensures k.last k.runs.sound c.steps_are_sound.ensures s.field-0-0 s.event c.emit-in-Ok-Went-Synced.new.self s.field-0-is s.field-0-0-is
-    c.in_ok-emit-in-Ok-Went-Synced.ensures k.path k.sound m.child
+    let also = rw c.in-Ok-None-wait_next.field-0-is at c.in-Ok-None-wait_next.ensures.did in
+    let came = comes-heard c.plan-plan.result.now c.loop-next.instance c.loop-next.parts.state.trace c.straight_run.new.self c.straight_run.new.sink c.wait_next.new.trace _ (also.1 ∙ did.1) c.in-Ok.ensures in
+    let k = one-more c.steps_are_sound.ensures c.moves_fall.ensures c.plan-plan.result.now _ c.loop-next.parts.state c.loop-next.instance c.plan-plan.ensures c.loop-next.invariant c.straight_run.new.self c.wait_next.new.trace _ came c.wait_next.new.instance (also.0 ∙ did.0) _ refl c.make.new.self _ m.moves m.path m.sound in
+    went-sound (gone (with_trace c.loop-next.parts.state c.wait_next.new.trace)) k.before c.make.new.self _ _ c.plan-plan.ensures k.last k.runs.sound c.steps_are_sound.ensures c.in-Ok-Went.effects c.in-Ok-Went.field-0-is k.path k.sound m.child
 
 pub returned-requires : goal.returned-requires
 returned-requires g c =
     let m = c.in-Ok-Returned.ensures in
     let did = rw c.in-Ok-None.field-0-is at c.in-Ok-None.ensures.did in
-    let came = comes-heard c.plan-plan.result.now c.loop-next.instance c.loop-next.parts.state.trace c.straight_run.new.self c.straight_run.new.sink c.spawn_next.new.trace _ did.1 c.in-Ok.ensures in
-    let k = one-more c.steps_are_sound.ensures c.moves_fall.ensures c.plan-plan.result.now _ c.loop-next.parts.state c.loop-next.instance c.plan-plan.ensures c.loop-next.invariant c.straight_run.new.self c.spawn_next.new.trace _ came c.spawn_next.new.instance did.0 _ refl c.make.new.self _ m.moves m.path m.sound in
-    returned-sound (gone (with_trace c.loop-next.parts.state c.spawn_next.new.trace)) k.before c.make.new.self _ _ c.plan-plan.ensures k.last k.runs.sound c.steps_are_sound.ensures c.in-Ok-Returned.value c.in-Ok-Returned.field-0-is
+    let also = rw c.in-Ok-None-wait_next.field-0-is at c.in-Ok-None-wait_next.ensures.did in
+    let came = comes-heard c.plan-plan.result.now c.loop-next.instance c.loop-next.parts.state.trace c.straight_run.new.self c.straight_run.new.sink c.wait_next.new.trace _ (also.1 ∙ did.1) c.in-Ok.ensures in
+    let k = one-more c.steps_are_sound.ensures c.moves_fall.ensures c.plan-plan.result.now _ c.loop-next.parts.state c.loop-next.instance c.plan-plan.ensures c.loop-next.invariant c.straight_run.new.self c.wait_next.new.trace _ came c.wait_next.new.instance (also.0 ∙ did.0) _ refl c.make.new.self _ m.moves m.path m.sound in
+    returned-sound (gone (with_trace c.loop-next.parts.state c.wait_next.new.trace)) k.before c.make.new.self _ _ c.plan-plan.ensures k.last k.runs.sound c.steps_are_sound.ensures c.in-Ok-Returned.value c.in-Ok-Returned.field-0-is
 
 pub faulted-requires : goal.faulted-requires
 faulted-requires g c =
     let m = c.in-Ok-Faulted.ensures in
     let did = rw c.in-Ok-None.field-0-is at c.in-Ok-None.ensures.did in
-    let came = comes-heard c.plan-plan.result.now c.loop-next.instance c.loop-next.parts.state.trace c.straight_run.new.self c.straight_run.new.sink c.spawn_next.new.trace _ did.1 c.in-Ok.ensures in
-    let k = one-more c.steps_are_sound.ensures c.moves_fall.ensures c.plan-plan.result.now _ c.loop-next.parts.state c.loop-next.instance c.plan-plan.ensures c.loop-next.invariant c.straight_run.new.self c.spawn_next.new.trace _ came c.spawn_next.new.instance did.0 _ refl c.make.new.self _ m.moves m.path m.sound in
-    faulted-sound (gone (with_trace c.loop-next.parts.state c.spawn_next.new.trace)) k.before c.make.new.self _ _ c.plan-plan.ensures k.last k.runs.sound c.steps_are_sound.ensures c.in-Ok-Faulted.own c.in-Ok-Faulted.field-0-is
+    let also = rw c.in-Ok-None-wait_next.field-0-is at c.in-Ok-None-wait_next.ensures.did in
+    let came = comes-heard c.plan-plan.result.now c.loop-next.instance c.loop-next.parts.state.trace c.straight_run.new.self c.straight_run.new.sink c.wait_next.new.trace _ (also.1 ∙ did.1) c.in-Ok.ensures in
+    let k = one-more c.steps_are_sound.ensures c.moves_fall.ensures c.plan-plan.result.now _ c.loop-next.parts.state c.loop-next.instance c.plan-plan.ensures c.loop-next.invariant c.straight_run.new.self c.wait_next.new.trace _ came c.wait_next.new.instance (also.0 ∙ did.0) _ refl c.make.new.self _ m.moves m.path m.sound in
+    faulted-sound (gone (with_trace c.loop-next.parts.state c.wait_next.new.trace)) k.before c.make.new.self _ _ c.plan-plan.ensures k.last k.runs.sound c.steps_are_sound.ensures c.in-Ok-Faulted.own c.in-Ok-Faulted.field-0-is
 
 pub returns-in-Ok-Went-clause-step : goal.returns-in-Ok-Went-clause-step
 returns-in-Ok-Went-clause-step g c =
     let m = c.in-Ok-Went.ensures in
     let did = rw c.in-Ok-None.field-0-is at c.in-Ok-None.ensures.did in
-    let came = comes-heard c.plan-plan.result.now c.loop-next.instance c.loop-next.parts.state.trace c.straight_run.new.self c.straight_run.new.sink c.spawn_next.new.trace _ did.1 c.in-Ok.ensures in
-    let k = one-more c.steps_are_sound.ensures c.moves_fall.ensures c.plan-plan.result.now _ c.loop-next.parts.state c.loop-next.instance c.plan-plan.ensures c.loop-next.invariant c.straight_run.new.self c.spawn_next.new.trace _ came c.spawn_next.new.instance did.0 _ refl c.make.new.self _ m.moves m.path m.sound in
-    let b = gone (with_trace c.loop-next.parts.state c.spawn_next.new.trace) in
+    let also = rw c.in-Ok-None-wait_next.field-0-is at c.in-Ok-None-wait_next.ensures.did in
+    let came = comes-heard c.plan-plan.result.now c.loop-next.instance c.loop-next.parts.state.trace c.straight_run.new.self c.straight_run.new.sink c.wait_next.new.trace _ (also.1 ∙ did.1) c.in-Ok.ensures in
+    let k = one-more c.steps_are_sound.ensures c.moves_fall.ensures c.plan-plan.result.now _ c.loop-next.parts.state c.loop-next.instance c.plan-plan.ensures c.loop-next.invariant c.straight_run.new.self c.wait_next.new.trace _ came c.wait_next.new.instance (also.0 ∙ did.0) _ refl c.make.new.self _ m.moves m.path m.sound in
+    let b = gone (with_trace c.loop-next.parts.state c.wait_next.new.trace) in
     run-is-ok _ b k.before k.runs (made c.apply_effects.new.parts) c.apply_effects.result
     (went-is b k.before c.make.new.self _ _ c.plan-plan.ensures k.last k.runs.sound (made c.apply_effects.new.parts) c.in-Ok-Went.effects c.apply_effects.result c.in-Ok-Went.field-0-is c.apply_effects.ensures.step c.apply_effects.ensures.keeps)
-
-pub returns-in-Ok-Went-Synced-clause-step : goal.returns-in-Ok-Went-Synced-clause-step
-returns-in-Ok-Went-Synced-clause-step g c =
-    let m = c.in-Ok-Went-Synced.ensures in
-    let did = rw c.in-Ok-None.field-0-is at c.in-Ok-None.ensures.did in
-    let came = comes-heard c.plan-plan.result.now c.loop-next.instance c.loop-next.parts.state.trace c.straight_run.new.self c.straight_run.new.sink c.spawn_next.new.trace _ did.1 c.in-Ok.ensures in
-    let k = one-more c.steps_are_sound.ensures c.moves_fall.ensures c.plan-plan.result.now _ c.loop-next.parts.state c.loop-next.instance c.plan-plan.ensures c.loop-next.invariant c.straight_run.new.self c.spawn_next.new.trace _ came c.spawn_next.new.instance did.0 _ refl c.make.new.self _ m.moves m.path m.sound in
-    let b = gone (with_trace c.loop-next.parts.state c.spawn_next.new.trace) in
-    let s = c.in-Ok-Went-Synced in
-    syncs-run b k.before c.make.new.self _ _ c.plan-plan.ensures k.last k.runs.sound c.moves_fall.ensures _ k.runs.leads s.field-0-0 s.event c.emit-in-Ok-Went-Synced.new.self s.field-0-is s.field-0-0-is
-    c.in_ok-emit-in-Ok-Went-Synced.ensures (runs-on b k.before c.make.new.self _ _ c.plan-plan.ensures k.last k.runs.sound k.path k.sound) _ c.wait.ensures.made
 
 pub returns-in-Ok-Returned-clause-step : goal.returns-in-Ok-Returned-clause-step
 returns-in-Ok-Returned-clause-step g c =
     let m = c.in-Ok-Returned.ensures in
     let did = rw c.in-Ok-None.field-0-is at c.in-Ok-None.ensures.did in
-    let came = comes-heard c.plan-plan.result.now c.loop-next.instance c.loop-next.parts.state.trace c.straight_run.new.self c.straight_run.new.sink c.spawn_next.new.trace _ did.1 c.in-Ok.ensures in
-    let k = one-more c.steps_are_sound.ensures c.moves_fall.ensures c.plan-plan.result.now _ c.loop-next.parts.state c.loop-next.instance c.plan-plan.ensures c.loop-next.invariant c.straight_run.new.self c.spawn_next.new.trace _ came c.spawn_next.new.instance did.0 _ refl c.make.new.self _ m.moves m.path m.sound in
-    gives-run (gone (with_trace c.loop-next.parts.state c.spawn_next.new.trace)) k.before c.make.new.self _ _ c.plan-plan.ensures k.last k.runs.sound c.moves_fall.ensures _ k.runs.leads c.in-Ok-Returned.value c.in-Ok-Returned.field-0-is _ c.returned.ensures.step
+    let also = rw c.in-Ok-None-wait_next.field-0-is at c.in-Ok-None-wait_next.ensures.did in
+    let came = comes-heard c.plan-plan.result.now c.loop-next.instance c.loop-next.parts.state.trace c.straight_run.new.self c.straight_run.new.sink c.wait_next.new.trace _ (also.1 ∙ did.1) c.in-Ok.ensures in
+    let k = one-more c.steps_are_sound.ensures c.moves_fall.ensures c.plan-plan.result.now _ c.loop-next.parts.state c.loop-next.instance c.plan-plan.ensures c.loop-next.invariant c.straight_run.new.self c.wait_next.new.trace _ came c.wait_next.new.instance (also.0 ∙ did.0) _ refl c.make.new.self _ m.moves m.path m.sound in
+    gives-run (gone (with_trace c.loop-next.parts.state c.wait_next.new.trace)) k.before c.make.new.self _ _ c.plan-plan.ensures k.last k.runs.sound c.moves_fall.ensures _ k.runs.leads c.in-Ok-Returned.value c.in-Ok-Returned.field-0-is _ c.returned.ensures.step
 
 pub returns-in-Ok-Faulted-clause-step : goal.returns-in-Ok-Faulted-clause-step
 returns-in-Ok-Faulted-clause-step g c =
     let m = c.in-Ok-Faulted.ensures in
     let did = rw c.in-Ok-None.field-0-is at c.in-Ok-None.ensures.did in
-    let came = comes-heard c.plan-plan.result.now c.loop-next.instance c.loop-next.parts.state.trace c.straight_run.new.self c.straight_run.new.sink c.spawn_next.new.trace _ did.1 c.in-Ok.ensures in
-    let k = one-more c.steps_are_sound.ensures c.moves_fall.ensures c.plan-plan.result.now _ c.loop-next.parts.state c.loop-next.instance c.plan-plan.ensures c.loop-next.invariant c.straight_run.new.self c.spawn_next.new.trace _ came c.spawn_next.new.instance did.0 _ refl c.make.new.self _ m.moves m.path m.sound in
-    faults-run (gone (with_trace c.loop-next.parts.state c.spawn_next.new.trace)) k.before c.make.new.self _ _ c.plan-plan.ensures k.last k.runs.sound c.moves_fall.ensures _ k.runs.leads c.in-Ok-Faulted.own c.in-Ok-Faulted.field-0-is _ c.faulted.ensures.step
+    let also = rw c.in-Ok-None-wait_next.field-0-is at c.in-Ok-None-wait_next.ensures.did in
+    let came = comes-heard c.plan-plan.result.now c.loop-next.instance c.loop-next.parts.state.trace c.straight_run.new.self c.straight_run.new.sink c.wait_next.new.trace _ (also.1 ∙ did.1) c.in-Ok.ensures in
+    let k = one-more c.steps_are_sound.ensures c.moves_fall.ensures c.plan-plan.result.now _ c.loop-next.parts.state c.loop-next.instance c.plan-plan.ensures c.loop-next.invariant c.straight_run.new.self c.wait_next.new.trace _ came c.wait_next.new.instance (also.0 ∙ did.0) _ refl c.make.new.self _ m.moves m.path m.sound in
+    faults-run (gone (with_trace c.loop-next.parts.state c.wait_next.new.trace)) k.before c.make.new.self _ _ c.plan-plan.ensures k.last k.runs.sound c.moves_fall.ensures _ k.runs.leads c.in-Ok-Faulted.own c.in-Ok-Faulted.field-0-is _ c.faulted.ensures.step
 
 -- the moves before it: nothing
 
-pub loop-next-smaller-in-Ok-Went-Nothing : goal.loop-next-smaller-in-Ok-Went-Nothing
-loop-next-smaller-in-Ok-Went-Nothing g c =
-    let m = c.in-Ok-Went-Nothing.ensures in
-    let did = rw c.in-Ok-None.field-0-is at c.in-Ok-None.ensures.did in
-    let came = comes-heard c.plan-plan.result.now c.loop-next.instance c.loop-next.parts.state.trace c.straight_run.new.self c.straight_run.new.sink c.spawn_next.new.trace _ did.1 c.in-Ok.ensures in
-    let k = one-more c.steps_are_sound.ensures c.moves_fall.ensures c.plan-plan.result.now _ c.loop-next.parts.state c.loop-next.instance c.plan-plan.ensures c.loop-next.invariant c.straight_run.new.self c.spawn_next.new.trace _ came c.spawn_next.new.instance did.0 _ refl c.make.new.self _ m.moves m.path m.sound in
-    let s = c.in-Ok-Went-Nothing in
-    let falls = still-falls (gone (with_trace c.loop-next.parts.state c.spawn_next.new.trace)) k.before c.make.new.self _ _ c.plan-plan.ensures k.last k.runs.sound c.moves_fall.ensures s.field-0-0 s.field-0-is s.field-0-0-is in
-    omega (arith, falls, k.fewer)
-
-pub loop-next-preserved-in-Ok-Went-Nothing : goal.loop-next-preserved-in-Ok-Went-Nothing
-loop-next-preserved-in-Ok-Went-Nothing g c =
-    let m = c.in-Ok-Went-Nothing.ensures in
-    let did = rw c.in-Ok-None.field-0-is at c.in-Ok-None.ensures.did in
-    let came = comes-heard c.plan-plan.result.now c.loop-next.instance c.loop-next.parts.state.trace c.straight_run.new.self c.straight_run.new.sink c.spawn_next.new.trace _ did.1 c.in-Ok.ensures in
-    let k = one-more c.steps_are_sound.ensures c.moves_fall.ensures c.plan-plan.result.now _ c.loop-next.parts.state c.loop-next.instance c.plan-plan.ensures c.loop-next.invariant c.straight_run.new.self c.spawn_next.new.trace _ came c.spawn_next.new.instance did.0 _ refl c.make.new.self _ m.moves m.path m.sound in
-    let s = c.in-Ok-Went-Nothing in
-    still-on (gone (with_trace c.loop-next.parts.state c.spawn_next.new.trace)) k.before c.make.new.self _ _ c.plan-plan.ensures k.last k.runs.sound c.steps_are_sound.ensures c.moves_fall.ensures _ k.runs.leads s.field-0-0 s.field-0-is s.field-0-0-is k.path k.sound m.child
-
--- an event
-
 pub loop-next-smaller : goal.loop-next-smaller
 loop-next-smaller g c =
-    let m = c.in-Ok-Went-Emitted.ensures in
+    let m = c.in-Ok-Went-Nothing.ensures in
     let did = rw c.in-Ok-None.field-0-is at c.in-Ok-None.ensures.did in
-    let came = comes-heard c.plan-plan.result.now c.loop-next.instance c.loop-next.parts.state.trace c.straight_run.new.self c.straight_run.new.sink c.spawn_next.new.trace _ did.1 c.in-Ok.ensures in
-    let k = one-more c.steps_are_sound.ensures c.moves_fall.ensures c.plan-plan.result.now _ c.loop-next.parts.state c.loop-next.instance c.plan-plan.ensures c.loop-next.invariant c.straight_run.new.self c.spawn_next.new.trace _ came c.spawn_next.new.instance did.0 _ refl c.make.new.self _ m.moves m.path m.sound in
-    let s = c.in-Ok-Went-Emitted in
-    let falls = emits-falls (gone (with_trace c.loop-next.parts.state c.spawn_next.new.trace)) k.before c.make.new.self _ _ c.plan-plan.ensures k.last k.runs.sound c.moves_fall.ensures s.field-0-0 s.event c.emit.new.self s.field-0-is s.field-0-0-is c.in_ok-emit-in-Ok-Went-Emitted.ensures in
+    let also = rw c.in-Ok-None-wait_next.field-0-is at c.in-Ok-None-wait_next.ensures.did in
+    let came = comes-heard c.plan-plan.result.now c.loop-next.instance c.loop-next.parts.state.trace c.straight_run.new.self c.straight_run.new.sink c.wait_next.new.trace _ (also.1 ∙ did.1) c.in-Ok.ensures in
+    let k = one-more c.steps_are_sound.ensures c.moves_fall.ensures c.plan-plan.result.now _ c.loop-next.parts.state c.loop-next.instance c.plan-plan.ensures c.loop-next.invariant c.straight_run.new.self c.wait_next.new.trace _ came c.wait_next.new.instance (also.0 ∙ did.0) _ refl c.make.new.self _ m.moves m.path m.sound in
+    let s = c.in-Ok-Went-Nothing in
+    let falls = still-falls (gone (with_trace c.loop-next.parts.state c.wait_next.new.trace)) k.before c.make.new.self _ _ c.plan-plan.ensures k.last k.runs.sound c.moves_fall.ensures s.field-0-0 s.field-0-is s.field-0-0-is in
     omega (arith, falls, k.fewer)
 
 pub loop-next-preserved : goal.loop-next-preserved
 loop-next-preserved g c =
-    let m = c.in-Ok-Went-Emitted.ensures in
+    let m = c.in-Ok-Went-Nothing.ensures in
     let did = rw c.in-Ok-None.field-0-is at c.in-Ok-None.ensures.did in
-    let came = comes-heard c.plan-plan.result.now c.loop-next.instance c.loop-next.parts.state.trace c.straight_run.new.self c.straight_run.new.sink c.spawn_next.new.trace _ did.1 c.in-Ok.ensures in
-    let k = one-more c.steps_are_sound.ensures c.moves_fall.ensures c.plan-plan.result.now _ c.loop-next.parts.state c.loop-next.instance c.plan-plan.ensures c.loop-next.invariant c.straight_run.new.self c.spawn_next.new.trace _ came c.spawn_next.new.instance did.0 _ refl c.make.new.self _ m.moves m.path m.sound in
-    let s = c.in-Ok-Went-Emitted in
-    emits-on (gone (with_trace c.loop-next.parts.state c.spawn_next.new.trace)) k.before c.make.new.self _ _ c.plan-plan.ensures k.last k.runs.sound c.steps_are_sound.ensures c.moves_fall.ensures _ k.runs.leads s.field-0-0 s.event c.emit.new.self s.field-0-is s.field-0-0-is
-    c.in_ok-emit-in-Ok-Went-Emitted.ensures k.path k.sound m.child
+    let also = rw c.in-Ok-None-wait_next.field-0-is at c.in-Ok-None-wait_next.ensures.did in
+    let came = comes-heard c.plan-plan.result.now c.loop-next.instance c.loop-next.parts.state.trace c.straight_run.new.self c.straight_run.new.sink c.wait_next.new.trace _ (also.1 ∙ did.1) c.in-Ok.ensures in
+    let k = one-more c.steps_are_sound.ensures c.moves_fall.ensures c.plan-plan.result.now _ c.loop-next.parts.state c.loop-next.instance c.plan-plan.ensures c.loop-next.invariant c.straight_run.new.self c.wait_next.new.trace _ came c.wait_next.new.instance (also.0 ∙ did.0) _ refl c.make.new.self _ m.moves m.path m.sound in
+    let s = c.in-Ok-Went-Nothing in
+    still-on (gone (with_trace c.loop-next.parts.state c.wait_next.new.trace)) k.before c.make.new.self _ _ c.plan-plan.ensures k.last k.runs.sound c.steps_are_sound.ensures c.moves_fall.ensures _ k.runs.leads s.field-0-0 s.field-0-is s.field-0-0-is k.path k.sound m.child

@@ -1,7 +1,7 @@
 use Rattle.std.proofs.Common.{sym, ap, ◌∙◌, subst}
 use Rattle.strand_machine.specs.Tasks.{HoldsOfTask, view_of}
 use Rattle.strand_machine.specs.declared.parts.Parts.{Parts}
-use Rattle.strand_machine.proofs.NextStops.Advancing.{is-short, short-answers, short-ends}
+use Rattle.strand_machine.proofs.NextStops.Advancing.{is-short, outcome-answers, short-ends}
 use Rattle.strand_machine.proofs.task.Task.into_answer.Goals as goal
 
 pub unreachable-requires : goal.unreachable-requires
@@ -12,7 +12,7 @@ unreachable-requires g c =
 pub answer-requires : goal.answer-requires
 answer-requires g c =
     let p = c.into_inner-state.result in
-    let holds = subst (λ (q : Parts _). HoldsOfTask q.state q.remaining) (sym c.into_inner-state.ensures) c.self.invariant in short-answers p.state p.remaining c.in-Ends.ended _ c.in-Ends.is c.prefix-prefix.ensures.prefix holds
+    let holds = subst (λ (q : Parts _). HoldsOfTask q.state q.remaining) (sym c.into_inner-state.ensures) c.self.invariant in outcome-answers p.state p.remaining c.in-Ends.ended _ c.in-Ends.is c.prefix-prefix.ensures.prefix holds
 
 pub returns : goal.returns
 returns g c =

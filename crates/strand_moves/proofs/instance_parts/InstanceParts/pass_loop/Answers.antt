@@ -10,9 +10,3 @@ returns-clause-named c = λ plan.
     let i = c.args.self.now in
     let env = c.clear.new.self in
     top-named plan i (record i { rank = i.rank + 1; top = record i.top { env = env } }) refl refl refl (names-stay env i.top.env _ c.clear.ensures)
-
-pub returns-in_err-pedigree-clause-named : goal.returns-in_err-pedigree-clause-named
-returns-in_err-pedigree-clause-named c = λ plan.
-    let i = c.args.self.now in
-    let env = c.clear.new.self in
-    top-named plan i (record i { top = record i.top { env = env } }) refl refl refl (names-stay env i.top.env _ c.clear.ensures)

@@ -112,8 +112,8 @@ returns-in-Pfor-clause-shows c =
     let p = c.pay.new.self in
     let st = c.args.statement.now in
     let is = act-is (act.Pfor c.in-Pfor.var c.in-Pfor.lo c.in-Pfor.hi c.in-Pfor.target c.in-Pfor.call) st.act (variant.Pfor c.in-Pfor.var c.in-Pfor.lo c.in-Pfor.hi c.in-Pfor.target c.in-Pfor.call) c.in-Pfor.is (variant.rolls-Pfor c.in-Pfor.var c.in-Pfor.lo c.in-Pfor.hi c.in-Pfor.target c.in-Pfor.call) in
-    statement-paid plan c.args.self.now p p.steps c.in_ok-pay.ensures.ok c.in_ok-pay.ensures.paid (here-is plan c.args.self.now c.requires.instance) st (act.Pfor c.in-Pfor.var c.in-Pfor.lo c.in-Pfor.hi c.in-Pfor.target c.in-Pfor.call) c.pfor.new.self c.pfor.result is
-    (c.pfor.ensures.shows st c.in-Pfor.var)
+    statement-paid plan c.args.self.now p p.steps c.in_ok-pay.ensures.ok c.in_ok-pay.ensures.paid (here-is plan c.args.self.now c.requires.instance) st (act.Pfor c.in-Pfor.var c.in-Pfor.lo c.in-Pfor.hi c.in-Pfor.target c.in-Pfor.call) c.pfor_move.new.self c.pfor_move.result is
+    (c.pfor_move.ensures.shows st c.in-Pfor.var)
 
 pub returns-in-Array-clause-child : goal.returns-in-Array-clause-child
 returns-in-Array-clause-child c = rw c.silent.ensures (silent-child c.args.plan.now c.array.result)
@@ -175,7 +175,7 @@ returns-in-While-clause-keeps c =
 
 pub returns-in-Pfor-clause-keeps : goal.returns-in-Pfor-clause-keeps
 returns-in-Pfor-clause-keeps c =
-    keeps-paid c.args.plan.now c.args.self.now c.pay.new.self c.pay.new.self.steps c.requires.instance c.requires.goes_on c.in_ok-pay.ensures.ok c.in_ok-pay.ensures.paid c.pfor.new.self (c.pfor.ensures.named c.args.plan.now) c.pfor.ensures.stays c.pfor.ensures.few c.pfor.result
+    keeps-paid c.args.plan.now c.args.self.now c.pay.new.self c.pay.new.self.steps c.requires.instance c.requires.goes_on c.in_ok-pay.ensures.ok c.in_ok-pay.ensures.paid c.pfor_move.new.self (c.pfor_move.ensures.named c.args.plan.now) c.pfor_move.ensures.stays c.pfor_move.ensures.few c.pfor_move.result
 
 pub returns-in-Scope-clause-shows : goal.returns-in-Scope-clause-shows
 returns-in-Scope-clause-shows c =
@@ -191,8 +191,8 @@ pub returns-in-Scope-clause-keeps : goal.returns-in-Scope-clause-keeps
 returns-in-Scope-clause-keeps c =
     keeps-into c.args.plan.now c.args.self.now c.pay.new.self c.pay.new.self.steps c.requires.instance c.requires.goes_on c.in_ok-pay.ensures.ok c.in_ok-pay.ensures.paid c.scope.new.self (c.scope.ensures.named c.args.plan.now) c.scope.result c.scope.ensures.into c.scope.ensures.same
 
-pub pfor-requires-clause-steps : goal.pfor-requires-clause-steps
-pfor-requires-clause-steps c =
+pub pfor_move-requires-clause-steps : goal.pfor_move-requires-clause-steps
+pfor_move-requires-clause-steps c =
     let few = c.requires.instance.few in
     let paid = c.in_ok-pay.ensures.paid in
     omega (arith, few, paid)
@@ -321,8 +321,8 @@ spawn_move-requires-clause-finds c =
     let found = paid-finds c.args.plan.now c.args.slots.now c.args.self.now p p.steps c.in_ok-pay.ensures.ok st c.requires.finds in
     every-spawn (has_slot c.args.slots.now p.top.env.names) (finds_callee (functions_of c.args.plan.now)) st found c.in-Spawn.c is
 
-pub pfor-requires-clause-finds : goal.pfor-requires-clause-finds
-pfor-requires-clause-finds c =
+pub pfor_move-requires-clause-finds : goal.pfor_move-requires-clause-finds
+pfor_move-requires-clause-finds c =
     let p = c.pay.new.self in
     let st = c.args.statement.now in
     let is = act-is (act.Pfor c.in-Pfor.var c.in-Pfor.lo c.in-Pfor.hi c.in-Pfor.target c.in-Pfor.call) st.act (variant.Pfor c.in-Pfor.var c.in-Pfor.lo c.in-Pfor.hi c.in-Pfor.target c.in-Pfor.call) c.in-Pfor.is (variant.rolls-Pfor c.in-Pfor.var c.in-Pfor.lo c.in-Pfor.hi c.in-Pfor.target c.in-Pfor.call) in

@@ -1,9 +1,7 @@
-use Rattle.std.proofs.Common.{◌+◌, false, refl}
-use Rattle.strand_moves.proofs.Statements.Naming.{top-named}
 use Rattle.strand_moves.proofs.instance_parts.InstanceParts.sync.Goals as goal
 
-pub returns-then-waits-clause-named : goal.returns-then-waits-clause-named
-returns-then-waits-clause-named c = λ plan. let i = c.args.self.now in top-named plan i (record i { rank = i.rank + 1; top = record i.top { spawned = false } }) refl refl refl refl
+pub returns-then-pass_sync-clause-named : goal.returns-then-pass_sync-clause-named
+returns-then-pass_sync-clause-named c = c.pass_sync.ensures.named
 
 pub returns-clause-named : goal.returns-clause-named
-returns-clause-named c = λ plan. let i = c.args.self.now in top-named plan i (record i { rank = i.rank + 1; top = record i.top { spawned = false } }) refl refl refl refl
+returns-clause-named c = c.pass_sync.ensures.named
