@@ -1,4 +1,4 @@
 pub mod Listing
 pub mod Picking
 pub mod Unlawful
-pub mod Playing
+pub mod PickedSteps

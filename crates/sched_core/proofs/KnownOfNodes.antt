@@ -1,8 +1,8 @@
 pub mod Answered
 pub mod Beginning
-pub mod Hearing
+pub mod AnswersPut
 pub mod Holding
 pub mod Mains
-pub mod Settling
+pub mod TakingAnswers
 pub mod Spawning
 pub mod Staying

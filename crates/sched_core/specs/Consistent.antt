@@ -63,9 +63,9 @@ pub record IsChild (plan : PlanView) (given : List Origin) (nodes : List SpawnNo
   pub node : SpawnNode
   pub there : slice_get nodes child.number ≡ Some node
   pub link : node.link ≡ Some (record { parent = n; place = place })
-  pub heard : IsAnsweredBy plan given node.origin child.answer
+  pub answer_given : IsAnsweredBy plan given node.origin child.answer
 
--- at that index it is awaited
+-- its parent awaits it at that index
 pub record IsAwaited (nodes : List SpawnNode) (n : ℕ) (l : Link) : Type 0 where
   pub parent : SpawnNode
   pub child : NodeChild

@@ -1,7 +1,7 @@
 -- Tests whether an event may happen.
 use Rattle.std.specs.Prelude.{Bool, false, ◌&&◌, not, ℕ, nat_eq, nat_lt, Option, Some, None, length, is_some, slice_get}
 use Rattle.sched_meaning.specs.Core.{Worker, Core}
-use Rattle.sched_meaning.specs.Simulation.{has_task, is_free, may_give, may_run}
+use Rattle.sched_meaning.specs.Simulation.{has_task, is_free, has_ready, may_run}
 use Rattle.sched_meaning.specs.declared.event.CoreEvent.{CoreEvent}
 use Rattle.sched_meaning.specs.declared.event.CoreEvent.TheVariants.{Run, Pop, Steal, Look, Idle}
 
@@ -18,7 +18,7 @@ may_idle (Some w) = not (is_some w.current) && (not (has_task w.deque) && not (h
 -- whether an event may happen, while the root isn't answered
 abbrev pub may_happen : Core → CoreEvent → Bool
 may_happen c (Run w) = may_run (slice_get c.workers w)
-may_happen c (Pop w) = is_free (slice_get c.workers w) && may_give (slice_get c.workers w)
-may_happen c (Steal thief victim) = not (nat_eq thief victim) && (is_free (slice_get c.workers thief) && may_give (slice_get c.workers victim))
+may_happen c (Pop w) = is_free (slice_get c.workers w) && has_ready (slice_get c.workers w)
+may_happen c (Steal thief victim) = not (nat_eq thief victim) && (is_free (slice_get c.workers thief) && has_ready (slice_get c.workers victim))
 may_happen c (Look w place) = is_free (slice_get c.workers w) && has_stalled place (slice_get c.workers w)
 may_happen c (Idle w) = may_idle (slice_get c.workers w)

@@ -4,7 +4,7 @@ pub mod Cores
 pub mod Lawful
 pub mod Moves
 pub mod Nodes
-pub mod Played
+pub mod Stepped
 pub mod Sound
 pub mod Consistent
 pub mod Workers

@@ -8,7 +8,7 @@ use Rattle.strand_machine.specs.AwaitedChildren.{awaited}
 use Rattle.strand_machine.specs.Stops.{WentOn, answer_tags}
 use Rattle.strand_machine.specs.declared.stop.Stop.{Stop}
 use Rattle.strand_machine.specs.declared.stop.Stop.TheVariants as stop
-use Rattle.sched_core.specs.Nodes.{BeginsChild, Hears, NodeChanges, answers_in, missing, settled}
+use Rattle.sched_core.specs.Nodes.{BeginsChild, ChildAnswers, NodeChanges, answers_in, missing, without_children}
 use Rattle.sched_core.specs.Workers.{WorkerView}
 use Rattle.sched_core.specs.declared.job.Job.{Job}
 use Rattle.sched_core.specs.declared.node.Link.{Link}
@@ -27,21 +27,21 @@ abbrev pub Stalls : Job → WorkerView → WorkerView → Type 0
 Stalls rest w next = next ≡ record w { stalled = w.stalled ++ rest ∷ [] }
 
 -- the current task is taken out
-abbrev pub Lets : Job → WorkerView → WorkerView → Type 0
-Lets j w next = (w.current ≡ Some j) × (next ≡ record w { current = None })
+abbrev pub TakesCurrent : Job → WorkerView → WorkerView → Type 0
+TakesCurrent j w next = (w.current ≡ Some j) × (next ≡ record w { current = None })
 
-abbrev pub BacksJob : Job → WorkerView → WorkerView → Type 0
-BacksJob j w next = (w.deque ≡ next.deque ++ j ∷ []) × (next ≡ record w { deque = next.deque })
+abbrev pub PopsBack : Job → WorkerView → WorkerView → Type 0
+PopsBack j w next = (w.deque ≡ next.deque ++ j ∷ []) × (next ≡ record w { deque = next.deque })
 
-abbrev pub GivesJob : Job → WorkerView → WorkerView → Type 0
-GivesJob j w next = (w.deque ≡ j ∷ next.deque) × (next ≡ record w { deque = next.deque })
+abbrev pub PopsFront : Job → WorkerView → WorkerView → Type 0
+PopsFront j w next = (w.deque ≡ j ∷ next.deque) × (next ≡ record w { deque = next.deque })
 
-abbrev pub TakesJob : Job → WorkerView → WorkerView → Type 0
-TakesJob j w next = next ≡ record w { current = Some j }
+abbrev pub SetsCurrent : Job → WorkerView → WorkerView → Type 0
+SetsCurrent j w next = next ≡ record w { current = Some j }
 
 -- the task at this index is stalled no more
-abbrev pub Leaves : ℕ → Job → WorkerView → WorkerView → Type 0
-Leaves place j w next = (slice_get w.stalled place ≡ Some j) × (next ≡ record w { stalled = remove w.stalled place })
+abbrev pub TakesStalled : ℕ → Job → WorkerView → WorkerView → Type 0
+TakesStalled place j w next = (slice_get w.stalled place ≡ Some j) × (next ≡ record w { stalled = remove w.stalled place })
 
 -- The worker with this number changes like this, and no other does.
 pub record WorkerChanges (n : ℕ) (R : WorkerView → WorkerView → Type 0) (ws next : List WorkerView) : Type 0 where
@@ -55,7 +55,7 @@ pub record WorkerChanges (n : ℕ) (R : WorkerView → WorkerView → Type 0) (w
 
 abbrev pub AnswerGoes : Option Link → AnswerView → CoreState → CoreState → Type 0
 AnswerGoes None answer s next = (next.root ≡ Some answer) × (next.nodes.items ≡ s.nodes.items)
-AnswerGoes (Some l) answer s next = (next.root ≡ s.root) × NodeChanges l.parent (Hears l.place answer) s.nodes.items next.nodes.items
+AnswerGoes (Some l) answer s next = (next.root ≡ s.root) × NodeChanges l.parent (ChildAnswers l.place answer) s.nodes.items next.nodes.items
 
 -- An answer goes to the node of this link, or is main's.
 pub record DeliversAnswer (link : Option Link) (answer : AnswerView) (s next : CoreState) : Type 0 where
@@ -94,20 +94,20 @@ pub record StallsTask (w : ℕ) (rest : Job) (s next : CoreState) : Type 0 where
   pub root : next.root ≡ s.root
   pub runs : next.runs ≡ s.runs
 
--- What the stop of a task does that was taken from its worker.
+-- What a stop does, of a task that was taken from its worker.
 abbrev pub StopsAt : ℕ → ℕ → Stop All → CoreState → CoreState → Type 0
 StopsAt w number (stop.Spawn child rest) s next = BeginsTask w number child rest s next
 StopsAt w number (stop.Wait rest) s next = StallsTask w (job rest number) s next
 StopsAt w number (stop.Done answer give) s next = PutsAnswer number answer s next
 
 -- A task takes the answers of its children, all of which have answered.
-pub record Settles (j : Job) (answers : List AnswerView) (next : Job) : Type 0 where
+pub record TakesAnswers (j : Job) (answers : List AnswerView) (next : Job) : Type 0 where
   pub task : WentOn answers j.task next.task
   pub number : next.number ≡ j.number
 
 -- What a stop of a task of this number needs
 
--- a node that can be told of the child at this index
+-- a node that still awaits the answer of the child at this index
 pub record CanAnswerAt (nodes : List SpawnNode) (l : Link) : Type 0 where
   pub parent : SpawnNode
   pub there : slice_get nodes l.parent ≡ Some parent
@@ -123,7 +123,7 @@ pub record CanStop (w number : ℕ) (s : CoreState) : Type 0 where
   pub node : SpawnNode
   pub there : slice_get s.nodes.items number ≡ Some node
   pub within : node.unanswered ≤ length node.children
-  pub hears : CanAnswer s.nodes.items node.link
+  pub parent_awaits : CanAnswer s.nodes.items node.link
 
 -- What a task needs to continue
 
@@ -138,5 +138,5 @@ pub record CanResume (nodes : List SpawnNode) (j : Job) : Type 0 where
 pub record Resumes (j next : Job) (nodes after : List SpawnNode) : Type 0 where
   pub node : SpawnNode
   pub there : slice_get nodes j.number ≡ Some node
-  pub settles : Settles j (answers_in node.children) next
-  pub after_is : after ≡ slice_set nodes j.number (settled node)
+  pub takes : TakesAnswers j (answers_in node.children) next
+  pub after_is : after ≡ slice_set nodes j.number (without_children node)

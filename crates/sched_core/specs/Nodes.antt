@@ -15,12 +15,12 @@ abbrev pub awaiting : ℕ → SpawnNode → SpawnNode
 awaiting number n = record n { children = n.children ++ record { number = number; answer = None } ∷ []; unanswered = n.unanswered + 1 }
 
 -- the node once this child has answered
-abbrev pub hearing : ℕ → NodeChild → AnswerView → SpawnNode → SpawnNode
-hearing place child answer n = record n { children = slice_set n.children place (record child { answer = Some answer }); unanswered = n.unanswered - 1 }
+abbrev pub child_answered : ℕ → NodeChild → AnswerView → SpawnNode → SpawnNode
+child_answered place child answer n = record n { children = slice_set n.children place (record child { answer = Some answer }); unanswered = n.unanswered - 1 }
 
 -- the node once its task has taken the answers
-abbrev pub settled : SpawnNode → SpawnNode
-settled n = record n { children = [] }
+abbrev pub without_children : SpawnNode → SpawnNode
+without_children n = record n { children = [] }
 
 abbrev pub missing_one : Option AnswerView → ℕ
 missing_one None = 1
@@ -55,7 +55,7 @@ pub record BeginsChild (parent : ℕ) (o : Origin) (nodes next : List SpawnNode)
   pub next_is : next ≡ slice_set nodes parent (awaiting (length nodes) node) ++ new_node o (Some (record { parent = parent; place = length node.children })) ∷ []
 
 -- The child at this index has answered.
-pub record Hears (place : ℕ) (answer : AnswerView) (n next : SpawnNode) : Type 0 where
+pub record ChildAnswers (place : ℕ) (answer : AnswerView) (n next : SpawnNode) : Type 0 where
   pub child : NodeChild
   pub there : slice_get n.children place ≡ Some child
-  pub next_is : next ≡ hearing place child answer n
+  pub next_is : next ≡ child_answered place child answer n

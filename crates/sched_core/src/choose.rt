@@ -86,7 +86,7 @@ impl CoreState {
         let Some(worker) = self.workers.get(w as usize) else {
             return false;
         };
-        match worker.waits_at(place) {
+        match worker.stalled_number(place) {
             Some(number) => self.nodes[number].is_ready(),
             None => false,
         }

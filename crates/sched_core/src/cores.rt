@@ -12,8 +12,9 @@ use strand_machine::Memory;
 /// Workers with their tasks, the origins that were begun and the answers that were given. Contracts see the scheduling machine's
 /// core.
 ///
-/// For stepping a schedule by hand: where main's first stop is a spawn, worker 1 can steal nothing at first (`NotLawful`), and
-/// main's rest after `Run(0)`. `stolen_rest_answers` in the tests of `test_schedules` goes on so up to main's answer.
+/// For stepping through a schedule by hand. Where main's first stop is a spawn, worker 1 has nothing to steal at first
+/// (`NotLawful`), and main's rest after `Run(0)`. The test `stolen_rest_answers` of `test_schedules` goes on from there to main's
+/// answer.
 #[derive(Drop)]
 pub struct Core {
     pub(crate) state: CoreState,

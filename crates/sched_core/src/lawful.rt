@@ -1,6 +1,6 @@
 // Whether an event may happen.
 ghost use Rattle.std.specs.Prelude.{◌≡◌, ◌&&◌, false, is_none, map, slice_get};
-ghost use Rattle.sched_meaning.specs.Simulation.{is_progress, is_free, may_give, may_run};
+ghost use Rattle.sched_meaning.specs.Simulation.{is_progress, is_free, has_ready, may_run};
 ghost use Rattle.sched_meaning.specs.declared.event.CoreEvent.TheVariants as event;
 ghost use Rattle.sched_core.specs.Cores.{core_of, worker_of};
 ghost use Rattle.sched_core.specs.Lawful.{has_stalled, may_happen, may_idle};
@@ -9,7 +9,7 @@ use crate::state::CoreState;
 use sched_meaning::CoreEvent;
 
 impl CoreState {
-    /// Whether the worker has a current task.
+    // Whether the worker has a current task.
     pub fn may_run(&self, w: u32) -> bool
         ensures { result ≡ may_run (slice_get (map worker_of self.now.workers.items) w) }
     {
@@ -19,7 +19,7 @@ impl CoreState {
         }
     }
 
-    /// Whether this worker exists and has no current task.
+    // Whether this worker exists and has no current task.
     pub fn is_free(&self, w: u32) -> bool
         ensures { result ≡ is_free (slice_get (map worker_of self.now.workers.items) w) }
     {
@@ -29,28 +29,28 @@ impl CoreState {
         }
     }
 
-    /// Whether the worker's deque has a task.
-    pub fn may_give(&self, w: u32) -> bool
-        ensures { result ≡ may_give (slice_get (map worker_of self.now.workers.items) w) }
+    // Whether the worker's deque has a task.
+    pub fn has_ready(&self, w: u32) -> bool
+        ensures { result ≡ has_ready (slice_get (map worker_of self.now.workers.items) w) }
     {
         match self.workers.get(w as usize) {
-            Some(worker) => worker.may_give(),
+            Some(worker) => worker.has_ready(),
             None => false,
         }
     }
 
-    /// Whether the worker may pop.
+    // Whether the worker may pop.
     pub fn may_pop(&self, w: u32) -> bool
         ensures { result ≡ is_progress (core_of false self.now) (event.Pop w) }
     {
-        self.is_free(w) && self.may_give(w)
+        self.is_free(w) && self.has_ready(w)
     }
 
-    /// Whether this thief may steal from this victim.
+    // Whether this thief may steal from this victim.
     pub fn may_steal(&self, thief: u32, victim: u32) -> bool
         ensures { result ≡ is_progress (core_of false self.now) (event.Steal thief victim) }
     {
-        thief != victim && self.is_free(thief) && self.may_give(victim)
+        thief != victim && self.is_free(thief) && self.has_ready(victim)
     }
 
     // Whether the worker has a stalled task with this index.
@@ -69,13 +69,13 @@ impl CoreState {
     {
         match self.workers.get(w as usize) {
             Some(worker) => !worker.is_running()
-                && !worker.may_give()
+                && !worker.has_ready()
                 && worker.stalled_count() == 0,
             None => false,
         }
     }
 
-    /// Whether the event may happen now. None may after the root's answer.
+    // Whether the event may happen now. None may after the root's answer.
     pub fn allows(&self, event: CoreEvent) -> bool
         ensures { result ≡ (is_none self.now.root && may_happen (core_of false self.now) event) }
     {

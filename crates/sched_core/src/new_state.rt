@@ -4,7 +4,7 @@ ghost use Rattle.std.specs.Arc.{arc_value};
 ghost use Rattle.serial_meaning.specs.Eval.{main_origin};
 ghost use Rattle.strand_machine.specs.Links.{detached};
 ghost use Rattle.strand_machine.specs.Tasks.{fresh};
-ghost use Rattle.sched_core.specs.Begun.{IsBegun, hired};
+ghost use Rattle.sched_core.specs.Begun.{IsBegun, first_workers};
 ghost use Rattle.sched_core.specs.Consistent.{IsConsistent};
 
 use crate::job::Job;
@@ -26,9 +26,9 @@ fn main_task(alloc: Global, plan: &Arc<Plan>) -> Result<Task, Memory>
 }
 
 // This many workers, of which the first has this task.
-fn hire(alloc: Global, main: Task, workers: u32) -> Result<Vec<Worker>, Memory>
+fn first_workers(alloc: Global, main: Task, workers: u32) -> Result<Vec<Worker>, Memory>
     requires { 1 ≤ workers }
-    ensures { IfOk result (λ all. all.items ≡ hired main workers) }
+    ensures { IfOk result (λ all. all.items ≡ first_workers main workers) }
 {
     let mut all = Vec::with_capacity(alloc, workers as usize)?;
     let job = Job {
@@ -53,7 +53,7 @@ fn first_state(alloc: Global, plan: &Arc<Plan>, workers: u32) -> Result<CoreStat
     nodes.push(SpawnNode::new(alloc, origin, None))?;
     Ok(CoreState {
         plan: Arc::try_clone(plan)?,
-        workers: hire(alloc, main, workers)?,
+        workers: first_workers(alloc, main, workers)?,
         nodes,
         given: Items(Vec::new(alloc)),
         root: None,

@@ -1,6 +1,6 @@
 // The origins that were begun, by number.
 ghost use Rattle.std.specs.Prelude.{◌≡◌, ◌<◌, ◌≤◌, ◌↔◌, IsTrue, [], ◌∷◌, ◌++◌, Some, None, IfOk, OnOk, length, slice_get, slice_set};
-ghost use Rattle.sched_core.specs.Nodes.{BeginsChild, Hears, answers_in, awaiting, missing, new_node, settled};
+ghost use Rattle.sched_core.specs.Nodes.{BeginsChild, ChildAnswers, answers_in, awaiting, missing, new_node, without_children};
 
 use contract_views::Items;
 use serial_meaning::{Answer, Origin};
@@ -50,7 +50,7 @@ fn answers_of(children: Items<NodeChild>, alloc: Global) -> Result<Items<Answer>
 }
 
 impl SpawnNode {
-    /// An origin that awaits nobody.
+    // An origin that awaits nobody.
     pub fn new(alloc: Global, origin: Origin, link: Option<Link>) -> SpawnNode
         ensures { result ≡ new_node origin link }
     {
@@ -82,28 +82,28 @@ impl SpawnNode {
         Ok(())
     }
 
-    /// Stores the answer of the child with this index.
+    // Stores the answer of the child with this index.
     pub fn put_child_answer(&mut self, place: usize, answer: Answer)
         requires place { place < length self.old.children }
         requires unanswered { 0 < self.old.unanswered }
-        ensures { Hears place answer self.old self.new }
+        ensures { ChildAnswers place answer self.old self.new }
     {
         self.children.0[place].answer = Some(answer);
         self.unanswered -= 1;
     }
 
-    /// Whether all children have answered.
+    // Whether all children have answered.
     pub fn is_ready(&self) -> bool
         ensures { IsTrue result ↔ (self.now.unanswered ≡ 0) }
     {
         self.unanswered == 0
     }
 
-    /// Takes the answers of all children, which have answered.
+    // Takes the answers of all children, which have answered.
     pub fn take_answers(&mut self, alloc: Global) -> Result<Items<Answer>, Memory>
         requires { missing self.old.children ≡ 0 }
         ensures answers { IfOk result (λ answers. answers ≡ answers_in self.old.children) }
-        ensures rest { self.new ≡ settled self.old }
+        ensures rest { self.new ≡ without_children self.old }
     {
         let children = mem::replace(&mut self.children, Items(Vec::new(alloc)));
         answers_of(children, alloc)

@@ -4,7 +4,7 @@ ghost use Rattle.std.specs.Arc.{arc_value};
 ghost use Rattle.serial_meaning.specs.Eval.{main_origin};
 ghost use Rattle.strand_meaning.specs.Laws.{IsFaultOf};
 ghost use Rattle.sched_meaning.specs.Simulation.{IsSimWorker};
-ghost use Rattle.sched_core.specs.Played.{Plays};
+ghost use Rattle.sched_core.specs.Stepped.{TakesStep};
 ghost use Rattle.sched_core.specs.Consistent.{IsConsistent};
 
 use crate::choose::pick;
@@ -29,17 +29,17 @@ pub struct Simulated {
 
 // The result of one step of a simulation.
 #[derive(Drop)]
-enum Played {
-    On(CoreState),
+enum Stepped {
+    Unfinished(CoreState),
     Finished(Simulated),
 }
 
 // The step that a word picks.
-fn play_step(state: CoreState, alloc: Global, word: u64) -> Result<Played, Memory>
+fn take_step(state: CoreState, alloc: Global, word: u64) -> Result<Stepped, Memory>
     requires consistent { IsConsistent state }
     requires few { length state.workers.items ≤ 64 }
     requires root { state.root ≡ None }
-    ensures { IfOk result (Plays word state) }
+    ensures { IfOk result (TakesStep word state) }
 {
     let mut state = state;
     let Some(event) = pick(&state, alloc, word)? else {
@@ -47,17 +47,17 @@ fn play_step(state: CoreState, alloc: Global, word: u64) -> Result<Played, Memor
     };
     take_event(&mut state, alloc, event)?;
     let Some(answer) = state.root.take() else {
-        return Ok(Played::On(state));
+        return Ok(Stepped::Unfinished(state));
     };
     let CoreEvent::Run(worker) = event else {
         unreachable!()
     };
-    Ok(Played::Finished(Simulated { answer, worker }))
+    Ok(Stepped::Finished(Simulated { answer, worker }))
 }
 
-/// Runs main on this many workers, whose events are picked by the words of the number's SplitMix64. Each step takes the event at
-/// the word modulo their number among those that may happen and make progress: runs, pops, steals and looks, in this order, and
-/// within a kind by worker, steals by thief and then by victim, looks by worker and then by index.
+/// Runs main on this many workers, whose events are picked by the words of the number's SplitMix64. Of the events that may happen
+/// and make progress each step takes the one whose index is the word modulo how many there are. They are in this order: runs, pops,
+/// steals and looks; within a kind by worker, steals by thief and then by victim, looks by worker and then by index.
 pub fn simulate(
     alloc: Global,
     plan: &Arc<Plan>,
@@ -74,9 +74,9 @@ pub fn simulate(
     let mut words = SplitMix64::seed_from_u64(number);
     loop {
         let word = words.next_word();
-        match play_step(state, alloc, word)? {
-            Played::On(next) => state = next,
-            Played::Finished(simulated) => return Ok(simulated),
+        match take_step(state, alloc, word)? {
+            Stepped::Unfinished(next) => state = next,
+            Stepped::Finished(simulated) => return Ok(simulated),
         }
     }
 }

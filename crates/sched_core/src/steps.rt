@@ -73,7 +73,7 @@ fn look(state: &mut CoreState, alloc: Global, w: u32, place: u32) -> Result<(), 
     requires lawful { may_happen (core_of false state.old) (event.Look w place) ≡ true }
     ensures { OnOk result (StepsTo (event.Look w place) state.old state.new) }
 {
-    let job = state.workers[w as usize].leave(place);
+    let job = state.workers[w as usize].take_stalled(place);
     if state.nodes[job.number].is_ready() {
         let job = resume(&mut state.nodes, alloc, job)?;
         state.workers[w as usize].set_current(job);

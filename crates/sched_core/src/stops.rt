@@ -29,7 +29,7 @@ fn put_answer(
     answer: Answer,
 ) -> Result<(), Memory>
     requires number { number < length state.old.nodes.items }
-    requires hears { (n : SpawnNode) → slice_get state.old.nodes.items number ≡ Some n → CanAnswer state.old.nodes.items n.link }
+    requires parent_awaits { (n : SpawnNode) → slice_get state.old.nodes.items number ≡ Some n → CanAnswer state.old.nodes.items n.link }
     ensures { OnOk result (PutsAnswer number answer state.old state.new) }
 {
     let origin = share_origin(alloc, &answer.origin)?;

@@ -5,7 +5,7 @@ use std::marker::Model;
 use strand_machine::Memory;
 
 // The most stalled tasks of a worker, so that each index among them is a `u32`.
-const MOST_WAITING: usize = u32::MAX as usize;
+const MOST_STALLED: usize = u32::MAX as usize;
 
 // A worker: its current task, its deque, the front first, and its tasks that wait for their children.
 #[derive(Drop)]
@@ -33,10 +33,10 @@ impl Model for Worker {
 
 impl Worker {
     ghost use Rattle.std.specs.Prelude.{◌≡◌, ◌≢◌, ◌<◌, [], Some, None, OnOk, is_some, length, nat_eq, not, slice_get};
-    ghost use Rattle.sched_core.specs.Moves.{SwitchesToChild, Stalls, Lets, BacksJob, GivesJob, TakesJob, Leaves};
+    ghost use Rattle.sched_core.specs.Moves.{SwitchesToChild, Stalls, TakesCurrent, PopsBack, PopsFront, SetsCurrent, TakesStalled};
     ghost use Rattle.sched_core.specs.Workers.{worker_with};
 
-    /// A worker whose only task is this one.
+    // A worker whose only task is this one.
     pub fn new(alloc: Global, current: Option<Job>) -> Worker
         ensures { result ≡ worker_with current }
     {
@@ -47,29 +47,29 @@ impl Worker {
         }
     }
 
-    /// Whether it has a current task.
+    // Whether it has a current task.
     pub fn is_running(&self) -> bool
         ensures { result ≡ is_some self.now.current }
     {
         self.current.is_some()
     }
 
-    /// Whether its deque has a task.
-    pub fn may_give(&self) -> bool
+    // Whether its deque has a task.
+    pub fn has_ready(&self) -> bool
         ensures { result ≡ not (nat_eq (length self.now.deque) 0) }
     {
         !self.deque.is_empty()
     }
 
-    /// How many of its tasks are stalled.
+    // How many of its tasks are stalled.
     pub fn stalled_count(&self) -> u32
         ensures { result ≡ length self.now.stalled }
     {
         self.stalled.len() as u32
     }
 
-    /// The number of the stalled task with this index.
-    pub fn waits_at(&self, place: u32) -> Option<usize>
+    // The number of the stalled task with this index.
+    pub fn stalled_number(&self, place: u32) -> Option<usize>
         ensures some { (j : _) → slice_get self.now.stalled place ≡ Some j → result ≡ Some j.number }
         ensures none { slice_get self.now.stalled place ≡ None → result ≡ None }
     {
@@ -79,7 +79,7 @@ impl Worker {
         }
     }
 
-    /// The child becomes the current task, and its parent's rest goes to the back of the deque.
+    // The child becomes the current task, and its parent's rest goes to the back of the deque.
     pub fn switch_to_child(&mut self, child: Job, rest: Job) -> Result<(), Memory>
         ensures { OnOk result (SwitchesToChild child rest self.old self.new) }
     {
@@ -88,21 +88,21 @@ impl Worker {
         Ok(())
     }
 
-    /// The task goes to the end of the stalled tasks. It is `Memory` also where there are as many as may be.
+    // The task goes to the end of the stalled tasks. It is `Memory` also where there are as many as may be.
     pub fn stall(&mut self, rest: Job) -> Result<(), Memory>
         ensures { OnOk result (Stalls rest self.old self.new) }
     {
-        if self.stalled.len() >= MOST_WAITING {
+        if self.stalled.len() >= MOST_STALLED {
             return Err(Memory);
         }
         self.stalled.push(rest)?;
         Ok(())
     }
 
-    /// Takes out the current task.
+    // Takes out the current task.
     pub fn take_current(&mut self) -> Job
         requires { self.old.current ≢ None }
-        ensures { Lets result self.old self.new }
+        ensures { TakesCurrent result self.old self.new }
     {
         let Some(job) = self.current.take() else {
             unreachable!()
@@ -110,10 +110,10 @@ impl Worker {
         job
     }
 
-    /// Takes out the task at the back of the deque.
+    // Takes out the task at the back of the deque.
     pub fn pop_back(&mut self) -> Job
         requires { self.old.deque ≢ [] }
-        ensures { BacksJob result self.old self.new }
+        ensures { PopsBack result self.old self.new }
     {
         let Some(job) = self.deque.pop_back() else {
             unreachable!()
@@ -121,10 +121,10 @@ impl Worker {
         job
     }
 
-    /// Takes out the task at the front of the deque.
+    // Takes out the task at the front of the deque.
     pub fn pop_front(&mut self) -> Job
         requires { self.old.deque ≢ [] }
-        ensures { GivesJob result self.old self.new }
+        ensures { PopsFront result self.old self.new }
     {
         let Some(job) = self.deque.pop_front() else {
             unreachable!()
@@ -132,17 +132,17 @@ impl Worker {
         job
     }
 
-    /// Makes the task the current one.
+    // Makes the task the current one.
     pub fn set_current(&mut self, job: Job)
-        ensures { TakesJob job self.old self.new }
+        ensures { SetsCurrent job self.old self.new }
     {
         self.current = Some(job);
     }
 
-    /// Takes out the stalled task with this index.
-    pub fn leave(&mut self, place: u32) -> Job
+    // Takes out the stalled task with this index.
+    pub fn take_stalled(&mut self, place: u32) -> Job
         requires { place < length self.old.stalled }
-        ensures { Leaves place result self.old self.new }
+        ensures { TakesStalled place result self.old self.new }
     {
         self.stalled.remove(place as usize)
     }

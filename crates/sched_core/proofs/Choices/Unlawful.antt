@@ -4,7 +4,7 @@ use Rattle.std.proofs.lemmas.Bool.Decides.{Decides-eqb, Decides-ltb}
 use Rattle.std.proofs.lemmas.Option.{slice_get_within}
 use Rattle.strand_meaning.specs.Task.{Task}
 use Rattle.sched_meaning.specs.Core.{Worker, Core}
-use Rattle.sched_meaning.specs.Simulation.{has_task, is_free, may_give, may_run}
+use Rattle.sched_meaning.specs.Simulation.{has_task, is_free, has_ready, may_run}
 use Rattle.sched_meaning.specs.Steps.{Happens, WorkerGives, Changes}
 use Rattle.sched_meaning.specs.Steps as steps
 use Rattle.sched_meaning.specs.declared.event.CoreEvent.{CoreEvent}
@@ -36,8 +36,8 @@ look-may w place c o t there free at =
 
 steal-may : (thief victim : ℕ) (c next : Core) → steps.Steals thief victim c next → may_happen c (Steal thief victim) ≡ true
 steal-may thief victim c next s =
-    true-both (not (nat_eq thief victim)) (is_free (slice_get c.workers thief) && may_give (slice_get c.workers victim)) (not-same thief victim s.two)
-    (true-both (is_free (slice_get c.workers thief)) (may_give (slice_get c.workers victim)) (ap is_free there ∙ ap (λ o. not (is_some o)) s.takes.does.free) (ap may_give s.gives.there ∙ ap has_task s.gives.does.front))
+    true-both (not (nat_eq thief victim)) (is_free (slice_get c.workers thief) && has_ready (slice_get c.workers victim)) (not-same thief victim s.two)
+    (true-both (is_free (slice_get c.workers thief)) (has_ready (slice_get c.workers victim)) (ap is_free there ∙ ap (λ o. not (is_some o)) s.takes.does.free) (ap has_ready s.gives.there ∙ ap has_task s.gives.does.front))
   where
     there : slice_get c.workers thief ≡ Some s.takes.worker
     there = sym (ap (λ (d : Core). slice_get d.workers thief) s.gives.next_is ∙ get-other c.workers victim thief s.gives.after s.two) ∙ s.takes.there
@@ -46,8 +46,8 @@ steal-may thief victim c next s =
 pub may : (e : CoreEvent) (c next : Core) → Happens e c next → may_happen c e ≡ true
 may (Run w) c next h = ap may_run h.runs.there ∙ ap is_some h.runs.does.current
 may (Pop w) c next h =
-    true-both (is_free (slice_get c.workers w)) (may_give (slice_get c.workers w)) (ap is_free h.pops.there ∙ ap (λ o. not (is_some o)) h.pops.does.free)
-    (ap may_give h.pops.there ∙ ap has_task h.pops.does.back ∙ has-task h.pops.after.deque h.task)
+    true-both (is_free (slice_get c.workers w)) (has_ready (slice_get c.workers w)) (ap is_free h.pops.there ∙ ap (λ o. not (is_some o)) h.pops.does.free)
+    (ap has_ready h.pops.there ∙ ap has_task h.pops.does.back ∙ has-task h.pops.after.deque h.task)
 may (Steal thief victim) c next h = steal-may thief victim c next h
 may (Look w place) c next (inl h) = look-may w place c h.resumes.worker h.task h.resumes.there h.resumes.does.free h.resumes.does.there
 may (Look w place) c next (inr h) = look-may w place c h.passes.worker h.task h.passes.there h.passes.does.free h.passes.does.there

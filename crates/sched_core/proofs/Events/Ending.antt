@@ -18,7 +18,7 @@ use Rattle.sched_meaning.proofs.KeptByEvents.Cores as cores
 use Rattle.sched_meaning.proofs.KeptByEvents.Good.{IsLeft, stop-leaves}
 use Rattle.sched_meaning.proofs.OneCore.OneStep.{some-one}
 use Rattle.sched_core.specs.Cores.{answer_of, core_of, origins_of, plan_of, task_in, worker_of}
-use Rattle.sched_core.specs.Nodes.{hearing}
+use Rattle.sched_core.specs.Nodes.{child_answered}
 use Rattle.sched_core.specs.Consistent.{AreJobs, AreWorkers, Awaits, StepsTo, IsGiven, IsAnsweredBy, IsJob, IsLinked, IsConsistent}
 use Rattle.sched_core.specs.Workers.{WorkerView}
 use Rattle.sched_core.specs.declared.job.Job.{Job}
@@ -26,7 +26,7 @@ use Rattle.sched_core.specs.declared.node.NodeChild.{NodeChild}
 use Rattle.sched_core.specs.declared.node.Link.{Link}
 use Rattle.sched_core.specs.declared.node.SpawnNode.{SpawnNode}
 use Rattle.sched_core.specs.declared.state.CoreState.{CoreState}
-use Rattle.sched_core.proofs.KnownOfNodes.Hearing.{heard-more, nodes-end, nodes-hear}
+use Rattle.sched_core.proofs.KnownOfNodes.AnswersPut.{given-more, nodes-end, nodes-answered}
 use Rattle.sched_core.proofs.Worked.Lists.{everywhere-set, get-map, get-other, get-set, map-append-one, map-set-same, same-or}
 use Rattle.sched_core.proofs.Events.Running.{going, own-fresh, own-job, run-step, workers-moved}
 use Rattle.sched_core.proofs.Events.Taking.{carry-nodes, carry-root, goes}
@@ -57,19 +57,19 @@ awaits-set begun (x ∷ cs) (o ∷ os) zero c a h w = (ap (λ (y : NodeChild). s
 awaits-set begun (x ∷ cs) (o ∷ os) (suc k) c a h w = (w.0, awaits-set begun cs os k c a h w.1)
 
 -- a parent that heard of a child awaits the same origins
-job-hears : (nodes : List SpawnNode) (l : Link) (parent : SpawnNode) (child : NodeChild) (a : AnswerView) → slice_get nodes l.parent ≡ Some parent → slice_get parent.children l.place ≡ Some child →
-    (i : Job) → IsJob nodes i → IsJob (slice_set nodes l.parent (hearing l.place child a parent)) i
-job-hears nodes l parent child a at_parent at i is = by_number (same-or i.number l.parent)
+job-answered : (nodes : List SpawnNode) (l : Link) (parent : SpawnNode) (child : NodeChild) (a : AnswerView) → slice_get nodes l.parent ≡ Some parent → slice_get parent.children l.place ≡ Some child →
+    (i : Job) → IsJob nodes i → IsJob (slice_set nodes l.parent (child_answered l.place child a parent)) i
+job-answered nodes l parent child a at_parent at i is = by_number (same-or i.number l.parent)
   where
-    origins : origins_of (slice_set nodes l.parent (hearing l.place child a parent)) ≡ origins_of nodes
-    origins = map-set-same (λ (x : SpawnNode). x.origin) nodes l.parent parent (hearing l.place child a parent) at_parent refl
+    origins : origins_of (slice_set nodes l.parent (child_answered l.place child a parent)) ≡ origins_of nodes
+    origins = map-set-same (λ (x : SpawnNode). x.origin) nodes l.parent parent (child_answered l.place child a parent) at_parent refl
 
-    by_number : (i.number ≡ l.parent) ⊎ (i.number ≡ l.parent → ⊥) → IsJob (slice_set nodes l.parent (hearing l.place child a parent)) i
+    by_number : (i.number ≡ l.parent) ⊎ (i.number ≡ l.parent → ⊥) → IsJob (slice_set nodes l.parent (child_answered l.place child a parent)) i
     by_number (inl e) =
         let same : is.node ≡ parent = some-one is.node parent (sym is.there ∙ ap (λ m. slice_get nodes m) e ∙ at_parent) in
         record {
-          node = hearing l.place child a parent;
-          there = ap (λ m. slice_get (slice_set nodes l.parent (hearing l.place child a parent)) m) e ∙ get-set nodes l.parent parent (hearing l.place child a parent) at_parent;
+          node = child_answered l.place child a parent;
+          there = ap (λ m. slice_get (slice_set nodes l.parent (child_answered l.place child a parent)) m) e ∙ get-set nodes l.parent parent (child_answered l.place child a parent) at_parent;
           origin = ap (λ (x : SpawnNode). x.origin) (sym same) ∙ is.origin;
           awaits = subst (λ b. Awaits b (slice_set parent.children l.place (record child { answer = Some a })) (awaited (task_in i).trace.unmerged)) (sym origins)
               (awaits-set (origins_of nodes) parent.children (awaited (task_in i).trace.unmerged) l.place child (Some a) at
@@ -78,7 +78,7 @@ job-hears nodes l parent child a at_parent at i is = by_number (same-or i.number
         }
     by_number (inr two) = record {
       node = is.node;
-      there = get-other nodes l.parent i.number (hearing l.place child a parent) two ∙ is.there;
+      there = get-other nodes l.parent i.number (child_answered l.place child a parent) two ∙ is.there;
       origin = is.origin;
       awaits = subst (λ b. Awaits b is.node.children (awaited (task_in i).trace.unmerged)) (sym origins) is.awaits;
       uncut = is.uncut;
@@ -159,13 +159,13 @@ module _ (s next : CoreState) (t : IsConsistent s) (none : s.root ≡ None) (w :
 
     -- another's answer
     pub child-goes : (l : Link) → own.node.link ≡ Some l → (parent : SpawnNode) → slice_get s.nodes.items l.parent ≡ Some parent → (child : NodeChild) → slice_get parent.children l.place ≡ Some child →
-        next.nodes.items ≡ slice_set s.nodes.items l.parent (hearing l.place child a parent) → next.root ≡ s.root → StepsTo (Run w) s next
+        next.nodes.items ≡ slice_set s.nodes.items l.parent (child_answered l.place child a parent) → next.root ≡ s.root → StepsTo (Run w) s next
     child-goes l linked parent at_parent child at nodes root =
         goes (Run w) s next t none (ap arc_value p.plan)
         (run-step s next t none w v (record v { current = None }) there j current (End a.out a.outcome) stops.next
-        (core-is (ap origins_of nodes ∙ map-set-same (λ (x : SpawnNode). x.origin) s.nodes.items l.parent parent (hearing l.place child a parent) at_parent refl))).happens
-        (workers-next (λ i is. subst (λ q. IsJob q i) (sym nodes) (job-hears s.nodes.items l parent child a at_parent at i is)))
-        (carry-nodes _ _ _ _ _ _ (ap arc_value p.plan) given-is nodes (nodes-hear (plan_of s) s.given s.nodes.items t.nodes j.number own.node own.there fresh (once s t) l linked a is-given parent at_parent child at))
+        (core-is (ap origins_of nodes ∙ map-set-same (λ (x : SpawnNode). x.origin) s.nodes.items l.parent parent (child_answered l.place child a parent) at_parent refl))).happens
+        (workers-next (λ i is. subst (λ q. IsJob q i) (sym nodes) (job-answered s.nodes.items l parent child a at_parent at i is)))
+        (carry-nodes _ _ _ _ _ _ (ap arc_value p.plan) given-is nodes (nodes-answered (plan_of s) s.given s.nodes.items t.nodes j.number own.node own.there fresh (once s t) l linked a is-given parent at_parent child at))
         (carry-root _ _ _ _ _ _ (ap arc_value p.plan) given-is root not-yet)
       where
         main-fresh : IsAnsweredBy (plan_of s) s.given (main_origin (plan_of s)) None
@@ -183,4 +183,4 @@ module _ (s next : CoreState) (t : IsConsistent s) (none : s.root ≡ None) (w :
             let both : Some l ≡ None = sym linked ∙ none-linked in absurd (cc)
 
         not-yet : IsAnsweredBy (plan_of s) (s.given ++ own.node.origin ∷ []) (main_origin (plan_of s)) s.root
-        not-yet = subst (IsAnsweredBy (plan_of s) (s.given ++ own.node.origin ∷ []) (main_origin (plan_of s))) (sym none) (heard-more (plan_of s) s.given (main_origin (plan_of s)) own.node.origin None other main-fresh)
+        not-yet = subst (IsAnsweredBy (plan_of s) (s.given ++ own.node.origin ∷ []) (main_origin (plan_of s))) (sym none) (given-more (plan_of s) s.given (main_origin (plan_of s)) own.node.origin None other main-fresh)

@@ -9,7 +9,7 @@ use Rattle.sched_meaning.specs.Steps.{Changes, WorkerPasses}
 use Rattle.sched_meaning.specs.declared.event.CoreEvent.TheVariants.{Look}
 use Rattle.sched_meaning.proofs.OneCore.OneStep.{some-one}
 use Rattle.sched_core.specs.Cores.{core_of, origins_of, plan_of, task_in, worker_of}
-use Rattle.sched_core.specs.Moves.{Leaves, Stalls, WorkerChanges}
+use Rattle.sched_core.specs.Moves.{TakesStalled, Stalls, WorkerChanges}
 use Rattle.sched_core.specs.Nodes.{missing}
 use Rattle.sched_core.specs.Consistent.{AreJobs, AreNodes, AreWorkers, Awaits, StepsTo, IsChild, IsAnsweredBy, IsJob, IsConsistent}
 use Rattle.sched_core.specs.Workers.{WorkerView}
@@ -17,14 +17,14 @@ use Rattle.sched_core.specs.declared.job.Job.{Job}
 use Rattle.sched_core.specs.declared.node.SpawnNode.{SpawnNode}
 use Rattle.sched_core.specs.declared.state.CoreState.{CoreState}
 use Rattle.sched_core.proofs.Worked.Lists.{get-map, map-remove, everywhere-end, everywhere-remove, everywhere-set}
-use Rattle.sched_core.proofs.Worked.Ready.{AreHeard, awaited-same, not-all}
+use Rattle.sched_core.proofs.Worked.Ready.{AreAnswersGiven, awaited-same, not-all}
 use Rattle.sched_core.proofs.Events.Taking.{Both, Keeps, changed, core-keeps, free-none, map-end, moves, was-given}
 
 -- What a node knows of its children's answers
 
-pub heard : (plan : PlanView) (given : List Origin) (nodes : List SpawnNode) → AreNodes plan given nodes → (n : ℕ) (node : SpawnNode) → slice_get nodes n ≡ Some node →
-    AreHeard plan given (origins_of nodes) node.children
-heard plan given nodes all n node there k c at o og = subst (λ p. IsAnsweredBy plan given p c.answer) same child.heard
+pub answer_given : (plan : PlanView) (given : List Origin) (nodes : List SpawnNode) → AreNodes plan given nodes → (n : ℕ) (node : SpawnNode) → slice_get nodes n ≡ Some node →
+    AreAnswersGiven plan given (origins_of nodes) node.children
+answer_given plan given nodes all n node there k c at o og = subst (λ p. IsAnsweredBy plan given p c.answer) same child.answer_given
   where
     child : IsChild plan given nodes n k c
     child = (all n node there).children k c at
@@ -44,7 +44,7 @@ module _ (s : CoreState) (t : IsConsistent s) where
       let z = not-zero node.unanswered (missing node.children) (t.nodes j.number node there).unanswered some in
       not-all (plan_of s) s.given (origins_of s.nodes.items) node.children (awaited (task_in j).trace.unmerged) z.0
       (subst (λ (n : SpawnNode). Awaits (origins_of s.nodes.items) n.children (awaited (task_in j).trace.unmerged)) same is.awaits)
-      (heard (plan_of s) s.given s.nodes.items t.nodes j.number node there) z.1 given
+      (answer_given (plan_of s) s.given s.nodes.items t.nodes j.number node there) z.1 given
     where
       same : is.node ≡ node
       same = some-one is.node node (sym is.there ∙ there)
@@ -53,7 +53,7 @@ module _ (s : CoreState) (t : IsConsistent s) where
       given = subst (All (Contains s.given)) (awaited-same (task_in j).trace.unmerged) (λ k d lt. was-given false s _ (ready k d lt))
 
 module _ (s next : CoreState) (t : IsConsistent s) (none : s.root ≡ None) (k : Keeps s next) (w place : ℕ) (j : Job) where
-  module _ (b : Both w (Leaves place j) (Stalls j) s.workers.items next.workers.items) (free : is_free (slice_get (map worker_of s.workers.items) w) ≡ true) where
+  module _ (b : Both w (TakesStalled place j) (Stalls j) s.workers.items next.workers.items) (free : is_free (slice_get (map worker_of s.workers.items) w) ≡ true) where
     old : AreJobs s.nodes.items b.worker
     old = t.workers w b.worker b.there
 

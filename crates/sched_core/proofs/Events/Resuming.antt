@@ -7,7 +7,7 @@ use Rattle.strand_machine.specs.AwaitedChildren.{awaited}
 use Rattle.strand_machine.specs.Stops.{WentOn, answer_tags, view_on}
 use Rattle.strand_machine.specs.Tasks.{TaskView}
 use Rattle.sched_meaning.specs.Core as machine
-use Rattle.sched_meaning.specs.Core.{current_tasks, gone_on}
+use Rattle.sched_meaning.specs.Core.{current_tasks, resumed_task}
 use Rattle.sched_meaning.specs.Simulation.{is_free}
 use Rattle.sched_meaning.specs.declared.event.CoreEvent.TheVariants.{Look}
 use Rattle.sched_meaning.proofs.BegunOnce.Begun.{is-it, is_it}
@@ -17,7 +17,7 @@ use Rattle.sched_meaning.proofs.KeptByEvents.Good.{IsGood, IsStalled}
 use Rattle.sched_meaning.proofs.KeptByEvents.Kept.{by_origin}
 use Rattle.sched_meaning.proofs.OneCore.OneStep.{some-one}
 use Rattle.sched_core.specs.Cores.{answer_of, core_of, origins_of, plan_of, task_in, worker_of}
-use Rattle.sched_core.specs.Nodes.{answers_in, missing, settled}
+use Rattle.sched_core.specs.Nodes.{answers_in, missing, without_children}
 use Rattle.sched_core.specs.Consistent.{AreJobs, Awaits, StepsTo, IsJob, IsConsistent}
 use Rattle.sched_core.specs.Workers.{WorkerView}
 use Rattle.sched_core.specs.declared.job.Job.{Job}
@@ -25,9 +25,9 @@ use Rattle.sched_core.specs.declared.node.SpawnNode.{SpawnNode}
 use Rattle.sched_core.specs.declared.state.CoreState.{CoreState}
 use Rattle.sched_core.proofs.Worked.Lists.{everywhere-remove, get-map, get-set, map-remove, map-set}
 use Rattle.sched_core.proofs.Worked.Others.{others-stay, times, times-few, worker-stays}
-use Rattle.sched_core.proofs.Events.Passing.{heard}
+use Rattle.sched_core.proofs.Events.Passing.{answer_given}
 use Rattle.sched_core.proofs.Worked.Ready.{all-given, awaited-same, none-cut, tags-are}
-use Rattle.sched_core.proofs.KnownOfNodes.Settling.{job-settles, nodes-settle, origins-settled}
+use Rattle.sched_core.proofs.KnownOfNodes.TakingAnswers.{job-takes, nodes-take, origins-same}
 use Rattle.sched_core.proofs.Events.Taking.{carry-nodes, carry-root, carry-workers, free-none, goes, is-answered}
 
 -- A stalled task, whose number's node has answers of all its children
@@ -50,24 +50,24 @@ module _ (s : CoreState) (t : IsConsistent s) (w place : ℕ) (v : WorkerView) (
 
     pub tags-right : answer_tags (answers_in node.children) ≡ tags (task_in j).plan (awaited (task_in j).trace.unmerged)
     tags-right =
-        tags-are (plan_of s) s.given (origins_of s.nodes.items) node.children (awaited (task_in j).trace.unmerged) awaits (heard (plan_of s) s.given s.nodes.items t.nodes j.number node found) whole
+        tags-are (plan_of s) s.given (origins_of s.nodes.items) node.children (awaited (task_in j).trace.unmerged) awaits (answer_given (plan_of s) s.given s.nodes.items t.nodes j.number node found) whole
         ∙ ap (λ p. tags p (awaited (task_in j).trace.unmerged)) (sym is-stalled.0.plan_is)
 
     pub ready : machine.IsReady (core_of false s) (task_in j)
     ready =
-        let all : All (Contains s.given) (awaited (task_in j).trace.unmerged) = all-given (plan_of s) s.given (origins_of s.nodes.items) node.children (awaited (task_in j).trace.unmerged) awaits (heard (plan_of s) s.given s.nodes.items t.nodes j.number node found) whole in
+        let all : All (Contains s.given) (awaited (task_in j).trace.unmerged) = all-given (plan_of s) s.given (origins_of s.nodes.items) node.children (awaited (task_in j).trace.unmerged) awaits (answer_given (plan_of s) s.given s.nodes.items t.nodes j.number node found) whole in
         let listed : All (Contains s.given) (machine.awaited (task_in j)) = subst (All (Contains s.given)) (sym (awaited-same (task_in j).trace.unmerged)) all in
         λ k d lt. is-answered false s _ (listed k d lt)
 
     -- it went on by the answers, of which none is a cut
     pub went-is : (next : Job) → WentOn (answers_in node.children) j.task next.task → next.task ≡ view_on j.task
     went-is next h =
-        h.whole (none-cut (plan_of s) s.given (origins_of s.nodes.items) node.children (awaited (task_in j).trace.unmerged) awaits (heard (plan_of s) s.given s.nodes.items t.nodes j.number node found))
+        h.whole (none-cut (plan_of s) s.given (origins_of s.nodes.items) node.children (awaited (task_in j).trace.unmerged) awaits (answer_given (plan_of s) s.given s.nodes.items t.nodes j.number node found))
 
 -- what the state is after the look
 pub record HasResumed (w place : ℕ) (j next_job : Job) (node : SpawnNode) (v : WorkerView) (s next : CoreState) : Type 0 where
   pub workers : next.workers.items ≡ slice_set s.workers.items w (record v { current = Some next_job; stalled = remove v.stalled place })
-  pub nodes : next.nodes.items ≡ slice_set s.nodes.items j.number (settled node)
+  pub nodes : next.nodes.items ≡ slice_set s.nodes.items j.number (without_children node)
   pub plan : next.plan ≡ s.plan
   pub given : next.given ≡ s.given
   pub root : next.root ≡ s.root
@@ -99,37 +99,37 @@ module _ (s next : CoreState) (t : IsConsistent s) (none : s.root ≡ None) (w p
 
     nothing-awaited : awaited (task_in next_job).trace.unmerged ≡ []
     nothing-awaited =
-        ap (λ (x : TaskView). awaited x.task.trace.unmerged) task-is ∙ sym (awaited-same (gone_on (task_in j)).trace.unmerged)
+        ap (λ (x : TaskView). awaited x.task.trace.unmerged) task-is ∙ sym (awaited-same (resumed_task (task_in j)).trace.unmerged)
         ∙ ap (λ ps. map (λ q. q.child) ps) (none-unmerged (task_in j) (is-stalled s t w place v there j at).0.task)
 
-    next-is-job : IsJob (slice_set s.nodes.items j.number (settled node)) next_job
+    next-is-job : IsJob (slice_set s.nodes.items j.number (without_children node)) next_job
     next-is-job = record {
-      node = settled node;
-      there = ap (λ m. slice_get (slice_set s.nodes.items j.number (settled node)) m) number ∙ get-set s.nodes.items j.number node (settled node) found;
+      node = without_children node;
+      there = ap (λ m. slice_get (slice_set s.nodes.items j.number (without_children node)) m) number ∙ get-set s.nodes.items j.number node (without_children node) found;
       origin = ap (λ (n : SpawnNode). n.origin) (some-one node own.node (sym found ∙ own.there)) ∙ own.origin ∙ sym (ap (λ (x : TaskView). x.task.origin) task-is);
-      awaits = subst (Awaits (origins_of (slice_set s.nodes.items j.number (settled node))) []) (sym nothing-awaited) tt;
+      awaits = subst (Awaits (origins_of (slice_set s.nodes.items j.number (without_children node))) []) (sym nothing-awaited) tt;
       uncut = ap (λ (x : TaskView). x.cut) task-is ∙ own.uncut;
     }
 
-    grow : (i : Job) → IsJob s.nodes.items i → (i.number ≡ j.number → ⊥) → IsJob (slice_set s.nodes.items j.number (settled node)) i
-    grow = job-settles (plan_of s) s.given s.nodes.items t.nodes j.number node found (whole s t w place v there j at node found zero_left)
+    grow : (i : Job) → IsJob s.nodes.items i → (i.number ≡ j.number → ⊥) → IsJob (slice_set s.nodes.items j.number (without_children node)) i
+    grow = job-takes (plan_of s) s.given s.nodes.items t.nodes j.number node found (whole s t w place v there j at node found zero_left)
 
-    rest-jobs : AreJobs (slice_set s.nodes.items j.number (settled node)) (record v { stalled = remove v.stalled place })
+    rest-jobs : AreJobs (slice_set s.nodes.items j.number (without_children node)) (record v { stalled = remove v.stalled place })
     rest-jobs =
         let old : AreJobs s.nodes.items v = t.workers w v there in
-        worker-stays s t j own (slice_set s.nodes.items j.number (settled node)) grow (record v { stalled = remove v.stalled place })
+        worker-stays s t j own (slice_set s.nodes.items j.number (without_children node)) grow (record v { stalled = remove v.stalled place })
         (record { current = old.current; deque = old.deque; stalled = everywhere-remove (IsJob s.nodes.items) v.stalled place old.stalled }) none-left
 
-    jobs : AreJobs (slice_set s.nodes.items j.number (settled node)) (record v { current = Some next_job; stalled = remove v.stalled place })
+    jobs : AreJobs (slice_set s.nodes.items j.number (without_children node)) (record v { current = Some next_job; stalled = remove v.stalled place })
     jobs = record { current = next-is-job; deque = rest-jobs.deque; stalled = rest-jobs.stalled }
 
     has-one : 1 ≤ times (task_in j).origin v
     has-one = let e = one-in-stalled in omega (arith, e)
 
-    after-is : worker_of (record v { current = Some next_job; stalled = remove v.stalled place }) ≡ record (worker_of v) { current = Some (gone_on (task_in j)); stalled = remove (map task_in v.stalled) place }
+    after-is : worker_of (record v { current = Some next_job; stalled = remove v.stalled place }) ≡ record (worker_of v) { current = Some (resumed_task (task_in j)); stalled = remove (map task_in v.stalled) place }
     after-is = λ i. record { current = Some (ap (λ (x : TaskView). x.task) task-is i); deque = map task_in v.deque; stalled = map-remove task_in v.stalled place i }
 
-    core-is : core_of false next ≡ record (core_of false s) { workers = slice_set (map worker_of s.workers.items) w (record (worker_of v) { current = Some (gone_on (task_in j)); stalled = remove (map task_in v.stalled) place }) }
+    core-is : core_of false next ≡ record (core_of false s) { workers = slice_set (map worker_of s.workers.items) w (record (worker_of v) { current = Some (resumed_task (task_in j)); stalled = remove (map task_in v.stalled) place }) }
     core-is = λ i. record {
       plan = arc_value (p.plan i);
       workers = workers i;
@@ -139,12 +139,12 @@ module _ (s next : CoreState) (t : IsConsistent s) (none : s.root ≡ None) (w p
       spent = false;
     }
       where
-        workers : map worker_of next.workers.items ≡ slice_set (map worker_of s.workers.items) w (record (worker_of v) { current = Some (gone_on (task_in j)); stalled = remove (map task_in v.stalled) place })
+        workers : map worker_of next.workers.items ≡ slice_set (map worker_of s.workers.items) w (record (worker_of v) { current = Some (resumed_task (task_in j)); stalled = remove (map task_in v.stalled) place })
         workers =
             ap (map worker_of) p.workers ∙ map-set worker_of s.workers.items w (record v { current = Some next_job; stalled = remove v.stalled place }) ∙ ap (λ x. slice_set (map worker_of s.workers.items) w x) after-is
 
         begun : origins_of next.nodes.items ≡ origins_of s.nodes.items
-        begun = ap origins_of p.nodes ∙ origins-settled (plan_of s) s.given s.nodes.items t.nodes j.number node found (whole s t w place v there j at node found zero_left)
+        begun = ap origins_of p.nodes ∙ origins-same (plan_of s) s.given s.nodes.items t.nodes j.number node found (whole s t w place v there j at node found zero_left)
 
     -- A look at a task all of whose children have answered.
     pub resume-goes : StepsTo (Look w place) s next
@@ -155,12 +155,12 @@ module _ (s next : CoreState) (t : IsConsistent s) (none : s.root ≡ None) (w p
           ready = ready s t w place v there j at node found zero_left;
           resumes = record {
             worker = worker_of v;
-            after = record (worker_of v) { current = Some (gone_on (task_in j)); stalled = remove (map task_in v.stalled) place };
+            after = record (worker_of v) { current = Some (resumed_task (task_in j)); stalled = remove (map task_in v.stalled) place };
             there = get-map worker_of s.workers.items w v there;
             does = record { free = free-none s.workers.items w v there free; there = get-map task_in v.stalled place j at; after = refl };
             next_is = core-is;
           };
         }))
-        (carry-workers _ _ _ _ p.nodes p.workers (others-stay s t j own (slice_set s.nodes.items j.number (settled node)) grow w v (record v { current = Some next_job; stalled = remove v.stalled place }) there has-one jobs))
-        (carry-nodes _ _ _ _ _ _ (ap arc_value p.plan) p.given p.nodes (nodes-settle (plan_of s) s.given s.nodes.items t.nodes j.number node found (whole s t w place v there j at node found zero_left)))
+        (carry-workers _ _ _ _ p.nodes p.workers (others-stay s t j own (slice_set s.nodes.items j.number (without_children node)) grow w v (record v { current = Some next_job; stalled = remove v.stalled place }) there has-one jobs))
+        (carry-nodes _ _ _ _ _ _ (ap arc_value p.plan) p.given p.nodes (nodes-take (plan_of s) s.given s.nodes.items t.nodes j.number node found (whole s t w place v there j at node found zero_left)))
         (carry-root _ _ _ _ _ _ (ap arc_value p.plan) p.given p.root t.root)

@@ -10,7 +10,7 @@ use Rattle.strand_machine.specs.declared.stop.Stop.TheVariants as stop
 use Rattle.sched_meaning.specs.declared.event.CoreEvent.TheVariants.{Run}
 use Rattle.sched_meaning.proofs.OneCore.OneStep.{some-one}
 use Rattle.sched_core.specs.Cores.{plan_of}
-use Rattle.sched_core.specs.Moves.{BeginsTask, CanAnswer, CanStop, SwitchesToChild, Lets, PutsAnswer, Stalls, StallsTask, StopsAt, WorkerChanges, AnswerGoes, job}
+use Rattle.sched_core.specs.Moves.{BeginsTask, CanAnswer, CanStop, SwitchesToChild, TakesCurrent, PutsAnswer, Stalls, StallsTask, StopsAt, WorkerChanges, AnswerGoes, job}
 use Rattle.sched_core.specs.Nodes.{awaiting, missing, missing_one, new_node}
 use Rattle.sched_core.specs.Consistent.{StepsTo, IsAwaited, IsChild, IsAnsweredBy, IsJob, IsLinked, IsConsistent}
 use Rattle.sched_core.specs.Workers.{WorkerView}
@@ -40,15 +40,15 @@ missing-at [] k c h = absurd (cc)
 missing-at (d ∷ cs) zero c h = let e : missing_one d.answer ≡ missing_one c.answer = ap (λ (x : NodeChild). missing_one x.answer) (some-one d c h) in omega arith
 missing-at (d ∷ cs) (suc k) c h = let e : missing_one c.answer ≤ missing cs = missing-at cs k c h in omega arith
 
-module _ (s mid : CoreState) (t : IsConsistent s) (w : ℕ) (j : Job) (lets : WorkerChanges w (Lets j) s.workers.items mid.workers.items) (keeps : Keeps s mid) where
+module _ (s mid : CoreState) (t : IsConsistent s) (w : ℕ) (j : Job) (lets : WorkerChanges w (TakesCurrent j) s.workers.items mid.workers.items) (keeps : Keeps s mid) where
   abbrev own : IsJob s.nodes.items j
   own = own-job s t w lets.worker lets.there j lets.does.0
 
   fresh : Contains s.given own.node.origin → ⊥
   fresh g = own-fresh s t w lets.worker lets.there j lets.does.0 (subst (Contains s.given) own.origin g)
 
-  unheard : (l : Link) → IsAwaited s.nodes.items j.number l → CanAnswer s.nodes.items (Some l)
-  unheard l a = record { parent = a.parent; there = a.there; place = slice_get_within a.parent.children l.place a.child a.at; unanswered = some-left }
+  not-answered : (l : Link) → IsAwaited s.nodes.items j.number l → CanAnswer s.nodes.items (Some l)
+  not-answered l a = record { parent = a.parent; there = a.there; place = slice_get_within a.parent.children l.place a.child a.at; unanswered = some-left }
     where
       its : IsChild (plan_of s) s.given s.nodes.items l.parent l.place a.child
       its = (t.nodes l.parent a.parent a.there).children l.place a.child a.at
@@ -64,11 +64,11 @@ module _ (s mid : CoreState) (t : IsConsistent s) (w : ℕ) (j : Job) (lets : Wo
       some-left =
           let u : a.parent.unanswered ≡ missing a.parent.children = (t.nodes l.parent a.parent a.there).unanswered in
           let m : missing_one a.child.answer ≤ missing a.parent.children = missing-at a.parent.children l.place a.child a.at in
-          let o : missing_one a.child.answer ≡ 1 = none a.child.answer (subst (λ (n : SpawnNode). IsAnsweredBy (plan_of s) s.given n.origin a.child.answer) same its.heard) in omega arith
+          let o : missing_one a.child.answer ≡ 1 = none a.child.answer (subst (λ (n : SpawnNode). IsAnsweredBy (plan_of s) s.given n.origin a.child.answer) same its.answer_given) in omega arith
 
-  can-hear : (o : Option Link) → IsLinked s.nodes.items j.number o → CanAnswer s.nodes.items o
-  can-hear None h = tt
-  can-hear (Some l) h = unheard l h
+  can-answer : (o : Option Link) → IsLinked s.nodes.items j.number o → CanAnswer s.nodes.items o
+  can-answer None h = tt
+  can-answer (Some l) h = not-answered l h
 
   pub can-stop : CanStop w j.number mid
   can-stop = record {
@@ -76,7 +76,7 @@ module _ (s mid : CoreState) (t : IsConsistent s) (w : ℕ) (j : Job) (lets : Wo
     node = own.node;
     there = ap (λ ns. slice_get ns j.number) keeps.nodes ∙ own.there;
     within = let u : own.node.unanswered ≡ missing own.node.children = (t.nodes j.number own.node own.there).unanswered in let m : missing own.node.children ≤ length own.node.children = missing-few own.node.children in omega arith;
-    hears = subst (λ ns. CanAnswer ns own.node.link) (sym keeps.nodes) (can-hear own.node.link ((t.nodes j.number own.node own.there).link fresh));
+    parent_awaits = subst (λ ns. CanAnswer ns own.node.link) (sym keeps.nodes) (can-answer own.node.link ((t.nodes j.number own.node own.there).link fresh));
   }
 
   stops-so : (to : Stop All) → Advances j.task to → IsStop j.task to
@@ -96,8 +96,8 @@ module _ (s mid : CoreState) (t : IsConsistent s) (w : ℕ) (j : Job) (lets : Wo
       runs = runs;
     })
       where
-        b : Both w (Lets j) (Stalls (job rest j.number)) s.workers.items after.workers.items
-        b = both w (Lets j) (Stalls (job rest j.number)) s.workers.items mid.workers.items after.workers.items lets p.workers
+        b : Both w (TakesCurrent j) (Stalls (job rest j.number)) s.workers.items after.workers.items
+        b = both w (TakesCurrent j) (Stalls (job rest j.number)) s.workers.items mid.workers.items after.workers.items lets p.workers
 
         after-is : b.after ≡ record b.worker { current = None; stalled = b.worker.stalled ++ job rest j.number ∷ [] }
         after-is = b.second ∙ ap (λ (v : WorkerView). record v { stalled = v.stalled ++ job rest j.number ∷ [] }) b.first.1
@@ -114,8 +114,8 @@ module _ (s mid : CoreState) (t : IsConsistent s) (w : ℕ) (j : Job) (lets : Wo
           runs = runs;
         })
       where
-        b : Both w (Lets j) (SwitchesToChild (job child p.begun) (job rest j.number)) s.workers.items after.workers.items
-        b = both w (Lets j) (SwitchesToChild (job child p.begun) (job rest j.number)) s.workers.items mid.workers.items after.workers.items lets p.workers
+        b : Both w (TakesCurrent j) (SwitchesToChild (job child p.begun) (job rest j.number)) s.workers.items after.workers.items
+        b = both w (TakesCurrent j) (SwitchesToChild (job child p.begun) (job rest j.number)) s.workers.items mid.workers.items after.workers.items lets p.workers
 
         after-is : b.after ≡ record b.worker { current = Some (job child p.begun); deque = b.worker.deque ++ job rest j.number ∷ [] }
         after-is = b.second ∙ ap (λ (v : WorkerView). record v { current = Some (job child p.begun); deque = v.deque ++ job rest j.number ∷ [] }) b.first.1

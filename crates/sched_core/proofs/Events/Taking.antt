@@ -15,7 +15,7 @@ use Rattle.sched_meaning.specs.declared.event.CoreEvent.TheVariants.{Idle, Pop, 
 use Rattle.sched_meaning.proofs.OneCore.OneStep.{some-one}
 use Rattle.sched_core.specs.Cores.{answer_of, core_of, current_in, origins_of, plan_of, task_in, worker_of}
 use Rattle.sched_core.specs.Lawful.{may_happen, may_idle}
-use Rattle.sched_core.specs.Moves.{BacksJob, GivesJob, TakesJob, WorkerChanges}
+use Rattle.sched_core.specs.Moves.{PopsBack, PopsFront, SetsCurrent, WorkerChanges}
 use Rattle.sched_core.specs.Consistent.{AreJobs, AreNodes, AreWorkers, Everywhere, StepsTo, IsAnsweredBy, IsJob, IsConsistent}
 use Rattle.sched_core.specs.Workers.{WorkerView}
 use Rattle.sched_core.specs.declared.job.Job.{Job}
@@ -142,19 +142,19 @@ pub map-end : (js : List Job) (j : Job) → map task_in (js ++ j ∷ []) ≡ map
 map-end [] j = refl
 map-end (i ∷ js) j = ap (λ l. task_in i ∷ l) (map-end js j)
 
-gives : (j : Job) (w next : WorkerView) → GivesJob j w next → WorkerGives (task_in j) (worker_of w) (worker_of next)
+gives : (j : Job) (w next : WorkerView) → PopsFront j w next → WorkerGives (task_in j) (worker_of w) (worker_of next)
 gives j w next p = record {
   front = ap (map task_in) p.0;
   current = ap (λ (v : WorkerView). current_in v.current) p.1;
   stalled = ap (λ (v : WorkerView). map task_in v.stalled) p.1;
 }
 
-takes : (j : Job) (w next : WorkerView) → current_in w.current ≡ None → TakesJob j w next → WorkerTakes (task_in j) (worker_of w) (worker_of next)
+takes : (j : Job) (w next : WorkerView) → current_in w.current ≡ None → SetsCurrent j w next → WorkerTakes (task_in j) (worker_of w) (worker_of next)
 takes j w next free p = record { free = free; after = ap worker_of p }
 
 -- The task at a worker's deque's back becomes current.
 module _ (s next : CoreState) (t : IsConsistent s) (none : s.root ≡ None) (k : Keeps s next) (w : ℕ) (j : Job) (free : is_free (slice_get (map worker_of s.workers.items) w) ≡ true) where
-  module _ (b : Both w (BacksJob j) (TakesJob j) s.workers.items next.workers.items) where
+  module _ (b : Both w (PopsBack j) (SetsCurrent j) s.workers.items next.workers.items) where
     back-is : b.worker.deque ≡ b.mid.deque ++ j ∷ []
     back-is = b.first.0
 
@@ -194,7 +194,7 @@ module _ (s next : CoreState) (t : IsConsistent s) (none : s.root ≡ None) (k :
 
 -- A steal
 
-jobs-give : (nodes : List SpawnNode) (j : Job) (w next : WorkerView) → GivesJob j w next → AreJobs nodes w → IsJob nodes j × AreJobs nodes next
+jobs-give : (nodes : List SpawnNode) (j : Job) (w next : WorkerView) → PopsFront j w next → AreJobs nodes w → IsJob nodes j × AreJobs nodes next
 jobs-give nodes j w next p is = (first, rest)
   where
     all : Everywhere (IsJob nodes) (j ∷ next.deque)
@@ -210,7 +210,7 @@ jobs-give nodes j w next p is = (first, rest)
     rest = subst (AreJobs nodes) (sym p.1) (record { current = is.current; deque = others; stalled = is.stalled })
 
 module _ (s next : CoreState) (t : IsConsistent s) (none : s.root ≡ None) (k : Keeps s next) (thief victim : ℕ) (j : Job) (mid : List WorkerView) where
-  module _ (two : thief ≡ victim → ⊥) (p : WorkerChanges victim (GivesJob j) s.workers.items mid) (q : WorkerChanges thief (TakesJob j) mid next.workers.items) where
+  module _ (two : thief ≡ victim → ⊥) (p : WorkerChanges victim (PopsFront j) s.workers.items mid) (q : WorkerChanges thief (SetsCurrent j) mid next.workers.items) where
     there : slice_get s.workers.items thief ≡ Some q.worker
     there = sym (get-other s.workers.items victim thief p.after two) ∙ ap (λ l. slice_get l thief) (sym p.next_is) ∙ q.there
 
@@ -233,9 +233,9 @@ module _ (s next : CoreState) (t : IsConsistent s) (none : s.root ≡ None) (k :
           two = two;
           task = task_in j;
           without = record (core_of false s) { workers = map worker_of mid };
-          gives = changed victim (GivesJob j) (WorkerGives (task_in j)) (core_of false s) s.workers.items mid refl p (gives j p.worker p.after p.does);
+          gives = changed victim (PopsFront j) (WorkerGives (task_in j)) (core_of false s) s.workers.items mid refl p (gives j p.worker p.after p.does);
           takes = subst (Changes thief (WorkerTakes (task_in j)) (record (core_of false s) { workers = map worker_of mid })) (sym (core-keeps s next k))
-              (changed thief (TakesJob j) (WorkerTakes (task_in j)) (record (core_of false s) { workers = map worker_of mid }) mid next.workers.items refl q
+              (changed thief (SetsCurrent j) (WorkerTakes (task_in j)) (record (core_of false s) { workers = map worker_of mid }) mid next.workers.items refl q
               (takes j q.worker q.after (free-none s.workers.items thief q.worker there free) q.does));
         })
         (subst (AreWorkers s.nodes.items) (sym q.next_is) (everywhere-set (AreJobs s.nodes.items) mid thief q.after taken without))

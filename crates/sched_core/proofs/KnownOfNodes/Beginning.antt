@@ -9,7 +9,7 @@ use Rattle.strand_machine.specs.Tasks.{TaskView, fresh}
 use Rattle.sched_meaning.specs.Core as machine
 use Rattle.sched_meaning.specs.Core.{free_worker, new_core}
 use Rattle.sched_meaning.proofs.OneCore.OneStep.{some-one}
-use Rattle.sched_core.specs.Begun.{IsBegun, hired}
+use Rattle.sched_core.specs.Begun.{IsBegun, first_workers}
 use Rattle.sched_core.specs.Cores.{answer_of, core_of, origins_of, plan_of, worker_of}
 use Rattle.sched_core.specs.Moves.{job}
 use Rattle.sched_core.specs.Nodes.{new_node}
@@ -24,14 +24,14 @@ free-workers zero = refl
 free-workers (suc n) = ap (λ l. free_worker ∷ l) (free-workers n)
 
 module _ (plan : PlanView) where
-  hired-workers : (n : ℕ) → map worker_of (hired (fresh plan (main_origin plan) detached) n) ≡ (new_core plan n).workers
-  hired-workers n = ap (λ l. machine.first_worker plan ∷ l) (free-workers (n - 1))
+  first_workers-begun : (n : ℕ) → map worker_of (first_workers (fresh plan (main_origin plan) detached) n) ≡ (new_core plan n).workers
+  first_workers-begun n = ap (λ l. machine.first_worker plan ∷ l) (free-workers (n - 1))
 
   pub core-begun : (n : ℕ) (s : CoreState) → IsBegun plan n s → core_of false s ≡ new_core plan n
   core-begun n s b = λ i. record { plan = b.plan_is i; workers = workers i; begun = begun i; answers = answers i; runs = b.runs i; spent = false }
     where
       workers : map worker_of s.workers.items ≡ (new_core plan n).workers
-      workers = ap (map worker_of) b.hired ∙ hired-workers n
+      workers = ap (map worker_of) b.workers_are ∙ first_workers-begun n
 
       begun : origins_of s.nodes.items ≡ main_origin plan ∷ []
       begun = ap origins_of b.nodes
@@ -54,7 +54,7 @@ module _ (plan : PlanView) where
     stalled = λ k x h. absurd (cc);
   }
 
-  workers-consistent : (n : ℕ) → AreWorkers (new_node (main_origin plan) None ∷ []) (hired (fresh plan (main_origin plan) detached) n)
+  workers-consistent : (n : ℕ) → AreWorkers (new_node (main_origin plan) None ∷ []) (first_workers (fresh plan (main_origin plan) detached) n)
   workers-consistent n zero x h = subst (AreJobs (new_node (main_origin plan) None ∷ [])) (some-one (worker_with (Some (job (fresh plan (main_origin plan) detached) 0))) x h) first-jobs
   workers-consistent n (suc k) x h = all-free (new_node (main_origin plan) None ∷ []) (n - 1) k x h
 
@@ -70,7 +70,7 @@ module _ (plan : PlanView) where
   consistent-begun n s valid b = record {
     valid = subst (λ (p : PlanView). IsValid p.script) (sym b.plan_is) valid;
     led = record { workers = n; events = []; leads = core-begun n s b ∙ ap (λ (p : PlanView). new_core p n) (sym b.plan_is) };
-    workers = carry-workers s.nodes.items (new_node (main_origin plan) None ∷ []) s.workers.items (hired (fresh plan (main_origin plan) detached) n) b.nodes b.hired (workers-consistent n);
+    workers = carry-workers s.nodes.items (new_node (main_origin plan) None ∷ []) s.workers.items (first_workers (fresh plan (main_origin plan) detached) n) b.nodes b.workers_are (workers-consistent n);
     nodes = carry-nodes (plan_of s) plan s.given [] s.nodes.items (new_node (main_origin plan) None ∷ []) b.plan_is b.given b.nodes nodes-consistent;
     root = carry-root (plan_of s) plan s.given [] s.root None b.plan_is b.given b.root none-given;
   }
@@ -80,13 +80,13 @@ replicate-end zero x = refl
 replicate-end (suc k) x = ap (λ l. x ∷ l) (replicate-end k x)
 
 -- one free worker more
-pub hired-more : (main : TaskView) (n : ℕ) → 1 ≤ n → hired main n ++ worker_with None ∷ [] ≡ hired main (n + 1)
-hired-more main zero h = absurd (omega arith)
-hired-more main (suc k) h =
+pub first_workers-more : (main : TaskView) (n : ℕ) → 1 ≤ n → first_workers main n ++ worker_with None ∷ [] ≡ first_workers main (n + 1)
+first_workers-more main zero h = absurd (omega arith)
+first_workers-more main (suc k) h =
     let e : suc k - 1 ≡ k = omega arith in
     let f : suc k + 1 - 1 ≡ suc k = omega arith in
     ap (λ m. worker_with (Some (job main 0)) ∷ (replicate m (worker_with None) ++ worker_with None ∷ [])) e ∙ ap (λ l. worker_with (Some (job main 0)) ∷ l) (replicate-end k (worker_with None))
     ∙ ap (λ m. worker_with (Some (job main 0)) ∷ replicate m (worker_with None)) (sym f)
 
-pub hired-many : (main : TaskView) (n : ℕ) → 1 ≤ n → length (hired main n) ≡ n
-hired-many main n h = let e : length (replicate (n - 1) (worker_with None)) ≡ n - 1 = length-replicate (n - 1) (worker_with None) in omega arith
+pub first_workers-many : (main : TaskView) (n : ℕ) → 1 ≤ n → length (first_workers main n) ≡ n
+first_workers-many main n h = let e : length (replicate (n - 1) (worker_with None)) ≡ n - 1 = length-replicate (n - 1) (worker_with None) in omega arith

@@ -12,7 +12,7 @@ use Rattle.sched_meaning.specs.Core as machine
 use Rattle.sched_meaning.specs.Steps.{Step}
 use Rattle.sched_meaning.specs.declared.event.CoreEvent.{CoreEvent}
 use Rattle.sched_core.specs.Lawful.{may_happen}
-use Rattle.sched_core.specs.Played.{IsMains}
+use Rattle.sched_core.specs.Stepped.{IsMains}
 use Rattle.sched_core.proofs.Events.Taking.{is-answered, unanswered}
 use Rattle.sched_core.proofs.Choices.Unlawful.{unlawful}
 use Rattle.sched_meaning.proofs.KeptByEvents.Cores as cores
@@ -33,14 +33,14 @@ sound-held false s h e = sound-of s h
 -- Main's answer
 
 module _ (s : CoreState) (t : IsConsistent s) (a : AnswerView) (root : s.root ≡ Some a) where
-  heard : IsAnsweredBy (plan_of s) s.given (main_origin (plan_of s)) (Some a)
-  heard = subst (IsAnsweredBy (plan_of s) s.given (main_origin (plan_of s))) root t.root
+  answer_given : IsAnsweredBy (plan_of s) s.given (main_origin (plan_of s)) (Some a)
+  answer_given = subst (IsAnsweredBy (plan_of s) s.given (main_origin (plan_of s))) root t.root
 
   pub root-answered : machine.IsRootAnswered (core_of false s)
-  root-answered = is-answered false s (main_origin (plan_of s)) heard.there
+  root-answered = is-answered false s (main_origin (plan_of s)) answer_given.there
 
   pub root-is : IsMains (plan_of s) a
-  root-is = record { plan_is = heard.plan_is; origin = heard.origin; fault = heard.known }
+  root-is = record { plan_is = answer_given.plan_is; origin = answer_given.origin; fault = answer_given.known }
 
 -- What isn't allowed has no step
 

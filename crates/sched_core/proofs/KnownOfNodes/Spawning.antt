@@ -83,7 +83,7 @@ module _ (plan : PlanView) (given : List Origin) (nodes : List SpawnNode) (all :
   child-stays : (k place : ℕ) (c : NodeChild) → IsChild plan given nodes k place c → IsChild plan given after k place c
   child-stays k place c is =
       let y : Stays after c.number is.node = stays c.number is.node is.there in
-      record { node = y.node; there = y.there; link = y.link ∙ is.link; heard = subst (λ p. IsAnsweredBy plan given p c.answer) (sym y.origin) is.heard }
+      record { node = y.node; there = y.there; link = y.link ∙ is.link; answer_given = subst (λ p. IsAnsweredBy plan given p c.answer) (sym y.origin) is.answer_given }
 
   awaited-stays : (k : ℕ) (l : Link) → IsAwaited nodes k l → IsAwaited after k l
   awaited-stays k l is = by_number (same-or l.parent n)
@@ -109,7 +109,7 @@ module _ (plan : PlanView) (given : List Origin) (nodes : List SpawnNode) (all :
     more-children place c h = by_place (end-or node.children child place c h)
       where
         new-child : IsChild plan given after n (length node.children) child
-        new-child = record { node = new_node o (Some link); there = at-new; link = refl; heard = fresh }
+        new-child = record { node = new_node o (Some link); there = at-new; link = refl; answer_given = fresh }
 
         by_place : (slice_get node.children place ≡ Some c) ⊎ ((place ≡ length node.children) × (child ≡ c)) → IsChild plan given after n place c
         by_place (inl a) = child-stays n place c ((all n node there).children place c a)

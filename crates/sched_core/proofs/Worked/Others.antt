@@ -5,7 +5,7 @@ use Rattle.serial_meaning.specs.Plan.{PlanView}
 use Rattle.serial_meaning.specs.declared.origin.Origin.{Origin}
 use Rattle.strand_meaning.specs.Task.{Task}
 use Rattle.sched_meaning.specs.Core as machine
-use Rattle.sched_meaning.specs.Core.{answered, current_tasks, gone_on}
+use Rattle.sched_meaning.specs.Core.{answered, current_tasks, resumed_task}
 use Rattle.sched_meaning.specs.Same.{same_origin}
 use Rattle.sched_meaning.proofs.BegunOnce.Begun.{contains-counts, find-some, is-it, is-that, is_it, one_if}
 use Rattle.sched_meaning.proofs.BegunOnce.Changing.{total}

@@ -41,20 +41,20 @@ uncut plan (outcome.Cut f) h = absurd h
 
 module _ (plan : PlanView) (given begun : List Origin) where
   -- each of these children has its answer kept exactly where it was given
-  abbrev pub AreHeard : List NodeChild → Type 0
-  AreHeard cs = (k : ℕ) (c : NodeChild) → slice_get cs k ≡ Some c → (o : Origin) → slice_get begun c.number ≡ Some o → IsAnsweredBy plan given o c.answer
+  abbrev pub AreAnswersGiven : List NodeChild → Type 0
+  AreAnswersGiven cs = (k : ℕ) (c : NodeChild) → slice_get cs k ≡ Some c → (o : Origin) → slice_get begun c.number ≡ Some o → IsAnsweredBy plan given o c.answer
 
-  heard-there : (o : Origin) (a : Option AnswerView) → IsAnsweredBy plan given o a → missing_one a ≡ 0 → Contains given o
-  heard-there o None h m = absurd (cc)
-  heard-there o (Some a) h m = h.there
+  given-there : (o : Origin) (a : Option AnswerView) → IsAnsweredBy plan given o a → missing_one a ≡ 0 → Contains given o
+  given-there o None h m = absurd (cc)
+  given-there o (Some a) h m = h.there
 
   -- where none is missing all were given
-  pub all-given : (cs : List NodeChild) (os : List Origin) → Awaits begun cs os → AreHeard cs → missing cs ≡ 0 → All (Contains given) os
+  pub all-given : (cs : List NodeChild) (os : List Origin) → Awaits begun cs os → AreAnswersGiven cs → missing cs ≡ 0 → All (Contains given) os
   all-given [] [] a h m = all-none (Contains given)
   all-given [] (o ∷ os) a h m = absurd a
   all-given (c ∷ cs) [] a h m = absurd a
   all-given (c ∷ cs) (o ∷ os) a h m =
-      all-more (Contains given) o os (heard-there o c.answer (h 0 c refl o a.0) (omega arith)) (all-given cs os a.1 (λ k. h (suc k)) (omega arith))
+      all-more (Contains given) o os (given-there o c.answer (h 0 c refl o a.0) (omega arith)) (all-given cs os a.1 (λ k. h (suc k)) (omega arith))
 
   some-there : (c : NodeChild) (x : AnswerView) (cs : List NodeChild) (n : ℕ) → c.answer ≡ Some x → missing (c ∷ cs) ≡ n → missing cs ≡ n
   some-there c x cs n e m = let z : missing_one c.answer ≡ 0 = ap missing_one e in let k : missing_one c.answer + missing cs ≡ n = m in omega arith
@@ -66,7 +66,7 @@ module _ (plan : PlanView) (given begun : List Origin) where
   rest-there c cs m = let k : missing_one c.answer + missing cs ≡ 0 = m in omega arith
 
   -- where one is missing one wasn't
-  pub not-all : (cs : List NodeChild) (os : List Origin) (n : ℕ) → Awaits begun cs os → AreHeard cs → missing cs ≡ suc n → All (Contains given) os → ⊥
+  pub not-all : (cs : List NodeChild) (os : List Origin) (n : ℕ) → Awaits begun cs os → AreAnswersGiven cs → missing cs ≡ suc n → All (Contains given) os → ⊥
   not-all [] os n a h m all = absurd (cc)
   not-all (c ∷ cs) [] n a h m all = absurd a
   not-all (c ∷ cs) (o ∷ os) n a h m all = by_answer c.answer refl (h 0 c refl o a.0) (λ rest. not-all cs os n a.1 (λ j. h (suc j)) rest (all-rest (Contains given) o os all))
@@ -76,7 +76,7 @@ module _ (plan : PlanView) (given begun : List Origin) where
       by_answer (Some x) e k later = later (some-there c x cs (suc n) e m)
 
   -- the answers are those of the children, in order, and none is a cut
-  pub tags-are : (cs : List NodeChild) (os : List Origin) → Awaits begun cs os → AreHeard cs → missing cs ≡ 0 → answer_tags (answers_in cs) ≡ tags plan os
+  pub tags-are : (cs : List NodeChild) (os : List Origin) → Awaits begun cs os → AreAnswersGiven cs → missing cs ≡ 0 → answer_tags (answers_in cs) ≡ tags plan os
   tags-are [] [] a h m = refl
   tags-are [] (o ∷ os) a h m = absurd a
   tags-are (c ∷ cs) [] a h m = absurd a
@@ -88,7 +88,7 @@ module _ (plan : PlanView) (given begun : List Origin) where
           ap (λ y. answer_tags (and_answer y (answers_in cs))) e ∙ ap (λ p. tag p x.origin ∷ answer_tags (answers_in cs)) k.plan_is ∙ ap (λ p. tag plan p ∷ answer_tags (answers_in cs)) k.origin
           ∙ ap (λ l. tag plan o ∷ l) later
 
-  pub none-cut : (cs : List NodeChild) (os : List Origin) → Awaits begun cs os → AreHeard cs → any_cut (answers_in cs) ≡ false
+  pub none-cut : (cs : List NodeChild) (os : List Origin) → Awaits begun cs os → AreAnswersGiven cs → any_cut (answers_in cs) ≡ false
   none-cut [] [] a h = refl
   none-cut [] (o ∷ os) a h = absurd a
   none-cut (c ∷ cs) [] a h = absurd a

@@ -27,8 +27,8 @@ returns-in-Wait c =
 pub put_answer-requires-clause-number : goal.put_answer-requires-clause-number
 put_answer-requires-clause-number c = slice_get_within c.args.state.now.nodes.items c.args.number c.requires.node c.requires.there
 
-pub put_answer-requires-clause-hears : goal.put_answer-requires-clause-hears
-put_answer-requires-clause-hears c = λ n h. subst (λ (x : SpawnNode). CanAnswer c.args.state.now.nodes.items x.link) (some-one c.requires.node n (sym c.requires.there ∙ h)) c.requires.hears
+pub put_answer-requires-clause-parent_awaits : goal.put_answer-requires-clause-parent_awaits
+put_answer-requires-clause-parent_awaits c = λ n h. subst (λ (x : SpawnNode). CanAnswer c.args.state.now.nodes.items x.link) (some-one c.requires.node n (sym c.requires.there ∙ h)) c.requires.parent_awaits
 
 pub returns : goal.returns
 returns c = by-kind c.put_answer.result c.args.w c.args.number c.args.stop (stop.Done c.in-Done.answer c.in-Done.give) c.args.state.now c.put_answer.new.state c.in-Done.is c.put_answer.ensures

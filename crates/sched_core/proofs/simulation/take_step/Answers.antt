@@ -1,6 +1,6 @@
 use Rattle.std.proofs.Common.{sym, ◌∙◌}
-use Rattle.sched_core.proofs.Choices.Playing.{by-run, ends, goes-on, lawful, picks-one}
-use Rattle.sched_core.proofs.simulation.play_step.Goals as goal
+use Rattle.sched_core.proofs.Choices.PickedSteps.{by-run, ends, goes-on, lawful, picks-one}
+use Rattle.sched_core.proofs.simulation.take_step.Goals as goal
 
 pub unreachable-requires : goal.unreachable-requires
 unreachable-requires c = picks-one c.args.state c.requires.consistent c.requires.root c.args.word (sym c.in_ok-event.ensures ∙ c.in_default.is)

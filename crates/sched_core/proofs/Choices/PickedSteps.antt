@@ -19,11 +19,11 @@ use Rattle.sched_meaning.proofs.SimulationsEnd.Falling.{work_falls, work_left}
 use Rattle.sched_core.specs.Begun.{IsBegun}
 use Rattle.sched_core.specs.Cores.{core_of, plan_of, worker_of}
 use Rattle.sched_core.specs.Lawful.{may_happen}
-use Rattle.sched_core.specs.Played.{AnswersMain, PlaysOn, IsMains}
+use Rattle.sched_core.specs.Stepped.{AnswersMain, Continues, IsMains}
 use Rattle.sched_core.specs.Consistent.{StepsTo, IsConsistent}
 use Rattle.sched_core.specs.declared.simulation.Simulated.{Simulated}
 use Rattle.sched_core.specs.declared.state.CoreState.{CoreState}
-use Rattle.sched_core.proofs.KnownOfNodes.Beginning.{core-begun, hired-many}
+use Rattle.sched_core.proofs.KnownOfNodes.Beginning.{core-begun, first_workers-many}
 use Rattle.sched_core.proofs.KnownOfNodes.Holding.{root-answered, root-is}
 use Rattle.sched_core.proofs.Worked.Lists.{length-map}
 use Rattle.sched_core.proofs.KnownOfNodes.Staying.{Stays, happens-stays, no-answer}
@@ -107,7 +107,7 @@ module _ (s : CoreState) (t : IsConsistent s) (none : s.root ≡ None) (w : ℕ)
         }
 
       -- it goes on once main's answer, which isn't there, was taken
-      pub goes-on : (left : Option AnswerView) → next.root ≡ None → left ≡ None → PlaysOn w s (record next { root = left })
+      pub goes-on : (left : Option AnswerView) → next.root ≡ None → left ≡ None → Continues w s (record next { root = left })
       goes-on left root none_left = record {
         event = e;
         picks = picks;
@@ -121,7 +121,7 @@ word-is : (seed i x s new : ℕ) → (x, new) ≡ mix_u64 s → s ≡ state_afte
 word-is seed i x s new e h = ap (λ (p : ℕ × ℕ). p.0) e ∙ ap split_mix (sym (ap (λ (p : ℕ × ℕ). p.1) e) ∙ state_after_word seed i x s new e h)
 
 -- So many words of the number led to this state.
-pub record IsPlayed (plan : PlanView) (workers number words : ℕ) (s : CoreState) : Type 0 where
+pub record AfterWords (plan : PlanView) (workers number words : ℕ) (s : CoreState) : Type 0 where
   pub steps : ℕ
   pub state : words ≡ state_after number steps
   pub so_far : Simulates plan workers number steps (core_of false s)
@@ -133,7 +133,7 @@ pub record IsPlayed (plan : PlanView) (workers number words : ℕ) (s : CoreStat
 start : (number : ℕ) → number < 2 ^ 64 → number ≡ state_after number 0
 start number small = omega arith
 
-pub starts : (plan : PlanView) (workers number words : ℕ) (s : CoreState) → IsBegun plan workers s → IsConsistent s → 1 ≤ workers → workers ≤ 64 → number < 2 ^ 64 → words ≡ number → IsPlayed plan workers number words s
+pub starts : (plan : PlanView) (workers number words : ℕ) (s : CoreState) → IsBegun plan workers s → IsConsistent s → 1 ≤ workers → workers ≤ 64 → number < 2 ^ 64 → words ≡ number → AfterWords plan workers number words s
 starts plan workers number words s b t some few small first = record {
   steps = 0;
   state = first ∙ start number small;
@@ -141,15 +141,15 @@ starts plan workers number words s b t some few small first = record {
   consistent = t;
   root = b.root;
   plan_is = b.plan_is;
-  few = let e : length s.workers.items ≡ workers = ap length b.hired ∙ hired-many (fresh plan (main_origin plan) detached) workers some in omega arith;
+  few = let e : length s.workers.items ≡ workers = ap length b.workers_are ∙ first_workers-many (fresh plan (main_origin plan) detached) workers some in omega arith;
 }
 
-module _ (plan : PlanView) (workers number words : ℕ) (s : CoreState) (p : IsPlayed plan workers number words s) (x after : ℕ) (mixed : (x, after) ≡ mix_u64 words) where
+module _ (plan : PlanView) (workers number words : ℕ) (s : CoreState) (p : AfterWords plan workers number words s) (x after : ℕ) (mixed : (x, after) ≡ mix_u64 words) where
   word-named : x ≡ seed_word number (p.steps + 1)
   word-named = word-is number p.steps x words after mixed p.state
 
-  pub plays-on : (next : CoreState) → PlaysOn x s next → IsPlayed plan workers number after next
-  plays-on next g = record {
+  pub after-next-word : (next : CoreState) → Continues x s next → AfterWords plan workers number after next
+  after-next-word next g = record {
     steps = suc p.steps;
     state = let e : p.steps + 1 ≡ suc p.steps = omega arith in state_after_word number p.steps x words after mixed p.state ∙ ap (state_after number) e;
     so_far = (core_of false s, p.so_far, subst (λ (o : Option CoreEvent). MatchOption o (core_of false next ≡ core_of false s) (λ e. Step e (core_of false s) (core_of false next))) (sym named) g.goes.step);
@@ -162,7 +162,7 @@ module _ (plan : PlanView) (workers number words : ℕ) (s : CoreState) (p : IsP
       named : picked (core_of false s) (seed_word number (p.steps + 1)) ≡ Some g.event
       named = ap (picked (core_of false s)) (sym word-named) ∙ g.picks
 
-  pub less-left : (next : CoreState) → PlaysOn x s next → work_left (core_of false next) < work_left (core_of false s)
+  pub less-left : (next : CoreState) → Continues x s next → work_left (core_of false next) < work_left (core_of false s)
   less-left next g = falls s p.consistent p.root x g.event g.picks next g.goes
 
   pub worker-is : (simulated : Simulated) → AnswersMain x s simulated → IsSimWorker plan workers number simulated.worker

@@ -12,12 +12,12 @@ use Rattle.sched_meaning.specs.declared.event.CoreEvent.TheVariants.{Run}
 use Rattle.sched_core.specs.Cores.{core_of, plan_of}
 use Rattle.sched_core.specs.Consistent.{StepsTo}
 use Rattle.sched_core.specs.declared.simulation.Simulated.{Simulated}
-use Rattle.sched_core.specs.declared.simulation.Played.{Played}
-use Rattle.sched_core.specs.declared.simulation.Played.TheVariants.{On, Finished}
+use Rattle.sched_core.specs.declared.simulation.Stepped.{Stepped}
+use Rattle.sched_core.specs.declared.simulation.Stepped.TheVariants.{Unfinished, Finished}
 use Rattle.sched_core.specs.declared.state.CoreState.{CoreState}
 
 -- The word picks an event, which happens, and main isn't answered yet.
-pub record PlaysOn (word : ℕ) (s next : CoreState) : Type 0 where
+pub record Continues (word : ℕ) (s next : CoreState) : Type 0 where
   pub event : CoreEvent
   pub picks : picked (core_of false s) word ≡ Some event
   pub goes : StepsTo event s next
@@ -36,6 +36,6 @@ pub record AnswersMain (word : ℕ) (s : CoreState) (simulated : Simulated) : Ty
   pub answered : machine.IsRootAnswered next
   pub mains : IsMains (plan_of s) simulated.answer
 
-abbrev pub Plays : ℕ → CoreState → Played → Type 0
-Plays word s (On next) = PlaysOn word s next
-Plays word s (Finished simulated) = AnswersMain word s simulated
+abbrev pub TakesStep : ℕ → CoreState → Stepped → Type 0
+TakesStep word s (Unfinished next) = Continues word s next
+TakesStep word s (Finished simulated) = AnswersMain word s simulated
