@@ -2,12 +2,15 @@
 use Rattle.std.proofs.Common.{◌≡◌, Bool, true, false, Option, Some, None, IfSome, refl, sym, ap, ◌∙◌}
 use Rattle.serial_meaning.specs.Plan.{PlanView}
 use Rattle.serial_meaning.specs.declared.keep.All.{All}
+use Rattle.serial_meaning.specs.declared.origin.Origin.{Origin}
 use Rattle.strand_meaning.proofs.NextStops.OneSoundStop.{stops_keep_origins}
 use Rattle.strand_meaning.specs.Task.{Spawn, Wait}
+use Rattle.strand_machine.specs.Links.{task_give}
 use Rattle.strand_machine.specs.Stops.{IsStop, IsResumed, any_cut}
 use Rattle.strand_machine.specs.Tasks.{TaskView}
 use Rattle.strand_machine.specs.declared.stop.Stop.TheVariants as stop
 use Rattle.strand_machine.specs.declared.stop.Resumed.TheVariants as resumed
+use Rattle.crew.specs.Hands.{IsUnended}
 
 abbrev plan_of : TaskView → PlanView
 plan_of t = t.task.plan
@@ -17,6 +20,27 @@ child_plan t child rest at = ap plan_of at.keeps.0
 
 pub rest_plan : {K : Type 0} (t child rest : TaskView) → IsStop {K = K} t (stop.Spawn child rest) → rest.task.plan ≡ t.task.plan
 rest_plan t child rest at = (stops_keep_origins t.task (Spawn child.task.origin rest.task) at.next).0
+
+-- A task keeps its give, and goes on after a child or a wait.
+same-give : (t rest : TaskView) → rest.task.plan ≡ t.task.plan → rest.task.origin ≡ t.task.origin → rest.joins ≡ t.joins →
+    task_give rest.task.plan rest.task.origin rest.joins ≡ task_give t.task.plan t.task.origin t.joins
+same-give t rest plan origin joins =
+    ap (λ (p : PlanView). task_give p rest.task.origin rest.joins) plan
+    ∙ ap (λ (o : Origin). task_give t.task.plan o rest.joins) origin
+    ∙ ap (task_give t.task.plan t.task.origin) joins
+
+pub child_unended : {K : Type 0} (t child rest : TaskView) → t.cut ≡ None → IsStop {K = K} t (stop.Spawn child rest) → IsUnended t rest
+child_unended t child rest goes at =
+    let same = stops_keep_origins t.task (Spawn child.task.origin rest.task) at.next in (goes, same-give t rest same.0 same.1 at.keeps.4)
+
+pub wait_unended : {K : Type 0} (t rest : TaskView) → t.cut ≡ None → IsStop {K = K} t (stop.Wait rest) → IsUnended t rest
+wait_unended t rest goes at = let same = stops_keep_origins t.task (Wait rest.task) at.next in (goes, same-give t rest same.0 same.1 at.keeps.3)
+
+pub child_goes_on : {K : Type 0} (t child rest : TaskView) → IsStop {K = K} t (stop.Spawn child rest) → rest.cut ≡ None
+child_goes_on t child rest at = at.keeps.3
+
+pub wait_goes_on : {K : Type 0} (t rest : TaskView) → IsStop {K = K} t (stop.Wait rest) → rest.cut ≡ None
+wait_goes_on t rest at = at.keeps.2
 
 pub wait_plan : {K : Type 0} (t rest : TaskView) → IsStop {K = K} t (stop.Wait rest) → rest.task.plan ≡ t.task.plan
 wait_plan t rest at = (stops_keep_origins t.task (Wait rest.task) at.next).0

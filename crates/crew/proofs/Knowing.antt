@@ -1,5 +1,5 @@
 -- What a hand knows of faults, once it knows one more.
-use Rattle.std.proofs.Common.{◌≡◌, ◌⊎◌, inl, inr, ℕ, ◌<◌, ◌≤◌, ◌+◌, List, [], ◌∷◌, ◌++◌, length, get_or, set, map, All, Contains, Result, Ok, Err, OnOk, OnErr, refl, sym, ap, ◌∙◌, subst, arith, append_assoc, append-nil, length-append, length-set}
+use Rattle.std.proofs.Common.{◌≡◌, ◌⊎◌, inl, inr, ℕ, ◌<◌, ◌≤◌, ◌+◌, ◌-◌, None, List, [], ◌∷◌, ◌++◌, length, get_or, set, map, All, Contains, Result, Ok, Err, OnOk, OnErr, refl, sym, ap, ◌∙◌, subst, arith, append_assoc, append-nil, length-append, length-set}
 use Rattle.std.proofs.lemmas.Bool.{cases_lt, cases_eq}
 use Rattle.std.proofs.lemmas.Cmp.{nat_list_cmp_total}
 use Rattle.std.proofs.lemmas.List.{get_or_default, get_or_append_left, get_or_push, get_or-map, get_or-set_same, get_or-set_other, length-map, map-set}
@@ -10,10 +10,13 @@ use Rattle.std.specs.declared.cmp.Ordering.{Ordering}
 use Rattle.std.specs.declared.cmp.Ordering.TheVariants.{Less, Equal, Greater}
 use Rattle.ped_path.specs.Path.{IsBefore}
 use Rattle.serial_meaning.proofs.RisingPedigrees.Order.{before-before, not_before_itself}
-use Rattle.serial_meaning.specs.Answer.{KnownView}
+use Rattle.serial_meaning.specs.Answer.{KnownView, start_of}
 use Rattle.serial_meaning.specs.Plan.{PlanView}
 use Rattle.serial_meaning.specs.declared.event.Fault.{Fault}
-use Rattle.crew.specs.Faults.{HasNoneOf, StandsFirst, IsLeastOf, HasOneUpTo, AreLeast, FaultsView, AreKnown, ReadsOn}
+use Rattle.serial_meaning.specs.declared.origin.Origin.{Origin}
+use Rattle.strand_machine.specs.Tasks.{TaskView}
+use Rattle.crew.specs.Cells.{CellsView}
+use Rattle.crew.specs.Faults.{HasNoneOf, StandsFirst, IsLeastOf, HasOneUpTo, AreLeast, FaultsView, AreKnown, NoneCuts, ReadsOn, ReadsOne}
 
 -- What stands before a pedigree stands before all that don't stand before it.
 below : (x a b : List ℕ) → IsBefore x a → (IsBefore b a → ⊥) → IsBefore x b
@@ -42,7 +45,7 @@ least-after_first plan fault known k is first = All-contains (λ (x : KnownView)
 pub first-of_none : (plan : PlanView) (fault : Fault) (known : List KnownView) → HasNoneOf plan known → StandsFirst plan fault known
 first-of_none plan fault known none i d lt same = absurd (none i d lt same)
 
-last-one : (known : List KnownView) (x : KnownView) → Contains (known ++ x ∷ []) x
+pub last-one : (known : List KnownView) (x : KnownView) → Contains (known ++ x ∷ []) x
 last-one known x = Contains-append_right known (x ∷ []) x (0, omega arith, refl)
 
 module _ (known least : List KnownView) (are : AreLeast known least) where
@@ -184,17 +187,60 @@ module _ {X : Type 0} (f : X → KnownView) (xs ys : List X) (i : ℕ) (plan : P
 -- Cells that were read
 
 pub reads_none : (f : FaultsView) → ReadsOn f f
-reads_none f = record { more = []; read_is = sym (append-nil f.read); known_is = sym (append-nil f.known) }
+reads_none f = record { more = []; cells_are = ap (λ (l : List KnownView). record f.cells { read = l }) (sym (append-nil f.cells.read)); known_is = sym (append-nil f.known) }
 
-pub reads_one : (old new : FaultsView) (x : KnownView) → new.read ≡ old.read ++ x ∷ [] → new.known ≡ old.known ++ x ∷ [] → ReadsOn old new
-reads_one old new x read known = record { more = x ∷ []; read_is = read; known_is = known }
+pub reads_one : (old new : FaultsView) (x : KnownView) → new.cells ≡ record old.cells { read = old.cells.read ++ x ∷ [] } → new.known ≡ old.known ++ x ∷ [] → ReadsOn old new
+reads_one old new x read known = record { more = x ∷ []; cells_are = read; known_is = known }
 
 pub reads_more : (first old new : FaultsView) → ReadsOn first old → ReadsOn old new → ReadsOn first new
 reads_more first old new so_far h = record {
   more = so_far.more ++ h.more;
-  read_is = h.read_is ∙ ap (λ (l : List KnownView). l ++ h.more) so_far.read_is ∙ append_assoc first.read so_far.more h.more;
+  cells_are = h.cells_are ∙ ap (λ (c : CellsView KnownView). record c { read = c.read ++ h.more }) so_far.cells_are
+      ∙ ap (λ (l : List KnownView). record first.cells { read = l }) (append_assoc first.cells.read so_far.more h.more);
   known_is = h.known_is ∙ ap (λ (l : List KnownView). l ++ h.more) so_far.known_is ∙ append_assoc first.known so_far.more h.more;
 }
+
+pub same-names : (old new : FaultsView) → ReadsOn old new → new.cells.names ≡ old.cells.names
+same-names old new h = ap (λ (c : CellsView KnownView). c.names) h.cells_are
+
+-- where one more was read, fewer are left
+pub fewer-left : (old new : FaultsView) → ReadsOn old new → ReadsOne old new None →
+    length new.cells.names - length new.cells.read < length old.cells.names - length old.cells.read
+fewer-left old new h one = omega (arith, one.0, one.1, ap length (same-names old new h))
+
+pub one-more : (old new : FaultsView) (x : KnownView) → new.cells ≡ record old.cells { read = old.cells.read ++ x ∷ [] } → length old.cells.read < length old.cells.names → ReadsOne old new None
+one-more old new x read lt =
+    let more : length new.cells.read ≡ length old.cells.read + 1 = ap (λ (c : CellsView KnownView). length c.read) read ∙ length-append old.cells.read (x ∷ []) in
+    let names : length new.cells.names ≡ length old.cells.names = ap (λ (c : CellsView KnownView). length c.names) read in
+    (more, omega (arith, more, names, lt))
+
+-- Where none of the least ones may cut a task, none does that is known.
+pub none-cuts : (known least : List KnownView) (plan : PlanView) (origin : Origin) → AreLeast known least → NoneCuts least plan origin → NoneCuts known plan origin
+none-cuts known least plan origin are none i d lt same before =
+    let e = are.of_each i d lt in
+    let k = get_or known i d in
+    let one : e.0.plan ≡ plan = e.2 ∙ same in
+    let not_before = All-contains (λ (x : KnownView). x.plan ≡ plan → IsBefore x.fault.at (start_of origin) → ⊥) least e.0 none e.1 one in
+    e.3 (below k.fault.at (start_of origin) e.0.fault.at before not_before)
+
+-- what may not cut a task cuts an equal one as little
+pub here-none : (x y : KnownView) (t u : TaskView) → x ≡ y → t ≡ u → (y.plan ≡ t.task.plan → IsBefore y.fault.at (start_of t.task.origin) → ⊥) → x.plan ≡ u.task.plan →
+    IsBefore x.fault.at (start_of u.task.origin) → ⊥
+here-none x y t u xy tu none =
+    subst (λ (v : TaskView). x.plan ≡ v.task.plan → IsBefore x.fault.at (start_of v.task.origin) → ⊥) tu
+    (subst (λ (k : KnownView). k.plan ≡ t.task.plan → IsBefore k.fault.at (start_of t.task.origin) → ⊥) (sym xy) none)
+
+pub next-cuts-none : (known : List KnownView) (plan : PlanView) (origin : Origin) (i : ℕ) →
+    ((k : ℕ) (d : KnownView) → k < i → (get_or known k d).plan ≡ plan → IsBefore (get_or known k d).fault.at (start_of origin) → ⊥) →
+    ((d : KnownView) → (get_or known i d).plan ≡ plan → IsBefore (get_or known i d).fault.at (start_of origin) → ⊥) → (k : ℕ) (d : KnownView) → k < i + 1 →
+    (get_or known k d).plan ≡ plan → IsBefore (get_or known k d).fault.at (start_of origin) → ⊥
+next-cuts-none known plan origin i before here k d lt = by (cases_lt k i)
+  where
+    by : (k < i) ⊎ (i ≤ k) → (get_or known k d).plan ≡ plan → IsBefore (get_or known k d).fault.at (start_of origin) → ⊥
+    by (inl less) = before k d less
+    by (inr more) =
+        let e : i ≡ k = omega arith in
+        subst (λ (n : ℕ). (get_or known n d).plan ≡ plan → IsBefore (get_or known n d).fault.at (start_of origin) → ⊥) e (here d)
 
 -- the faults of cells among all that are known
 

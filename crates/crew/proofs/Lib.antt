@@ -6,6 +6,7 @@ pub mod Knowing
 pub mod Looking
 pub mod Mains
 pub mod Meeting
+pub mod NextCell
 pub mod Rooted
 pub mod Shares
 pub mod Stealing

@@ -1,5 +1,5 @@
 -- Where a task stops at a wait, it stands in it; what it gives at its end is its give's; and a fault by which it ends is one of its plan's.
-use Rattle.std.proofs.Common.{◌≡◌, inl, inr, ℕ, zero, suc, ◌-◌, true, false, List, [], ◌∷◌, ◌++◌, Option, Some, None, Result, Ok, Err, IfOk, OnErr, refl, sym, ap, ◌∙◌, subst}
+use Rattle.std.proofs.Common.{◌≡◌, inl, inr, ℕ, zero, suc, ◌-◌, true, false, List, [], ◌∷◌, ◌++◌, Option, Some, None, Result, Ok, Err, IfOk, IfErr, OnErr, refl, sym, ap, ◌∙◌, subst}
 use Rattle.loop_range.specs.Range.{Range}
 use Rattle.serial_meaning.specs.Answer.{AnswerView, AnswerTag, IsCut}
 use Rattle.serial_meaning.specs.Eval.{path_of}
@@ -25,7 +25,7 @@ use Rattle.strand_machine.specs.declared.stop.Paused.TheVariants as paused
 use Rattle.strand_machine.specs.declared.stop.Stop.TheVariants as stop
 use Rattle.strand_machine.specs.declared.stop.Resumed.TheVariants as resumed
 use Rattle.strand_machine.proofs.NextStops.Pausing.{ends-so}
-use Rattle.crew.specs.Hands.{HandView, EndsBy, EndsTask, HasPut, MayBeCutBy, PutsItsEnd, TurnAnswers, AdvancesCurrent, cut_answer}
+use Rattle.crew.specs.Hands.{HandView, EndsBy, EndsTask, HasPut, IsUnended, MayBeCutBy, PutsItsEnd, TurnAnswers, AdvancesCurrent, cut_answer}
 use Rattle.crew.specs.declared.hand.Turn.{Turn}
 use Rattle.crew.specs.declared.hand.Turn.TheVariants.{Ran, Answered, Ended as EndedRoot, Popped, Resumed, Waiting, Stole, Idle}
 
@@ -165,6 +165,10 @@ put_on_err (Err e) t before after p = p
 pub puts_its_end : {K E : Type 0} (r : Result (Turn K) E) (t : TaskView) (before after : List AnswerView) → OnErr r (HasPut K t before after) → OnErr r (PutsItsEnd K t before after)
 puts_its_end (Ok turn) t before after p = tt
 puts_its_end (Err e) t before after p = inl p
+
+pub unended_of : {A : Type 0} (r : Result A TaskView) (t rest : TaskView) → IfErr r (λ left. left ≡ rest) → IsUnended t rest → IfErr r (λ left. IsUnended t left)
+unended_of (Ok a) t rest same h = tt
+unended_of (Err left) t rest same h = subst (IsUnended t) (sym same) h
 
 pub puts_none : (K : Type 0) (t : TaskView) (before after : List AnswerView) → t.cut ≡ None → after ≡ before → PutsItsEnd K t before after
 puts_none K t before after goes same = inr (goes, same)

@@ -68,7 +68,7 @@ TurnAnswers give _ = ⊥
 abbrev pub EndsBy : (K : Type 0) → TaskView → AnswerView → Type 0
 EndsBy K t answer = (give : GiveView AnswerTag) × AdvancesTo {K = K} t (stop.Done answer give)
 
--- It does, and its answer was put.
+-- The task comes to its end, and its answer was put.
 pub record HasPut (K : Type 0) (t : TaskView) (before after : List AnswerView) : Type 0 where
   pub answer : AnswerView
   pub by : EndsBy K t answer
@@ -81,7 +81,7 @@ MayBeCutBy t by = (t.task.advanced ≡ false) × IsCut t.task.plan t.task.origin
 abbrev pub MayBeCut : TaskView → Type 0
 MayBeCut t = (by : Fault) × MayBeCutBy t by
 
--- what a task answers that is cut
+-- the answer of a task that is cut
 abbrev pub cut_answer : TaskView → Fault → AnswerView
 cut_answer t by = record { plan = t.task.plan; origin = t.task.origin; out = []; outcome = outcome.Cut by }
 
@@ -98,6 +98,10 @@ EndsTask {K} t old turn new =
 abbrev pub AdvancesCurrent : {K : Type 0} → TaskView → HandView → Turn K → HandView → Type 0
 AdvancesCurrent {K} t old Ran new = (stop : Stop K) × AdvancesTo t stop × RunsOnward stop old new
 AdvancesCurrent {K} t old turn new = EndsTask t old turn new
+
+-- This is what is left of the task, which goes on and has the give that it had.
+abbrev pub IsUnended : TaskView → TaskView → Type 0
+IsUnended t left = (t.cut ≡ None) × (task_give left.task.plan left.task.origin left.joins ≡ task_give t.task.plan t.task.origin t.joins)
 
 -- What holds also where there was no memory: a task that had ended or took a cut was answered; any other was, by its own end, or no answer was put.
 abbrev pub PutsItsEnd : (K : Type 0) → TaskView → List AnswerView → List AnswerView → Type 0

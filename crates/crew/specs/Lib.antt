@@ -1,3 +1,4 @@
+pub mod Cells
 pub mod Crews
 pub mod Faults
 pub mod Hands

@@ -6,8 +6,8 @@ use meet_block::{Arrived, Give};
 use std::marker::Model;
 use std::mem;
 
-// The answers that a hand has put, in order. It exists for clauses only, and has no bytes. Only a put adds to it; since
-// it is generic, what is put can't be anything but what is added.
+// The answers that a hand has put, in order. It has no bytes: only clauses read it. Only a put adds to it, and as it is generic, what it adds is
+// what was put.
 #[derive(Drop)]
 pub(crate) struct Answered<A> {
     put: KnownList<A>,
@@ -22,7 +22,7 @@ impl<A> Model for Answered<A> {
 }
 
 impl<A: Tagged + Drop> Answered<A> {
-    // None was put.
+    /// No answer was put.
     pub fn none() -> Answered<A>
         ensures { result ≡ [] }
     {
@@ -31,7 +31,7 @@ impl<A: Tagged + Drop> Answered<A> {
         }
     }
 
-    // Puts the answer.
+    /// Puts the answer.
     #[inline(always)]
     pub fn put(&mut self, answer: A, give: Give<A>) -> Arrived<A>
         requires { A.tag answer ≡ give.tag }

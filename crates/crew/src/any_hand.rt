@@ -11,22 +11,29 @@ pub(crate) enum AnyHand {
     Prints(Hand<Prints>),
 }
 
+// These items, each wrapped so. It is generic, so that its proof doesn't speak of all that a hand has.
+fn wrapped<T: Drop, U: Drop, F: Fn(T) -> U>(
+    alloc: Global,
+    items: Vec<T>,
+    wrap: &F,
+) -> Result<Vec<U>, Memory>
+    requires { F.IsAlwaysCallable wrap.now }
+{
+    let mut all = Vec::with_capacity(alloc, items.len())?;
+    for item in items {
+        all.push(wrap(item))?;
+    }
+    Ok(all)
+}
+
 impl AnyHand {
     /// These hands, in order.
     pub fn of_all(alloc: Global, hands: Hands) -> Result<Vec<AnyHand>, Memory> {
-        let mut any = Vec::with_capacity(alloc, hands.0.0.len())?;
-        for hand in hands.0.0 {
-            any.push(AnyHand::All(hand))?;
-        }
-        Ok(any)
+        wrapped(alloc, hands.0.0, &|hand| AnyHand::All(hand))
     }
 
     /// The same for those of prints.
     pub fn of_prints(alloc: Global, hands: Hands<Prints>) -> Result<Vec<AnyHand>, Memory> {
-        let mut any = Vec::with_capacity(alloc, hands.0.0.len())?;
-        for hand in hands.0.0 {
-            any.push(AnyHand::Prints(hand))?;
-        }
-        Ok(any)
+        wrapped(alloc, hands.0.0, &|hand| AnyHand::Prints(hand))
     }
 }

@@ -1,10 +1,11 @@
 // A list of cells that threads share.
-ghost use Rattle.std.specs.Prelude.{◌≡◌, List, [], ◌∷◌, ◌++◌, IfOk, IfSome};
+ghost use Rattle.std.specs.Prelude.{◌≡◌, ◌≤◌, ◌↔◌, List, [], ◌∷◌, ◌++◌, Some, IfOk, IfErr, IsTrue, length, option_map};
 ghost use Rattle.std.specs.Arc.{arc_value};
+ghost use Rattle.crew.specs.Cells.{IsFound, IsNext};
 
 use crate::memory::Memory;
 use contract_views::KnownList;
-use once_cell::race::OnceBox;
+use once_cell::race::{Note, OnceBox};
 use std::alloc::Global;
 use std::marker::Model;
 use std::mem;
@@ -16,45 +17,61 @@ pub(crate) trait Follows {
     ghost follows: { Self → List Self → Type 0 };
 }
 
-// What a thread has read of a list of cells, which are set in order, each at most once.
+// A list of cells, which are set in order, each at most once, by the end of a thread, which has read the first ones.
 //
-// A clause sees the values that it has read, in order. It is generic, so that they are values of the cells.
+// A clause sees the names of all cells, and the values that the thread has read, in order.
 #[derive(Drop)]
 pub(crate) struct Cells<T> {
     cells: Arc<Vec<OnceBox<Arc<T>>>>,
     // How many of them were read.
-    read: usize,
-    seen: KnownList<T>,
+    count: usize,
+    read: KnownList<T>,
 }
 
-// Which value a read gave. It is for clauses alone: only a read makes one.
+// The look at the next cell that found no value in it, or no such cell. Only `next` makes one. A clause sees how many cells were read before.
 #[derive(Drop)]
-pub(crate) struct Seen<T> {
-    one: KnownList<T>,
+pub(crate) struct Unset {
+    read: usize,
+}
+
+// What a look at the next cell found.
+#[derive(Drop)]
+pub(crate) enum Found<T> {
+    // Its value, and what the cell itself says of that.
+    Value(Arc<T>, Note<Arc<T>>),
+    None(Unset),
 }
 
 impl<T> Model for Cells<T> {
-    ghost use Rattle.std.specs.Prelude.{List};
+    ghost use Rattle.std.specs.Prelude.{◌≡◌, ◌≤◌, length, map};
+    ghost use Rattle.std.specs.Arc.{arc_value};
+    ghost use Rattle.once_cell.specs.Once.{cell_name};
+    ghost use Rattle.crew.specs.Cells.{CellsView};
 
-    ghost Value = { List T };
+    ghost Value = { CellsView T };
 
-    ghost view = { λ c. c.seen.items };
+    ghost view = { λ c. record { names = map cell_name (arc_value c.cells).items; read = c.read.items } };
+
+    ghost invariant = { λ c. (length c.read.items ≡ c.count) × (c.count ≤ length (arc_value c.cells).items) };
 }
 
-impl<T> Model for Seen<T> {
-    ghost use Rattle.std.specs.Prelude.{List};
+impl Model for Unset {
+    ghost use Rattle.std.specs.Prelude.{ℕ};
 
-    ghost Value = { List T };
+    ghost Value = { ℕ };
 
-    ghost view = { λ s. s.one.items };
+    ghost view = { λ u. u.read };
 }
 
 impl<T> Cells<T> {
-    // A list of this many cells, none of them set.
+    ghost use Rattle.std.specs.Prelude.{map};
+    ghost use Rattle.once_cell.specs.Once.{cell_name};
+
+    /// A list of this many cells, none of them set.
     pub fn new(alloc: Global, count: usize) -> Result<Cells<T>, Memory>
     where
         T: Drop,
-        ensures { IfOk result (λ cells. cells ≡ []) }
+        ensures { IfOk result (λ cells. cells.read ≡ []) }
     {
         let mut cells = Vec::with_capacity(alloc, count)?;
         for _ in 0..count {
@@ -64,68 +81,76 @@ impl<T> Cells<T> {
     }
 
     fn of(cells: Arc<Vec<OnceBox<Arc<T>>>>) -> Cells<T>
-        ensures { result ≡ [] }
+        ensures { result ≡ record { names = map cell_name (arc_value cells).items; read = [] } }
     {
         Cells {
             cells,
-            read: 0,
-            seen: KnownList::none(),
+            count: 0,
+            read: KnownList::none(),
         }
     }
 
-    // The same cells for another thread, which has read none.
+    /// The same cells for another thread, which has read none.
     pub fn share(&self) -> Result<Cells<T>, Memory>
     where
         T: Drop,
-        ensures { IfOk result (λ cells. cells ≡ []) }
+        ensures { IfOk result (λ cells. cells ≡ record self.now { read = [] }) }
     {
         Ok(Cells::of(Arc::try_clone(&self.cells)?))
     }
 
-    // The next cell's value, if it was set.
+    /// Reads the next cell. It stays the next one until it is passed.
     #[inline(always)]
-    fn at(&self) -> Option<&Arc<T>> {
-        self.cells.get(self.read)?.get()
-    }
-
-    // Reads the next cell, if it was set. It stays the next one until it is passed.
-    #[inline(always)]
-    pub fn next(&self) -> Result<Option<(Arc<T>, Seen<T>)>, Memory>
-        ensures { IfOk result (λ next. IfSome next (λ read. read.1 ≡ arc_value read.0 ∷ [])) }
+    pub fn next(&self) -> Result<Found<T>, Memory>
+        ensures { IfOk result (IsFound self.now) }
     {
-        let Some(value) = self.at() else {
-            return Ok(None);
+        let Some(cell) = self.cells.get(self.count) else {
+            return Ok(Found::None(Unset { read: self.count }));
+        };
+        let mut note = cell.note();
+        let Some(value) = cell.get_as(&mut note) else {
+            return Ok(Found::None(Unset { read: self.count }));
         };
         let value = Arc::try_clone(value)?;
-        let none: KnownList<T> = KnownList::none();
-        let one = none.with(&value);
-        Ok(Some((value, Seen { one })))
+        Ok(Found::Value(value, note))
     }
 
-    // The cell that gave this was read.
-    pub fn pass(&mut self, seen: Seen<T>)
-        ensures { self.new ≡ self.old ++ seen }
+    /// The next cell was read, and had this value.
+    pub fn pass(&mut self, value: &Arc<T>, note: Note<Arc<T>>)
+        requires next { IsNext self.old note.cell }
+        requires value { option_map arc_value note.known ≡ Some (arc_value value.now) }
+        ensures { self.new ≡ record self.old { read = self.old.read ++ arc_value value.now ∷ [] } }
     {
-        let Seen { one } = seen;
-        self.seen = mem::replace(&mut self.seen, KnownList::none()).followed_by(one);
-        self.read = self.read.saturating_add(1);
+        drop(note);
+        if self.count < self.cells.len() {
+            self.count += 1;
+        }
+        self.read = mem::replace(&mut self.read, KnownList::none()).with(value);
     }
 
-    // Whether there is no next cell.
-    pub fn is_spent(&self) -> bool {
-        self.read >= self.cells.len()
+    /// Whether there is no next cell.
+    pub fn is_spent(&self) -> bool
+        ensures { IsTrue result ↔ (length self.now.names ≤ length self.now.read) }
+    {
+        self.count >= self.cells.len()
     }
 
-    // Sets the next cell. The value comes back where another thread set it before.
-    pub fn set(&self, value: Box<Arc<T>>) -> Option<Box<Arc<T>>>
+    /// Sets the next cell. The value comes back where another thread set it before, or there is none.
+    pub fn set(&self, value: Box<Arc<T>>) -> Result<Note<Arc<T>>, Box<Arc<T>>>
     where
         T: Follows + Drop,
-        requires { T.follows (arc_value value.value) self.now }
-        ensures { IfSome result (λ back. back.value ≡ value.value) }
+        requires { T.follows (arc_value value.value) self.now.read }
+        ensures next { IfOk result (λ note. IsNext self.now note.cell) }
+        ensures value { IfOk result (λ note. note.known ≡ Some value.value) }
+        ensures err { IfErr result (λ back. back.value ≡ value.value) }
     {
-        match self.cells.get(self.read) {
-            Some(cell) => cell.set(value).err(),
-            None => Some(value),
+        let Some(cell) = self.cells.get(self.count) else {
+            return Err(value);
+        };
+        let mut note = cell.note();
+        match cell.set_as(value, &mut note) {
+            Ok(()) => Ok(note),
+            Err(back) => Err(back),
         }
     }
 }

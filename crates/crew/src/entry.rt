@@ -9,8 +9,7 @@ use std::marker::Model;
 use std::sync::Arc;
 use strand_machine::Task;
 
-// A task, and a fault that is known of its plan, if a hand found that out. By it the task and its children are cut without a comparison of
-// plans.
+// A task, and a fault that a hand found to be one of its plan, if any. By it the task and its children are cut without a comparison of plans.
 #[derive(Drop)]
 pub(crate) struct Entry<K: Keep> {
     pub task: Task<K>,
@@ -43,7 +42,7 @@ fn concerns<K: Keep>(fault: &Fault, task: &Task<K>) -> bool {
     fault.at.begins_with(path) || task.may_cut(fault)
 }
 
-// The task, of whose plan this fault is known.
+// The task, with a fault that is known to be one of its plan.
 #[inline(always)]
 pub(crate) fn with_known<K: Keep>(task: Task<K>, known: Option<Arc<Known>>) -> Entry<K>
     requires { IfSome known (λ k. (arc_value k).plan ≡ task.task.plan) }
@@ -52,7 +51,7 @@ pub(crate) fn with_known<K: Keep>(task: Task<K>, known: Option<Arc<Known>>) -> E
     Entry { task, known }
 }
 
-// A child of a task of whose plan this fault is known.
+// A child of a task that has such a fault.
 #[inline(always)]
 pub(crate) fn child_entry<K: Keep>(child: Task<K>, known: &Option<Arc<Known>>) -> Entry<K>
     requires { IfSome known.now (λ k. (arc_value k).plan ≡ child.task.plan) }
@@ -80,7 +79,7 @@ fn child_with<K: Keep>(child: Task<K>, known: &Arc<Known>) -> Entry<K>
 }
 
 impl<K: Keep> Entry<K> {
-    // The task, of whose plan no fault is known.
+    /// The task, without such a fault.
     #[inline(always)]
     pub fn new(task: Task<K>) -> Entry<K>
         ensures { result ≡ task }
@@ -88,8 +87,8 @@ impl<K: Keep> Entry<K> {
         Entry { task, known: None }
     }
 
-    // Whether the task or its children may be cut by this fault, if it is of their plan, and by none before it that the entry has.
-    fn lacks(&self, known: &Known) -> bool {
+    // Whether the entry wants this fault, if it is one of the task's plan: it may cut the task or its children, and precedes the one that the entry has.
+    fn wants(&self, known: &Known) -> bool {
         if !concerns(&known.fault, &self.task) {
             return false;
         }
@@ -99,11 +98,11 @@ impl<K: Keep> Entry<K> {
         }
     }
 
-    // The same task, of whose plan this fault is known now, where it is one of it.
+    /// The same task, with this fault where it is one of its plan and of use.
     pub fn told(self, known: &Arc<Known>) -> Entry<K>
         ensures { result ≡ self }
     {
-        if !self.lacks(known) || !is_of(known, self.task.plan()) {
+        if !self.wants(known) || !is_of(known, self.task.plan()) {
             return self;
         }
         let Entry { task, known: _ } = self;
@@ -113,7 +112,7 @@ impl<K: Keep> Entry<K> {
         }
     }
 
-    // The fault of the entry by which the task may be cut, if there is one.
+    /// The fault of the entry by which the task may be cut, if there is one.
     pub fn cutting(&self) -> Option<Fault>
         ensures { IfSome result (λ by. IsCut self.now.task.plan self.now.task.origin by) }
     {

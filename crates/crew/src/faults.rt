@@ -1,13 +1,15 @@
 // The faults that the hands of a crew met, by which they cut tasks.
-ghost use Rattle.std.specs.Prelude.{◌≡◌, [], Contains, IfOk, IfSome};
+ghost use Rattle.std.specs.Prelude.{◌≡◌, [], Some, Contains, IfOk, IfErr, IfSome, IfNone, length};
 ghost use Rattle.std.specs.Arc.{arc_value};
-ghost use Rattle.serial_meaning.specs.Answer.{IsCut};
+ghost use Rattle.ped_path.specs.Path.{IsBefore};
+ghost use Rattle.serial_meaning.specs.Answer.{IsCut, start_of};
 ghost use Rattle.serial_meaning.specs.Open.{faults};
 
-use crate::cells::{Cells, Follows};
+use crate::cells::{Cells, Follows, Found, Unset};
 use crate::entry::Entry;
 use crate::known_faults::{KnownFaults, is_of};
 use crate::memory::Memory;
+use once_cell::race::Note;
 use serial_meaning::{Fault, Keep, Known, Plan};
 use std::alloc::Global;
 use std::marker::Model;
@@ -45,50 +47,73 @@ impl Model for Faults {
 
     ghost coded = { Prim.hlevel (codes, plan_type.the_row.coded) };
 
-    ghost view = { λ f. record { read = f.cells; known = f.known } };
+    ghost view = { λ f. record { cells = f.cells; known = f.known } };
 
-    ghost invariant = { λ f. AreKnown f.known f.cells };
+    ghost invariant = { λ f. AreKnown f.known f.cells.read };
 }
 
-// The fault for a cell. None where there is no memory.
-fn known_fault(alloc: Global, plan: &Arc<Plan>, fault: &Fault) -> Option<Box<Arc<Known>>>
+// What became of a fault that a hand met.
+#[derive(Drop)]
+pub(crate) enum Told {
+    // The hand knows one of the plan before which it doesn't stand.
+    Late,
+    // The next cell has it, as the cell itself says.
+    Set(Note<Arc<Known>>),
+    // No cell was left, so this hand alone knows it.
+    Alone,
+}
+
+// Whether a task is cut.
+#[derive(Drop)]
+pub(crate) enum Check {
+    // By this fault.
+    Cuts(Fault),
+    // No fault may cut it that the hand knows once it has read all cells up to this one.
+    Passes(Unset),
+}
+
+// The fault for a cell.
+fn known_fault(alloc: Global, plan: &Arc<Plan>, fault: &Fault) -> Result<Box<Arc<Known>>, Memory>
     requires { Contains (faults (arc_value plan.now)) fault.now }
-    ensures { IfSome result (λ known. arc_value known.value ≡ record { plan = arc_value plan.now; fault = fault.now }) }
+    ensures { IfOk result (λ known. arc_value known.value ≡ record { plan = arc_value plan.now; fault = fault.now }) }
 {
-    let plan = Arc::try_clone(plan).ok()?;
-    let fault = fault.share().ok()?;
-    let known = Arc::new(alloc, Known::new(plan, fault)).ok()?;
-    Box::new(alloc, known).ok()
+    let plan = Arc::try_clone(plan)?;
+    let fault = fault.share()?;
+    let known = Arc::new(alloc, Known::new(plan, fault))?;
+    Ok(Box::new(alloc, known)?)
 }
 
 // The fault, where the task may be cut by it.
-fn cutting<K: Keep>(known: &Known, task: &Task<K>) -> Option<Fault>
-    ensures { IfSome result (λ by. IsCut task.now.task.plan task.now.task.origin by) }
+fn cutting<K: Keep>(known: &Known, task: &Task<K>) -> Result<Option<Fault>, Memory>
+    ensures some { IfOk result (λ by. IfSome by (IsCut task.now.task.plan task.now.task.origin)) }
+    ensures none { IfOk result (λ by. IfNone by (known.now.plan ≡ task.now.task.plan → IsBefore known.now.fault.at (start_of task.now.task.origin) → ⊥)) }
 {
     if !task.may_cut(&known.fault) {
-        return None;
+        return Ok(None);
     }
     if !is_of(known, task.plan()) {
-        return None;
+        return Ok(None);
     }
-    let by = known.fault.share().ok()?;
-    Some(by)
+    let by = known.fault.share()?;
+    Ok(Some(by))
 }
 
 impl Faults {
-    ghost use Rattle.crew.specs.Faults.{ReadsOn, StandsFirst};
+    ghost use Rattle.std.specs.Prelude.{OnErr};
+    ghost use Rattle.crew.specs.Cells.{IsNext};
+    ghost use Rattle.crew.specs.Faults.{Checks, NoneCuts, ReadsOn, ReadsOne, StandsFirst, Tells};
 
-    // None was met.
+    /// No fault was met.
     pub fn new(alloc: Global) -> Result<Faults, Memory>
-        ensures { IfOk result (λ faults. faults ≡ record { read = []; known = [] }) }
+        ensures { IfOk result (λ faults. (faults.cells.read ≡ []) × (faults.known ≡ [])) }
     {
         Ok(Faults::of(alloc, Cells::new(alloc, CELLS)?))
     }
 
     #[tactic(auto, using(crate::proofs::Knowing::none_known))]
     fn of(alloc: Global, cells: Cells<Known>) -> Faults
-        requires { cells ≡ [] }
-        ensures { result ≡ record { read = []; known = [] } }
+        requires { cells.read ≡ [] }
+        ensures { result ≡ record { cells = cells; known = [] } }
     {
         Faults {
             cells,
@@ -97,89 +122,103 @@ impl Faults {
         }
     }
 
-    // The same for another hand of the crew.
+    /// The same cells for another hand of the crew, which has read none.
     pub fn share(&self, alloc: Global) -> Result<Faults, Memory>
-        ensures { IfOk result (λ faults. faults ≡ record { read = []; known = [] }) }
+        ensures { IfOk result (λ faults. faults ≡ record { cells = record self.now.cells { read = [] }; known = [] }) }
     {
         Ok(Faults::of(alloc, self.cells.share()?))
     }
 
-    // Whether the last cancellation check cancelled.
+    /// Whether the last cancellation check cancelled.
     pub fn cuts(&self) -> bool {
         self.cuts
     }
 
-    // Reads the next cell, and says whether it was set. A cell for whose fault there is no memory stays unread.
-    #[tactic(auto, using(crate::proofs::Knowing::reads_none, crate::proofs::Knowing::reads_one, crate::proofs::Knowing::one_known, crate::proofs::Knowing::still_known))]
+    // Reads the next cell. Where it has no value, it gives the look that found none. A cell for whose fault there is no memory stays unread.
+    #[tactic(auto, using(crate::proofs::Knowing::reads_none, crate::proofs::Knowing::reads_one))]
     #[inline(always)]
-    fn read_next(&mut self) -> Result<bool, Memory>
-        ensures { ReadsOn self.old self.new }
+    fn read_next(&mut self) -> Result<Option<Unset>, Memory>
+        ensures reads { ReadsOn self.old self.new }
+        ensures one { IfOk result (ReadsOne self.old self.new) }
     {
-        let Some((known, seen)) = self.cells.next()? else {
-            return Ok(false);
-        };
-        self.known.note(known)?;
-        self.cells.pass(seen);
-        Ok(true)
-    }
-
-    // Reads on, up to the first cell that isn't set.
-    #[tactic(auto, using(crate::proofs::Knowing::reads_none, crate::proofs::Knowing::reads_more))]
-    #[inline(always)]
-    fn read_on(&mut self) -> Result<(), Memory>
-        ensures { ReadsOn self.old self.new }
-    {
-        for _ in 0..CELLS {
-            if !self.read_next()? {
-                break;
+        match self.cells.next()? {
+            Found::None(unset) => Ok(Some(unset)),
+            Found::Value(known, note) => {
+                self.known.note(Arc::try_clone(&known)?)?;
+                self.cells.pass(&known, note);
+                Ok(None)
             }
         }
-        Ok(())
+    }
+
+    // Reads on, up to the first cell that has no value.
+    #[tactic(auto, using(crate::proofs::Knowing::reads_none, crate::proofs::Knowing::reads_more))]
+    #[inline(always)]
+    fn read_on(&mut self) -> Result<Unset, Memory>
+        ensures reads { ReadsOn self.old self.new }
+        ensures unset { IfOk result (λ unset. unset ≡ length self.new.cells.read) }
+    {
+        loop {
+            if let Some(unset) = self.read_next()? {
+                return Ok(unset);
+            }
+        }
     }
 
     // Sets the next cell by this fault, which stands before all of its plan that the hand knows. It comes back where another hand set the
     // cell.
     #[tactic(auto, using(crate::proofs::Knowing::stands_first))]
-    fn set(&self, known: Box<Arc<Known>>) -> Option<Box<Arc<Known>>>
+    fn set(&self, known: Box<Arc<Known>>) -> Result<Note<Arc<Known>>, Box<Arc<Known>>>
         requires { StandsFirst (arc_value known.value).plan (arc_value known.value).fault self.now.known }
-        ensures { IfSome result (λ back. back.value ≡ known.value) }
+        ensures next { IfOk result (λ note. IsNext self.now.cells note.cell) }
+        ensures value { IfOk result (λ note. note.known ≡ Some known.value) }
+        ensures err { IfErr result (λ back. back.value ≡ known.value) }
     {
         self.cells.set(known)
     }
 
     // Sets the next cell by this fault where it stands before all that are known of its plan.
-    #[tactic(auto, using(crate::proofs::Knowing::still_known))]
-    fn offer(&mut self, known: Box<Arc<Known>>) {
+    fn offer(&mut self, known: Box<Arc<Known>>) -> Result<Told, Memory>
+        ensures { IfOk result (Tells (arc_value known.value) self.new) }
+    {
         let mut known = known;
-        for _ in 0..CELLS {
-            if self.read_on().is_err() || !self.known.is_news(&known.plan, &known.fault) {
-                return;
+        // Each time that another hand has set the cell, one more is read.
+        for _ in 0..=CELLS {
+            self.read_on()?;
+            if !self.known.is_news(&known.plan, &known.fault) {
+                return Ok(Told::Late);
             }
             if self.cells.is_spent() {
-                break;
+                self.known.note(Box::into_inner(known))?;
+                return Ok(Told::Alone);
             }
-            let Some(back) = self.set(known) else {
-                return;
-            };
-            known = back;
+            match self.set(known) {
+                Ok(note) => return Ok(Told::Set(note)),
+                Err(back) => known = back,
+            }
         }
-        // No cell was left for it, so this hand alone cuts by it, if there is memory for that.
-        let _noted = self.known.note(Box::into_inner(known));
+        Err(Memory)
     }
 
-    // Publishes a fault that was met, where it precedes every known one of its plan.
-    pub fn publish(&mut self, alloc: Global, plan: &Arc<Plan>, fault: &Fault)
+    /// Tells the hands of a fault that was met, where it stands before all that this one knows of its plan.
+    pub fn publish(
+        &mut self,
+        alloc: Global,
+        plan: &Arc<Plan>,
+        fault: &Fault,
+    ) -> Result<Told, Memory>
         requires { Contains (faults (arc_value plan.now)) fault.now }
+        ensures { IfOk result (Tells (record { plan = arc_value plan.now; fault = fault.now }) self.new) }
     {
-        if self.read_on().is_err() || !self.known.is_news(plan, fault) {
-            return;
+        self.read_on()?;
+        if !self.known.is_news(plan, fault) {
+            return Ok(Told::Late);
         }
-        if let Some(known) = known_fault(alloc, plan, fault) {
-            self.offer(known);
-        }
+        let known = known_fault(alloc, plan, fault)?;
+        self.offer(known)
     }
 
-    // The entry, with the least fault that the hand knows of its plan, where that may cut the task's children.
+    /// The entry, with the least fault that the hand knows of its plan, where that may cut the task's children.
     #[inline(always)]
     pub fn tell<K: Keep>(&self, entry: Entry<K>) -> Entry<K>
         ensures { result ≡ entry }
@@ -203,33 +242,34 @@ impl Faults {
 
     // The fault that the hand or the entry knows by which the task may be cut, if there is one.
     #[inline(never)]
-    fn cutting<K: Keep>(&self, entry: &Entry<K>) -> Option<Fault>
-        ensures { IfSome result (λ by. IsCut entry.now.task.plan entry.now.task.origin by) }
+    fn cutting<K: Keep>(&self, entry: &Entry<K>) -> Result<Option<Fault>, Memory>
+        ensures some { IfOk result (λ by. IfSome by (IsCut entry.now.task.plan entry.now.task.origin)) }
+        ensures none { IfOk result (λ by. IfNone by (NoneCuts self.now.known entry.now.task.plan entry.now.task.origin)) }
     {
         if let Some(by) = entry.cutting() {
-            return Some(by);
+            return Ok(Some(by));
         }
         for known in self.known.least() {
-            if let Some(by) = cutting(known, &entry.task) {
-                return Some(by);
+            if let Some(by) = cutting(known, &entry.task)? {
+                return Ok(Some(by));
             }
         }
-        None
+        Ok(None)
     }
 
-    // The fault by which the task is cut, if the hand knows one that may cut it.
+    /// Whether the task is cut: by a fault that the hand knows once it has read on, also where there was no memory to read all.
     #[inline(always)]
-    pub fn cut<K: Keep>(&mut self, entry: &Entry<K>) -> Option<Fault>
-        ensures { IfSome result (λ by. IsCut entry.now.task.plan entry.now.task.origin by) }
+    pub fn cut<K: Keep>(&mut self, entry: &Entry<K>) -> Result<Check, Memory>
+        ensures { IfOk result (Checks entry.now self.new) }
     {
-        // It cuts by what it knows, also where there was no memory for more.
-        let _read = self.read_on();
-        if self.known.least().is_empty() {
-            self.cuts = false;
-            return None;
+        let read = self.read_on();
+        self.cuts = false;
+        if !self.known.least().is_empty() {
+            if let Some(by) = self.cutting(entry)? {
+                self.cuts = true;
+                return Ok(Check::Cuts(by));
+            }
         }
-        let by = self.cutting(entry);
-        self.cuts = by.is_some();
-        by
+        Ok(Check::Passes(read?))
     }
 }

@@ -78,7 +78,7 @@ fn add(all: &mut KnownList<Known>, known: &Known)
 impl KnownFaults {
     ghost use Rattle.crew.specs.Faults.{AreLeast};
 
-    // None is known.
+    /// No fault is known.
     pub fn none(alloc: Global) -> KnownFaults
         ensures { result ≡ [] }
     {
@@ -88,14 +88,14 @@ impl KnownFaults {
         }
     }
 
-    // The least one of each plan of which one is known.
+    /// The least one of each plan of which one is known.
     pub fn least(&self) -> &[Arc<Known>]
         ensures { AreLeast self.now (map arc_value result.now) }
     {
         self.least.as_slice()
     }
 
-    // The least one of this plan, if one is known.
+    /// The least one of this plan, if one is known.
     pub fn least_of(&self, plan: &Plan) -> Option<&Known>
         ensures some { IfSome result (λ known. IsLeastOf plan.now self.now known.now) }
         ensures none { IfNone result (HasNoneOf plan.now self.now) }
@@ -107,7 +107,7 @@ impl KnownFaults {
         }
     }
 
-    // Whether the fault, which is one of this plan, precedes all known ones of the plan.
+    /// Whether the fault, which is one of this plan, precedes all known ones of the plan.
     pub fn is_news(&self, plan: &Plan, fault: &Fault) -> bool
         ensures { IsTrue result ↔ StandsFirst plan.now fault.now self.now }
     {
@@ -117,7 +117,7 @@ impl KnownFaults {
         }
     }
 
-    // One more fault is known.
+    /// One more fault is known.
     pub fn note(&mut self, known: Arc<Known>) -> Result<(), Memory>
         ensures ok { OnOk result (self.new ≡ self.old ++ arc_value known ∷ []) }
         ensures err { OnErr result (self.new ≡ self.old) }

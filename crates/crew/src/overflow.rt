@@ -34,7 +34,7 @@ impl<K: Keep> Model for Overflow<K> {
 }
 
 impl<K: Keep> Overflow<K> {
-    // No task.
+    /// No task.
     pub fn none(alloc: Global) -> Overflow<K>
         ensures { result ≡ [] }
     {
@@ -51,7 +51,7 @@ impl<K: Keep> Overflow<K> {
         self.first.is_none()
     }
 
-    // The first task. It takes no memory.
+    /// The first task. It takes no memory.
     pub fn begin(&mut self, refused: Refused<Entry<K>>)
         requires { self.old ≡ [] }
         ensures { self.new ≡ refused ∷ [] }
@@ -59,7 +59,7 @@ impl<K: Keep> Overflow<K> {
         self.first = Some(refused);
     }
 
-    // One more task at the end.
+    /// One more task at the end.
     pub fn push(&mut self, task: Entry<K>) -> Result<(), Memory>
         requires { self.old ≡ [] → ⊥ }
         ensures ok { OnOk result (self.new ≡ self.old ++ task ∷ []) }
@@ -69,7 +69,7 @@ impl<K: Keep> Overflow<K> {
         Ok(())
     }
 
-    // Takes the last task.
+    /// Takes the last task.
     pub fn pop(&mut self) -> Option<Entry<K>>
         ensures some { IfSome result (λ task. self.old ≡ self.new ++ task ∷ []) }
         ensures none { IfNone result ((self.old ≡ []) × (self.new ≡ [])) }

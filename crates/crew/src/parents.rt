@@ -1,10 +1,9 @@
 use crate::signals::Signals;
 use std::mem;
 
-// What a hand knows of the parents of the tasks that it ends, so that it wakes another hand where one may have gone on waiting for the
-// last of them.
+// Where a task ends, its parent may be stalled at another hand, which is then to be woken. A hand guesses that by what it pushed and took up.
 //
-// Where a hand began a task itself, the parent's rest is the newest entry of its own deck. Else it was stolen, and the deck is empty. Where the
+// Where a hand began the task itself, its parent's rest is the newest entry of the hand's own deck. Else it was stolen, and the deck is empty. Where the
 // hand's newest stalled task goes on after an answer, that is taken for the parent.
 #[derive(Drop)]
 pub(crate) struct Parents {
@@ -22,33 +21,33 @@ impl Parents {
         }
     }
 
-    // The hand began a child, and pushed the rest of its parent.
+    /// The hand began a child, and pushed the rest of its parent.
     #[inline(always)]
     pub fn pushed(&mut self) {
         self.pushed = self.pushed.saturating_add(1);
     }
 
-    // The hand took up the newest entry of its own deck.
+    /// The hand took up the newest entry of its own deck.
     #[inline(always)]
     pub fn popped(&mut self) {
         self.is_owed = false;
         self.pushed = self.pushed.saturating_sub(1);
     }
 
-    // The hand took up a task whose parent it didn't push.
+    /// The hand took up a task whose parent it didn't push.
     pub fn took(&mut self, signals: &Signals) {
         self.found_none(signals);
         self.pushed = 0;
     }
 
-    // The hand found that its own deck is empty.
+    /// The hand found that its own deck is empty.
     pub fn found_none(&mut self, signals: &Signals) {
         if mem::replace(&mut self.is_owed, false) {
             signals.wake_stalled();
         }
     }
 
-    // A task ended, and no task that the hand has itself goes on by that.
+    /// A task ended, and no task that the hand has itself goes on by that.
     #[inline(always)]
     pub fn ended(&mut self, signals: &Signals) {
         if self.pushed == 0 {

@@ -16,11 +16,10 @@ const LONGEST_STALLED: u64 = 2000;
 // How long a hand is parked at most that cuts all tasks that it begins.
 const LONGEST_CUTTING: u64 = 500;
 
-// How many more rounds a hand gives way before it parks, where few look for a task: some 40 microseconds, about as long as it takes to wake a
-// hand.
+// For how many more rounds a hand gives way before it parks: some 40 microseconds, about as long as it takes to wake a hand.
 const ROUNDS: u32 = 100;
 
-// How many hands look for a task at most where one does so.
+// Where more hands than this look for a task, a hand parks without these rounds.
 const FEW: u64 = 2;
 
 // What a hand does between two tasks.
@@ -30,8 +29,8 @@ enum Stage {
     Works,
     // The signals count it as one that looks for a task.
     Seeks,
-    // It has said that it will wait. After one more look it parks, while there is no event after so many.
-    Waits(Awaited, u64),
+    // It has said that it will park. After one more look it does, while there is no event after so many.
+    Parks(Awaited, u64),
 }
 
 // Parking of a hand: at first it only gives way to others, and then it parks, each time for twice as long as before.
@@ -75,47 +74,47 @@ impl Parking {
         self.next = SHORTEST;
     }
 
-    // The hand counts as one that looks for a task, and doesn't wait.
+    // The hand counts as one that looks for a task, and doesn't park.
     fn seek(&mut self, signals: &Signals) {
         match mem::replace(&mut self.stage, Stage::Seeks) {
             Stage::Works => signals.begin_seek(),
             Stage::Seeks => {}
-            Stage::Waits(awaited, _) => signals.leave(awaited),
+            Stage::Parks(awaited, _) => signals.leave(awaited),
         }
     }
 
     /// The hand found a task to cut. It goes on to count as one that looks, if it did.
     #[inline(always)]
     pub fn cut(&mut self, signals: &Signals) {
-        if matches!(self.stage, Stage::Waits(..)) {
+        if matches!(self.stage, Stage::Parks(..)) {
             self.seek(signals);
         }
     }
 
     /// The hand found nothing to do and has no task.
     pub fn park_idle<R: Wait>(&mut self, rt: &R, signals: &Signals) {
-        self.park(rt, signals, Awaited::Task, LONGEST_IDLE);
+        self.park_or_spin(rt, signals, Awaited::Task, LONGEST_IDLE);
     }
 
     /// The hand found nothing to do, and all of its tasks wait.
     pub fn park_stalled<R: Wait>(&mut self, rt: &R, signals: &Signals) {
-        self.park(rt, signals, Awaited::Answer, LONGEST_STALLED);
+        self.park_or_spin(rt, signals, Awaited::Answer, LONGEST_STALLED);
     }
 
     /// The hand cuts all that it begins, and left a task waiting. It is parked for a while, and looks for nothing before.
     pub fn park_cutting<R: Wait>(&mut self, rt: &R, signals: &Signals) {
         if self.backoff.is_completed() {
             self.prepare(signals, Awaited::Answer);
-            self.sleep(rt, signals, LONGEST_CUTTING);
+            self.park(rt, signals, LONGEST_CUTTING);
             self.seek(signals);
         } else {
             self.give_way(signals);
         }
     }
 
-    fn park<R: Wait>(&mut self, rt: &R, signals: &Signals, awaited: Awaited, longest: u64) {
-        if matches!(self.stage, Stage::Waits(..)) {
-            self.sleep(rt, signals, longest);
+    fn park_or_spin<R: Wait>(&mut self, rt: &R, signals: &Signals, awaited: Awaited, longest: u64) {
+        if matches!(self.stage, Stage::Parks(..)) {
+            self.park(rt, signals, longest);
         } else if !self.backoff.is_completed() {
             self.give_way(signals);
         } else if self.rounds < ROUNDS && signals.seeking() <= FEW {
@@ -134,12 +133,12 @@ impl Parking {
     fn prepare(&mut self, signals: &Signals, awaited: Awaited) {
         self.seek(signals);
         signals.end_seek();
-        self.stage = Stage::Waits(awaited, signals.prepare(awaited));
+        self.stage = Stage::Parks(awaited, signals.prepare(awaited));
     }
 
-    fn sleep<R: Wait>(&mut self, rt: &R, signals: &Signals, longest: u64) {
-        if let Stage::Waits(awaited, since) = self.stage {
-            if signals.wait(rt, awaited, since, self.next.min(longest)) {
+    fn park<R: Wait>(&mut self, rt: &R, signals: &Signals, longest: u64) {
+        if let Stage::Parks(awaited, since) = self.stage {
+            if signals.park(rt, awaited, since, self.next.min(longest)) {
                 self.stage = Stage::Seeks;
             } else {
                 self.next = self.next.saturating_mul(2).min(longest);

@@ -109,7 +109,7 @@ fn wait_stalled<R: Wait, K: Keep>(
     }
 }
 
-// Whether a task was taken up that another hand had, or there may be one now for others to take up.
+// Whether the turn stole a task, or may have left one for others to steal.
 #[inline(always)]
 fn has_task<K: Keep>(turn: &Result<Turn<K>, Memory>) -> bool {
     matches!(turn, Ok(Turn::Ran | Turn::Popped | Turn::Stole))

@@ -4,12 +4,12 @@ use crossbeam_utils::CachePadded;
 use std::sync::Wait;
 use std::sync::atomic::{AtomicU64, Ordering};
 
-// What a hand waits for that found nothing to do.
+// What a hand is parked for.
 #[derive(Clone, Copy, Drop)]
 pub(crate) enum Awaited {
-    // It has no task, and any to steal will do.
+    // A task to steal, since it has none.
     Task,
-    // Its tasks wait for children.
+    // An answer, since its tasks wait for children.
     Answer,
 }
 
@@ -27,9 +27,9 @@ pub(crate) struct Signals {
     seeking: CachePadded<AtomicU64>,
     // 1 where a hand was called and none has taken the call yet, else 0.
     called: CachePadded<AtomicU64>,
-    // Where hands wait that have no task.
+    // Where hands park that have no task.
     idle: EventCount,
-    // Where hands wait whose tasks wait for children.
+    // Where hands park whose tasks wait for children.
     stalled: EventCount,
     // How many roots there are.
     roots: u64,
@@ -95,7 +95,7 @@ impl Signals {
         seeking.fetch_sub(1, Ordering::SeqCst);
     }
 
-    fn waiting_for(&self, awaited: Awaited) -> &EventCount {
+    fn event_count_of(&self, awaited: Awaited) -> &EventCount {
         match awaited {
             Awaited::Task => &self.idle,
             Awaited::Answer => &self.stalled,
@@ -108,9 +108,9 @@ impl Signals {
         called.load(Ordering::SeqCst) != 0 && called.swap(0, Ordering::SeqCst) != 0
     }
 
-    /// A hand will wait, and has to look once more before it does. The number is for `wait`.
+    /// A hand will park, and has to look once more before it does. The number is for `park`.
     pub fn prepare(&self, awaited: Awaited) -> u64 {
-        let since = self.waiting_for(awaited).prepare();
+        let since = self.event_count_of(awaited).prepare();
         // The look that is left answers a call that nobody else took.
         if self.take_call() {
             self.end_seek();
@@ -118,24 +118,24 @@ impl Signals {
         since
     }
 
-    /// Parks until it is called, for at most `micros` microseconds. True where it was called: then it no longer waits,
-    /// and counts as one that looks for a task.
-    pub fn wait<R: Wait>(&self, rt: &R, awaited: Awaited, since: u64, micros: u64) -> bool {
-        let is_event = self.waiting_for(awaited).wait(rt, since, micros);
+    /// Parks until it is called, for at most `micros` microseconds. True where it was called: then it is no longer parked, and counts as one that
+    /// looks for a task.
+    pub fn park<R: Wait>(&self, rt: &R, awaited: Awaited, since: u64, micros: u64) -> bool {
+        let is_event = self.event_count_of(awaited).park(rt, since, micros);
         let is_call = self.take_call();
         if !is_event && !is_call {
             return false;
         }
-        self.waiting_for(awaited).leave();
+        self.event_count_of(awaited).leave();
         if !is_call {
             self.begin_seek();
         }
         true
     }
 
-    /// A hand no longer waits, and counts as one that looks for a task.
+    /// A hand doesn't park after all, and counts as one that looks for a task.
     pub fn leave(&self, awaited: Awaited) {
-        self.waiting_for(awaited).leave();
+        self.event_count_of(awaited).leave();
         if !self.take_call() {
             self.begin_seek();
         }
@@ -148,9 +148,9 @@ impl Signals {
         if self.seeking() != 0 {
             return;
         }
-        if self.idle.has_waiters() {
+        if self.idle.has_parked() {
             self.call(Awaited::Task);
-        } else if self.stalled.has_waiters() {
+        } else if self.stalled.has_parked() {
             self.call(Awaited::Answer);
         }
     }
@@ -160,15 +160,15 @@ impl Signals {
         let called: &AtomicU64 = &self.called;
         if called.swap(1, Ordering::SeqCst) == 0 {
             self.begin_seek();
-            self.waiting_for(awaited).notify_one();
+            self.event_count_of(awaited).notify_one();
         }
     }
 
-    /// An answer was put whose parent may be stalled at another hand: the hands that are parked with waiting tasks look
+    /// An answer was put whose parent may be stalled at another hand: the hands that are parked with stalled tasks look
     /// once more.
     #[inline(never)]
     pub fn wake_stalled(&self) {
-        if self.stalled.has_waiters() {
+        if self.stalled.has_parked() {
             self.stalled.notify_all();
         }
     }

@@ -1,5 +1,5 @@
 // The steps of a hand's turn.
-ghost use Rattle.std.specs.Prelude.{◌≡◌, ◌≤◌, ◌⊎◌, [], ◌∷◌, ◌++◌, length, reverse, IfOk, OnOk, OnErr, IfSome, IfNone, None, true, false};
+ghost use Rattle.std.specs.Prelude.{◌≡◌, ◌≤◌, ◌⊎◌, [], ◌∷◌, ◌++◌, length, reverse, IfOk, IfErr, OnOk, OnErr, IfSome, IfNone, None, true, false};
 ghost use Rattle.std.specs.Arc.{arc_value};
 ghost use Rattle.serial_meaning.specs.Answer.{IsCut};
 ghost use Rattle.strand_meaning.specs.Cuts.{IsByFaultOf};
@@ -7,11 +7,12 @@ ghost use Rattle.strand_machine.specs.Links.{task_give, tag};
 ghost use Rattle.strand_machine.specs.Tasks.{has_outcome};
 ghost use Rattle.strand_machine.specs.declared.stop.Stop.TheVariants as stop;
 ghost use Rattle.steal_deck.specs.Ends.{FindsNone};
-ghost use Rattle.crew.specs.Hands.{view_of, IsPut, RunsOnward, TurnAnswers, HasPut, PutsItsEnd, PutsEndOf, AdvancesCurrent, IsNewest, FindsNoTask, LooksAt, Looks, LooksNewest, LooksOldest, AllMiss, FirstSteals, StealsOr, Seeks, IsTurn, IsLate, KeepsLate};
+ghost use Rattle.crew.specs.Faults.{TellsEnd};
+ghost use Rattle.crew.specs.Hands.{view_of, IsPut, IsUnended, RunsOnward, TurnAnswers, HasPut, PutsEndOf, AdvancesCurrent, IsNewest, FindsNoTask, LooksAt, Looks, LooksNewest, LooksOldest, AllMiss, FirstSteals, StealsOr, Seeks, IsTurn, IsLate, KeepsLate};
 
 use crate::answered::Answered;
 use crate::entry::{Entry, with_known};
-use crate::faults::Faults;
+use crate::faults::{Check, Faults, Told};
 use crate::gate::Gate;
 use crate::hand::{Looked, Turn};
 use crate::hand_state::HandState;
@@ -101,12 +102,18 @@ fn put_answer<K: Keep>(
 
 // Tells the hands of the fault by which a task ended, if it did.
 #[inline(always)]
-fn publish_fault<K: Keep>(alloc: Global, faults: &mut Faults, answer: &Answer<K>)
+fn publish_fault<K: Keep>(
+    alloc: Global,
+    faults: &mut Faults,
+    answer: &Answer<K>,
+) -> Result<Option<Told>, Memory>
     requires { IsByFaultOf answer.now.plan answer.now.outcome }
+    ensures { IfOk result (TellsEnd answer.now.plan answer.now.outcome faults.new) }
 {
-    if let Outcome::Fault(fault) = &answer.outcome {
-        faults.publish(alloc, &answer.plan, fault);
-    }
+    let Outcome::Fault(fault) = &answer.outcome else {
+        return Ok(None);
+    };
+    Ok(Some(faults.publish(alloc, &answer.plan, fault)?))
 }
 
 // Puts the answer of a task that has ended or took a cut for an answer, whatever memory is left, and tells the gate.
@@ -124,7 +131,8 @@ fn end<G: Gate, K: Keep>(
     ensures state { view_of state.new ≡ record (view_of state.old) { answered = state.new.answered } }
 {
     let (answer, give) = task.into_answer();
-    publish_fault(alloc, &mut state.faults, &answer);
+    // Without memory for it the others don't hear of the fault.
+    let _ = publish_fault(alloc, &mut state.faults, &answer);
     if !gate.hears_ends() {
         return Ok(put_answer(&mut state.answered, answer, give));
     }
@@ -142,13 +150,14 @@ fn advance<G: Gate, K: Keep>(
     known: Option<Arc<Known>>,
     alloc: Global,
     gate: &G,
-) -> Result<Result<Turn<K>, Memory>, Unended>
+) -> Result<Result<Turn<K>, Memory>, Unended<Task<K>>>
     requires none { state.old.current ≡ None }
     requires known { IfSome known (λ k. (arc_value k).plan ≡ task.task.plan) }
     ensures ok { IfOk result (λ kept. IfOk kept (λ turn. AdvancesCurrent task (view_of state.old) turn (view_of state.new))) }
     ensures put { IfOk result (λ kept. OnErr kept (HasPut K task state.old.answered state.new.answered)) }
     ensures without { IfOk result (λ kept. OnErr kept (state.new.current ≡ None)) }
-    ensures unended { OnErr result ((task.cut ≡ None) × (state.new.answered ≡ state.old.answered)) }
+    ensures unended { IfErr result (λ unended. IsUnended task unended) }
+    ensures unput { OnErr result (state.new.answered ≡ state.old.answered) }
     ensures err { OnErr result (state.new.current ≡ None) }
     ensures late { KeepsLate (view_of state.old) (view_of state.new) }
 {
@@ -182,31 +191,30 @@ fn cut<K: Keep>(state: &mut HandState<K>, task: Task<K>, by: Fault) -> Turn<K>
 }
 
 // Cuts this task, which was the current one, or runs it to its next stop.
-#[tactic(auto, using(crate::proofs::Stopping::puts_its_end, crate::proofs::Stopping::puts_none))]
 fn run<G: Gate, K: Keep>(
     state: &mut HandState<K>,
     entry: Entry<K>,
     alloc: Global,
     gate: &G,
-) -> Result<Turn<K>, Memory>
+) -> Result<Result<Turn<K>, Memory>, Unended<Task<K>>>
     requires { state.old.current ≡ None }
-    ensures ok { IfOk result (λ turn. AdvancesCurrent entry (view_of state.old) turn (view_of state.new)) }
+    ensures ok { IfOk result (λ kept. IfOk kept (λ turn. AdvancesCurrent entry (view_of state.old) turn (view_of state.new))) }
+    ensures put { IfOk result (λ kept. OnErr kept (HasPut K entry state.old.answered state.new.answered)) }
+    ensures without { IfOk result (λ kept. OnErr kept (state.new.current ≡ None)) }
+    ensures unended { IfErr result (λ unended. IsUnended entry unended) }
+    ensures unput { OnErr result (state.new.answered ≡ state.old.answered) }
     ensures err { OnErr result (state.new.current ≡ None) }
-    ensures put { OnErr result (PutsItsEnd K entry state.old.answered state.new.answered) }
     ensures late { KeepsLate (view_of state.old) (view_of state.new) }
 {
     if entry.task.is_fresh() {
-        if let Some(by) = state.faults.cut(&entry) {
+        if let Ok(Check::Cuts(by)) = state.faults.cut(&entry) {
             let Entry { task, known: _ } = entry;
-            return Ok(cut(state, task, by));
+            return Ok(Ok(cut(state, task, by)));
         }
         gate.enter(entry.task.origin());
     }
     let Entry { task, known } = state.faults.tell(entry);
-    match advance(state, task, known, alloc, gate) {
-        Ok(kept) => kept,
-        Err(unended) => Err(unended.memory()),
-    }
+    advance(state, task, known, alloc, gate)
 }
 
 // The newest of a hand's tasks that are ready: of its private list, or else of its deque.
@@ -310,8 +318,8 @@ fn steal<K: Keep>(thieves: &mut [Thief<Entry<K>>]) -> Option<Entry<K>>
     None
 }
 
-// A task of another hand gets a handle of its plan for itself and its later children, so that not all hands write one count at each spawn.
-// Where there is no memory for that, it keeps the one that it has.
+// A task of another hand gets a handle of its plan and a path for itself and its later children, so that not all hands write the same counts at
+// each spawn. Where there is no memory for that, it keeps those that it has.
 fn with_own_handle<K: Keep>(alloc: Global, entry: Entry<K>) -> Entry<K>
     ensures { result ≡ entry }
 {
@@ -319,6 +327,7 @@ fn with_own_handle<K: Keep>(alloc: Global, entry: Entry<K>) -> Entry<K>
     if let Ok(plan) = task.plan().again(alloc) {
         task.set_plan(plan);
     }
+    task.unshare_path(alloc);
     with_known(task, known)
 }
 
@@ -358,6 +367,7 @@ fn seek<K: Keep>(state: &mut HandState<K>, alloc: Global) -> Result<Turn<K>, Mem
 }
 
 // A turn of a hand (`Hand::turn`).
+#[tactic(auto, using(crate::proofs::Stopping::puts_its_end, crate::proofs::Stopping::puts_none))]
 pub(crate) fn turn<G: Gate, K: Keep>(
     state: &mut HandState<K>,
     alloc: Global,
@@ -369,7 +379,10 @@ pub(crate) fn turn<G: Gate, K: Keep>(
     ensures late { KeepsLate (view_of state.old) (view_of state.new) }
 {
     match state.current.take() {
-        Some(entry) => run(state, entry, alloc, gate),
+        Some(entry) => match run(state, entry, alloc, gate) {
+            Ok(kept) => kept,
+            Err(unended) => Err(unended.memory()),
+        },
         None => seek(state, alloc),
     }
 }

@@ -36,7 +36,7 @@ fn grow_stack(word: &AtomicU64, pages: u64) {
     word.store(page[pages as usize % 512], Ordering::SeqCst);
 }
 
-// Calls f at it.
+// Calls f on it.
 fn at_one<T, F: Fn(&mut T, Until) -> bool>(f: &F, one: &mut T, until: Until) -> bool
     requires { F.IsAlwaysCallable f.now }
 {
@@ -55,8 +55,8 @@ fn has_room(alloc: Global) -> bool {
     room.is_ok()
 }
 
-// Calls f at the last of them in this thread until there is a task, then starts a thread that does the same with the others, and calls f
-// at the last one until the end.
+// Calls f on the last of them in this thread until there is a task, then starts a thread that does the same with the others, and calls f
+// on the last one until the end.
 #[cycle(starting)]
 fn run_from<'x, R: Threads + Wait + Sync, T: Send + Drop, F: Fn(&mut T, Until) -> bool + Sync>(
     rt: &'x R,
@@ -96,7 +96,7 @@ fn run_from<'x, R: Threads + Wait + Sync, T: Send + Drop, F: Fn(&mut T, Until) -
     );
 }
 
-// Calls f at the first of them in this thread, and at each other one in a thread of its own, and returns once all calls have. Each thread
+// Calls f on the first of them in this thread, and on each other one in a thread of its own, and returns once all calls have. Each thread
 // starts the next one as it takes up its first task, so that a run has no more threads than it has had tasks to steal. From the first one on for
 // which no thread can be made, or no heap of its own, they are left out.
 pub(crate) fn at_each<

@@ -1,4 +1,4 @@
--- One script under a list of seeds (docs/LANGUAGE.md, "Printed lines"): what it prints, and main's answers.
+-- One script under a list of seeds (docs/LANGUAGE.md, "Printed lines"): main's answers, and what is printed of them.
 use Rattle.std.specs.Prelude.{ℕ, List, [], ◌∷◌, ◌++◌, codes, decimal, flat_map}
 use Rattle.serial_meaning.specs.Plan.{PlanView}
 use Rattle.serial_meaning.specs.Eval.{elision, main_origin}
@@ -14,15 +14,15 @@ main_answer plan = record {
   outcome = outcome_of (main_origin plan) (elision plan).ending;
 }
 
--- one part of a batch: a line of the seed, and then what is printed under it
+-- one part of a batch: the seed's line, and then what is printed under it
 abbrev pub seed_lines : ℕ → List ℕ → List ℕ
 seed_lines seed text = line (codes "seed " ++ decimal seed) ++ text
 
--- a part of each seed, in order
+-- the parts of all seeds, in order
 abbrev pub batch : (ℕ → List ℕ) → List ℕ → List ℕ
 batch text_under seeds = flat_map (λ seed. seed_lines seed (text_under seed)) seeds
 
--- a part of each seed and of the answer under it, in order
+-- the parts of all seeds with the answers under them, in order
 abbrev pub batch_text : List ℕ → List AnswerView → List ℕ
 batch_text [] answers = []
 batch_text (seed ∷ seeds) [] = []

@@ -1,4 +1,4 @@
-//! One script under a list of seeds, on one crew: a plan for each seed, main's answer under each plan, and what is printed of them.
+//! Runs one script under a list of seeds on one crew, with a plan for each seed, and prints the answers.
 #![tactic(auto)]
 
 mod render;

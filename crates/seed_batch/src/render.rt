@@ -1,4 +1,4 @@
-// What is printed of a batch.
+// What a batch prints.
 ghost use Rattle.std.specs.Prelude.{◌≡◌, ◌++◌, All, OnErr, OnOk, codes, decimal, length};
 ghost use Rattle.ped_io.specs.Causes.{HasCause};
 ghost use Rattle.ped_io.specs.Streams.{AppendsFront};
@@ -13,7 +13,7 @@ use ped_io::{Failed, Sink};
 use run_lines::{Page, Piece, put_answer, put_pieces};
 use serial_meaning::{Answer, Keep};
 
-// Puts the line of a seed.
+// `seed S`
 fn put_seed<S: Sink>(seed: u64, page: &mut Page, out: &mut S) -> Result<(), Failed>
     ensures all { OnOk result (Puts (S.written out.old) (S.written out.new) page.old page.new (line (codes "seed " ++ decimal seed))) }
     ensures front { OnErr result (AppendsFront (S.written out.old) (S.written out.new) (page.old ++ line (codes "seed " ++ decimal seed))) }
@@ -27,7 +27,7 @@ fn put_seed<S: Sink>(seed: u64, page: &mut Page, out: &mut S) -> Result<(), Fail
     put_pieces(&pieces, page, out)
 }
 
-// Puts the part of a seed, with what a run prints of this answer.
+// One seed's line, and the lines of its run.
 fn put_part<K: Keep, S: Sink>(
     seed: u64,
     answer: &Answer<K>,
@@ -44,11 +44,12 @@ fn put_part<K: Keep, S: Sink>(
     put_answer(answer, page, out)
 }
 
-/// Puts what a batch prints: for each seed, in order, the line `seed S` with the seed in decimal, and then what a run prints of the answer
-/// at the same place. Each answer keeps the events that have a line under its plan.
+/// Puts what a batch prints: for each seed, in order, the line `seed S` with the seed in decimal, and then the lines of
+/// its answer, which has the same index. Each answer must have kept the events that have a line under its plan. What
+/// doesn't fill the page waits on it.
 ///
 /// # Errors
-/// `Failed` where a write failed. A prefix of what waited and of the lines was written.
+/// `Failed` where a write failed: of the bytes that waited and these lines, a prefix was written.
 pub fn put_batch<K: Keep, S: Sink>(
     seeds: &Items<u64>,
     answers: &Items<Answer<K>>,

@@ -10,12 +10,12 @@ use std::alloc::Global;
 use std::sync::{Arc, Wait};
 use std::thread::Threads;
 
-/// Runs main under each plan, all of them by one crew of so many workers, hand 0 in this thread and each other one in a thread of its own.
-/// The answers are in the order of the plans, whatever the hands did in which order. Two plans may be equal. A fault under one plan ends
+/// Runs main under each plan, all on one crew of this many workers: hand 0 in the calling thread, each other hand in a
+/// thread of its own. The answers are in the order of the plans. Plans may be equal. A fault under one plan ends
 /// nothing under another.
 ///
-/// A hand for which no thread can be made is left out. It has no task, and the others finish without it. On `Memory`
-/// there are no answers.
+/// A hand for which the system refuses a thread is left out; the others finish without it. `Memory` where memory ran
+/// out for any of the plans: then there are no answers.
 pub fn run_batch<R: Threads + Wait + Sync, G: Gate + Sync>(
     rt: &R,
     alloc: Global,
@@ -31,7 +31,7 @@ pub fn run_batch<R: Threads + Wait + Sync, G: Gate + Sync>(
     run_roots(rt, alloc, roots, hands, gate)
 }
 
-/// The same, with answers that keep prints only, for plans that show values only.
+/// The same, with answers that keep their prints alone: enough for plans that show values only, and less memory.
 pub fn run_batch_of_prints<R: Threads + Wait + Sync, G: Gate + Sync>(
     rt: &R,
     alloc: Global,

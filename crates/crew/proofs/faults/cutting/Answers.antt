@@ -3,8 +3,8 @@ use Rattle.serial_meaning.specs.Answer.{KnownView}
 use Rattle.crew.proofs.Cutting.{is_cut}
 use Rattle.crew.proofs.faults.cutting.Goals as goal
 
-pub returns : goal.returns
-returns g c =
+pub returns-clause-some : goal.returns-clause-some
+returns-clause-some g c =
     let may : IsTrue c.may_cut.result = search rules in
     let one : IsTrue c.is_of.result = search rules in
     let plan : c.deref.result.now ≡ c.args.task.now.task.plan = search rules in

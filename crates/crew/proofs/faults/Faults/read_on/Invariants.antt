@@ -1,5 +1,10 @@
+use Rattle.std.proofs.Common.{◌-◌, length}
 use Rattle.crew.specs.Faults.{ReadsOn}
 use Rattle.crew.proofs.faults.Faults.read_on.Given as goal
 
-abbrev pub invariant-loop : goal.invariant-loop
-invariant-loop l = ReadsOn l.fn.self l.self
+abbrev pub invariant-loop-unset : goal.invariant-loop-unset
+invariant-loop-unset l = ReadsOn l.fn.self l.self
+
+-- how many cells are left
+abbrev pub decreases-loop-unset : goal.decreases-loop-unset
+decreases-loop-unset l = length l.self.cells.names - length l.self.cells.read

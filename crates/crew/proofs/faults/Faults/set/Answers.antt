@@ -6,5 +6,5 @@ use Rattle.crew.proofs.faults.Faults.set.Goals as goal
 
 pub set-requires : goal.set-requires
 set-requires c =
-    stands_first (arc_value c.args.known.value).plan (arc_value c.args.known.value).fault c.self.inside.known c.self.inside.cells c.self.invariant
+    stands_first (arc_value c.args.known.value).plan (arc_value c.args.known.value).fault c.self.inside.known c.self.inside.cells.read c.self.invariant
     (subst (λ (f : FaultsView). StandsFirst (arc_value c.args.known.value).plan (arc_value c.args.known.value).fault f.known) (sym c.self.view_is) c.requires)
