@@ -10,23 +10,23 @@ use Rattle.ped_words.specs.declared.rule.WordError.TheVariants as words
 use Rattle.engine.specs.Commands.{AcceptsScript, takes_script}
 use Rattle.engine.specs.CallEnds.{Delivers, EndKeeps, EndMeans, EndRefuses, IsNoStrandLine, Puts, end_status}
 use Rattle.engine.specs.Promise.{Watched, HasOutput, HasReport, KeepsPromise, ReadWhole, Refuses, TellsNone, WroteLine}
-use Rattle.engine.specs.Refusal.{IsCause, IsMisfit}
-use Rattle.engine.specs.Report.{Report, said}
+use Rattle.engine.specs.Refusal.{IsCause, IsRejection}
+use Rattle.engine.specs.Report.{Report, done_report}
 use Rattle.engine.specs.declared.call_end.CallEnd.{CallEnd}
 use Rattle.engine.specs.declared.call_end.CallEnd.TheVariants as C
 use Rattle.engine.specs.declared.refusal.Refusal.{Refusal}
-use Rattle.engine.specs.declared.refusal.Refusal.TheVariants.{TooLong, Untaken, Read, Memory}
+use Rattle.engine.specs.declared.refusal.Refusal.TheVariants.{TooLong, Rejected, Read, Memory}
 use Rattle.engine.specs.declared.report.ReportEnd.{ReportEnd}
 use Rattle.engine.specs.declared.report.ReportEnd.TheVariants as E
 use Rattle.engine.specs.declared.status.Status.{Status}
 use Rattle.engine.specs.declared.status.Status.TheVariants as S
 
-pub misfit_cause : (command : Command) (source : Watched) (bytes : List ℕ) → IsTrue (takes_script command) → ReadWhole source bytes → {X : Type 0} (result : Result X Refusal) → IfErr result (IsMisfit (AcceptsScript command) bytes) → IfErr result (IsCause command source)
-misfit_cause command source bytes takes read {X} (Ok x) is = tt
-misfit_cause command source bytes takes read {X} (Err TooLong) is = absurd is
-misfit_cause command source bytes takes read {X} (Err (Untaken line)) is = (takes, (bytes, read, is))
-misfit_cause command source bytes takes read {X} (Err Read) is = absurd is
-misfit_cause command source bytes takes read {X} (Err Memory) is = tt
+pub rejection_cause : (command : Command) (source : Watched) (bytes : List ℕ) → IsTrue (takes_script command) → ReadWhole source bytes → {X : Type 0} (result : Result X Refusal) → IfErr result (IsRejection (AcceptsScript command) bytes) → IfErr result (IsCause command source)
+rejection_cause command source bytes takes read {X} (Ok x) is = tt
+rejection_cause command source bytes takes read {X} (Err TooLong) is = absurd is
+rejection_cause command source bytes takes read {X} (Err (Rejected line)) is = (takes, (bytes, read, is))
+rejection_cause command source bytes takes read {X} (Err Read) is = absurd is
+rejection_cause command source bytes takes read {X} (Err Memory) is = tt
 
 -- The line tells that there is no strand, and it was told.
 tells_none : (err : Watched) (line : List ℕ) (ending : ReportEnd) → IsNoStrandLine line ending → WroteLine err line → TellsNone err ending
@@ -41,7 +41,7 @@ module _ (command : Command) (source out : Watched) where
   delivered_means report has C.Faulted d = λ err told. (report, has, d.0, d.1)
   delivered_means report has (C.Words line) d = absurd d
   delivered_means report has (C.Refused TooLong) d = absurd d
-  delivered_means report has (C.Refused (Untaken line)) d = absurd d
+  delivered_means report has (C.Refused (Rejected line)) d = absurd d
   delivered_means report has (C.Refused Read) d = absurd d
   delivered_means report has (C.Refused Memory) d = λ err told. told
   delivered_means report has C.Write d = λ err told. ((report, has, d.0, d.1), told)
@@ -49,7 +49,7 @@ module _ (command : Command) (source out : Watched) where
 
   pub refused_means : (refusal : Refusal) → IsCause command source refusal → EndMeans command source out (C.Refused refusal)
   refused_means TooLong is = λ err told. (is.0, inl (is.1, told))
-  refused_means (Untaken line) is = λ err told. (is.0, inr (is.1.0, string_bytes line, is.1.1, is.1.2, told))
+  refused_means (Rejected line) is = λ err told. (is.0, inr (is.1.0, string_bytes line, is.1.1, is.1.2, told))
   refused_means Read is = λ err told. (is.0, is.1, told)
   refused_means Memory is = λ err told. told
 
@@ -80,7 +80,7 @@ module _ (command : Command) (gamma at : List ℕ) (count rounds : ℕ) (below :
   pub stream_means : (source out : Watched) (end : CallEnd) → Delivers (stream_text gamma at count rounds below) E.Done out end → EndMeans command source out end
   stream_means source out end d =
       let P : Command → Type 0 = λ c. EndMeans c source out end in
-      subst P (sym is) (delivered_means (Stream gamma at count rounds below) source out (said (stream_text gamma at count rounds below)) ([], (λ takes. absurd (cc)), refl) end d)
+      subst P (sym is) (delivered_means (Stream gamma at count rounds below) source out (done_report (stream_text gamma at count rounds below)) ([], (λ takes. absurd (cc)), refl) end d)
 
 -- What was read of words, and the end that it gives.
 module _ (given : Result Command WordError) (source out : Watched) where

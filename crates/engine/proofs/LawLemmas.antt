@@ -9,7 +9,7 @@ use Rattle.ped_words.specs.Making.{gamma_from, hash_depth}
 use Rattle.serial_meaning.specs.Plan.{PlanView, drawn}
 use Rattle.serial_meaning.proofs.RisingPedigrees.Draws.{draws_are_dotmix}
 use Rattle.strand_meaning.proofs.ElisionsStrands.StrandDraws.{strands_draw_dotmix}
-use Rattle.sched_meaning.proofs.SimulationsEnd.Simulated.{sim_workers_are_one}
+use Rattle.sched_meaning.proofs.SimulationsEnd.Simulated.{sim_workers_are_unique}
 use Rattle.engine.specs.Laws.{IsPlanBy, SimulationsAreOne, StreamsAreDraws}
 use Rattle.engine.specs.Report.{run_report, worker_line}
 use Rattle.engine.specs.declared.report.ReportEnd.{ReportEnd}
@@ -33,6 +33,6 @@ streams_are_draws given seed plan j count i by lt within =
 
 pub simulations_are_one : SimulationsAreOne
 simulations_are_one plan workers number told other p q =
-    let worker : p.worker ≡ q.worker = sim_workers_are_one plan workers number p.worker q.worker p.answers q.answers in
+    let worker : p.worker ≡ q.worker = sim_workers_are_unique plan workers number p.worker q.worker p.answers q.answers in
     let output : told.output ≡ other.output = p.output ∙ ap (λ w. worker_line w ++ (run_report plan).output) worker ∙ sym q.output in
     ap₂ (λ (o : List ℕ) (e : ReportEnd). record { output = o; ending = e }) output (p.ending ∙ sym q.ending)

@@ -45,18 +45,18 @@ taken_script (command.Span settings) takes bytes report r = (r.0, r.1, r.2)
 taken_script (command.Batch seeds limits show rounds workers) takes bytes report r = (r.0, r.1, r.2)
 
 -- what a command that takes none reports has nothing to do with the source
-alone : (command : Command) → IsFalse (takes_script command) → (bytes other : List ℕ) (report : Report) → Reports command bytes report → Reports command other report
-alone (command.Run settings workers) takes bytes other report r = absurd (cc)
-alone (command.Serial settings) takes bytes other report r = absurd (cc)
-alone (command.Sim settings workers number) takes bytes other report r = absurd (cc)
-alone (command.Replay settings at) takes bytes other report r = absurd (cc)
-alone (command.Hash gamma at rounds) takes bytes other report r = r
-alone command.Check takes bytes other report r = absurd (cc)
-alone command.Fmt takes bytes other report r = absurd (cc)
-alone (command.Gen shape size) takes bytes other report r = r
-alone (command.Stream gamma at count rounds below) takes bytes other report r = r
-alone (command.Span settings) takes bytes other report r = absurd (cc)
-alone (command.Batch seeds limits show rounds workers) takes bytes other report r = absurd (cc)
+report_needs_no_bytes : (command : Command) → IsFalse (takes_script command) → (bytes other : List ℕ) (report : Report) → Reports command bytes report → Reports command other report
+report_needs_no_bytes (command.Run settings workers) takes bytes other report r = absurd (cc)
+report_needs_no_bytes (command.Serial settings) takes bytes other report r = absurd (cc)
+report_needs_no_bytes (command.Sim settings workers number) takes bytes other report r = absurd (cc)
+report_needs_no_bytes (command.Replay settings at) takes bytes other report r = absurd (cc)
+report_needs_no_bytes (command.Hash gamma at rounds) takes bytes other report r = r
+report_needs_no_bytes command.Check takes bytes other report r = absurd (cc)
+report_needs_no_bytes command.Fmt takes bytes other report r = absurd (cc)
+report_needs_no_bytes (command.Gen shape size) takes bytes other report r = r
+report_needs_no_bytes (command.Stream gamma at count rounds below) takes bytes other report r = r
+report_needs_no_bytes (command.Span settings) takes bytes other report r = absurd (cc)
+report_needs_no_bytes (command.Batch seeds limits show rounds workers) takes bytes other report r = absurd (cc)
 
 module _ (source out err : Watched) where
   -- where the words give a command
@@ -95,7 +95,7 @@ module _ (source out err : Watched) where
     -- whether or not the command takes a script
     same_report : (bytes : List ℕ) → source.before ≡ Some bytes → (report : Report) → HasReport command source report → (b : Bool) → takes_script command ≡ b → Reports command bytes report
     same_report bytes told report has true e = reported_bytes bytes told e report has
-    same_report bytes told report has false e = alone command e has.0 bytes report has.2
+    same_report bytes told report has false e = report_needs_no_bytes command e has.0 bytes report has.2
 
     written_at : (bytes : List ℕ) → source.before ≡ Some bytes → (status : Status) (report : Report) → HasReport command source report → Appends out.before out.after report.output → status ≡ status_of report.ending → WroteReport command bytes source out status
     written_at bytes told status report has output ends = record {

@@ -4,10 +4,10 @@ use Rattle.script_check.specs.Valid.{IsValid, CheckFault}
 use Rattle.script_check.specs.Violations.{violation}
 use Rattle.script_grammar.specs.declared.tree.Script.{Script}
 use Rattle.script_grammar.specs.Text.{Text}
-use Rattle.engine.specs.Promise.{IsUntaken}
-use Rattle.engine.specs.Refusal.{IsMisfit, IsRefusalLine}
+use Rattle.engine.specs.Promise.{IsRejected}
+use Rattle.engine.specs.Refusal.{IsRejection, IsRefusalLine}
 use Rattle.engine.specs.declared.refusal.Refusal.{Refusal}
-use Rattle.engine.specs.declared.refusal.Refusal.TheVariants.{TooLong, Untaken, Read, Memory}
+use Rattle.engine.specs.declared.refusal.Refusal.TheVariants.{TooLong, Rejected, Read, Memory}
 
 -- A script with a violated condition isn't valid.
 not_valid : (script : Script) (number at : ℕ) → CheckFault script number at → IsValid script → ⊥
@@ -18,15 +18,15 @@ pub invalid_text : (bytes : List ℕ) (script : Script) → Text bytes script �
     (other : Script) → Text bytes other → IsValid other → ⊥
 invalid_text bytes script text one number at fault other read valid = not_valid script number at fault (subst IsValid (one other read) valid)
 
-pub told_misfit : (takes : Script → Type 0) (bytes line : List ℕ) (refusal : Refusal) → IsUntaken takes bytes line → IsRefusalLine line refusal → IsMisfit takes bytes refusal
-told_misfit takes bytes line TooLong untaken told = absurd told
-told_misfit takes bytes line (Untaken said) untaken told = subst (IsUntaken takes bytes) (sym told) untaken
-told_misfit takes bytes line Read untaken told = absurd told
-told_misfit takes bytes line Memory untaken told = tt
+pub told_rejection : (takes : Script → Type 0) (bytes line : List ℕ) (refusal : Refusal) → IsRejected takes bytes line → IsRefusalLine line refusal → IsRejection takes bytes refusal
+told_rejection takes bytes line TooLong untaken told = absurd told
+told_rejection takes bytes line (Rejected said) untaken told = subst (IsRejected takes bytes) (sym told) untaken
+told_rejection takes bytes line Read untaken told = absurd told
+told_rejection takes bytes line Memory untaken told = tt
 
 -- What is no script of some kind is no script of a narrower kind.
-pub misfit_narrower : (takes narrower : Script → Type 0) → ((script : Script) → narrower script → takes script) → (bytes : List ℕ) (refusal : Refusal) → IsMisfit takes bytes refusal → IsMisfit narrower bytes refusal
-misfit_narrower takes narrower sub bytes TooLong is = is
-misfit_narrower takes narrower sub bytes (Untaken line) is = record { none = λ script text taken. is.none script text (sub script taken); why = is.why }
-misfit_narrower takes narrower sub bytes Read is = is
-misfit_narrower takes narrower sub bytes Memory is = is
+pub rejection_narrower : (takes narrower : Script → Type 0) → ((script : Script) → narrower script → takes script) → (bytes : List ℕ) (refusal : Refusal) → IsRejection takes bytes refusal → IsRejection narrower bytes refusal
+rejection_narrower takes narrower sub bytes TooLong is = is
+rejection_narrower takes narrower sub bytes (Rejected line) is = record { none = λ script text taken. is.none script text (sub script taken); why = is.why }
+rejection_narrower takes narrower sub bytes Read is = is
+rejection_narrower takes narrower sub bytes Memory is = is

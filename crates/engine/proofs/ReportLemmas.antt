@@ -62,8 +62,8 @@ pub played_of : (settings : Settings) (bytes : List ℕ) (plan seen : PlanView) 
 played_of settings bytes plan seen told planned same e = (planned.0, planned.1, planned.2, e ∙ ap run_report (same ∙ planned.3))
 
 -- No text stands before a run's lines.
-pub lines_alone : (plan : PlanView) (text : List ℕ) (told : Report) → text ≡ [] → told.output ≡ text ++ (run_report plan).output → told.ending ≡ (run_report plan).ending → told ≡ run_report plan
-lines_alone plan text told none output ending =
+pub lines_only : (plan : PlanView) (text : List ℕ) (told : Report) → text ≡ [] → told.output ≡ text ++ (run_report plan).output → told.ending ≡ (run_report plan).ending → told ≡ run_report plan
+lines_only plan text told none output ending =
     ap₂ (λ (o : List ℕ) (e : ReportEnd). record { output = o; ending = e }) (output ∙ ap (λ t. t ++ (run_report plan).output) none) ending
 
 -- The worker of a simulation under a script's plan, and what is written of main's answer, are a simulation of the script.

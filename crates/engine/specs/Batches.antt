@@ -1,4 +1,4 @@
--- One script under a list of seeds.
+-- Running one script under a list of seeds.
 use Rattle.std.specs.Prelude.{◌≡◌, ℕ, Bool, true, false, List, map}
 use Rattle.std.specs.List.{list_any}
 use Rattle.dotmix.specs.Words.{coefficients}
@@ -18,18 +18,18 @@ use Rattle.engine.specs.declared.report.ReportEnd.{ReportEnd}
 use Rattle.engine.specs.declared.report.ReportEnd.TheVariants.{Done, Faulted, NoStrand, Blocked}
 use Rattle.engine.specs.Report.{Report, plan_of, run_report}
 
--- the settings of the run under one seed
+-- the settings under one seed
 abbrev pub settings_under : Batch → ℕ → Settings
 settings_under b seed = record { gamma = coefficients seed b.limits.depth; limits = b.limits; show = b.show; rounds = b.rounds }
 
 abbrev pub plan_under : Batch → Script → ℕ → PlanView
 plan_under b script seed = plan_of (settings_under b seed) script
 
--- the command of a batch on this many workers
+-- the command that runs this batch on this many workers
 abbrev pub batch_command : Batch → ℕ → Command
 batch_command b workers = command.Batch b.seeds b.limits b.show b.rounds workers
 
--- The seeds aren't too many, and under each of them a script is a plan.
+-- The seeds are neither none nor too many, and each of them makes a plan of any script.
 abbrev pub IsLawfulBatch : Batch → Type 0
 IsLawfulBatch b = IsBatch b.seeds b.limits b.rounds
 
@@ -45,24 +45,24 @@ is_fault (outcome.Values vs) = false
 is_fault (outcome.Fault f) = true
 is_fault (outcome.Cut f) = false
 
--- how a batch ends, by whether one of its runs ends by a fault
+-- how a batch ends, given whether one of its runs ends by a fault
 abbrev pub batch_ending : Bool → ReportEnd
 batch_ending true = Faulted
 batch_ending false = Done
 
--- For each seed, in order, its line, and then what a run under it alone writes. It ends by a fault where at least one
--- of these runs does.
+-- For each seed, in order, its line and then what a run under it writes. It ends by a fault where at least one of these
+-- runs does.
 abbrev pub batch_report : Batch → Script → Report
 batch_report b script = record {
   output = batch (λ seed. (run_report (plan_under b script seed)).output) b.seeds;
   ending = batch_ending (list_any (λ seed. is_faulted (run_report (plan_under b script seed)).ending) b.seeds);
 }
 
--- These bytes are the text of a valid script, and a batch of it writes this.
+-- These bytes are the text of a valid script, and this is the batch's report on it.
 abbrev pub IsBatchOf : Batch → List ℕ → Report → Type 0
 IsBatchOf b bytes report = (script : Script) × Text bytes script × IsValid script × (report ≡ batch_report b script)
 
--- what is written of main's answers under these plans, each after a line of its seed
+-- the report of main's answers under these plans, each after the line of its seed
 abbrev pub written : List ℕ → List PlanView → Report
 written seeds plans = record {
   output = batch_text seeds (map main_answer plans);

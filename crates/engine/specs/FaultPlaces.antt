@@ -1,4 +1,4 @@
--- Where the fault of a strand came from, in the text of a script.
+-- Where in a script's text the fault of a strand came from.
 use Rattle.std.specs.Prelude.{◌≡◌, ℕ, List, Some, Result, Ok}
 use Rattle.script_grammar.specs.declared.tree.Function.{Function}
 use Rattle.serial_meaning.specs.Functions.{function_at}
@@ -11,14 +11,14 @@ use Rattle.replay.specs.FaultPlaces.{FaultsAt}
 use Rattle.engine.specs.Report.{IsPlanOf}
 use Rattle.engine.specs.declared.place.FaultPlace.{FaultPlace}
 
--- this offset, in the script's function with this number
+-- The place is this offset, in the script's function with this number.
 pub record IsPlaceIn (plan : PlanView) (number at : ℕ) (place : FaultPlace) : Type 0 where
   pub function : Function
   pub there : function_at (functions_of plan) number ≡ Some function
   pub named : place.function ≡ function.name.bytes
   pub offset : place.at ≡ at
 
--- The strand with this pedigree ended at this place by a fault of its own, under the plan of the script with this text.
+-- Under the plan of the script with this text, the strand with this pedigree ended at this place by a fault of its own.
 pub record IsPlaceUnder (settings : Settings) (j bytes : List ℕ) (place : FaultPlace) : Type 0 where
   pub plan : PlanView
   pub of_text : IsPlanOf settings bytes plan

@@ -8,18 +8,19 @@ use Rattle.serial_meaning.specs.declared.event.Event.TheVariants.{Draw}
 use Rattle.strand_meaning.specs.Strands.{Strand, FoundStrand, strand_at}
 use Rattle.engine.specs.Report.{IsSimReport, Report}
 
--- The plan's coefficients are as many as its depth, of this list or else of this seed.
+-- The plan has as many coefficients as its depth, those of the list if it is given, else those of the seed.
 pub record IsPlanBy (given : Option (List ℕ)) (seed : ℕ) (plan : PlanView) : Type 0 where
   pub coefficients : plan.gamma ≡ gamma_from given seed plan.limits.depth
   pub depth_limit : plan.limits.depth ≤ hash_depth
 
--- This is what the strand of a pedigree draws, in any run of the plan that reaches it, and in a replay of it, behind a fault too.
+-- The strand of this pedigree draws this number, in a run of the plan that reaches it, and in a replay of it, also
+-- after a fault.
 pub record IsDrawn (plan : PlanView) (j : List ℕ) (n : ℕ) : Type 0 where
   pub strand : n ≡ drawn plan j
   pub event : (m : ℕ) → Contains (elision plan).items (Draw j m) → n ≡ m
   pub replayed : (found : Strand) (m : ℕ) → strand_at plan j ≡ FoundStrand found → Contains found.events (Draw j m) → n ≡ m
 
--- Number i of a stream is the draw of the strand i ranks later, by the same list or seed and as many rounds, at each
+-- Number i of a stream is the draw of the strand i ranks later, with the same list or seed and as many rounds, at each
 -- depth that the strand is within.
 abbrev pub StreamsAreDraws : Type 0
 StreamsAreDraws =

@@ -17,18 +17,18 @@ use Rattle.engine.specs.Commands.{AcceptsScript, Reports, takes_script}
 use Rattle.engine.specs.Lines.{blocked_line, check_line, no_strand_line, syntax_line, words_line}
 use Rattle.engine.specs.Report.{Report}
 
--- the most bytes of a script
+-- a script has at most this many bytes
 abbrev pub most_bytes : ℕ
 most_bytes = 1048576
 
--- A source or a sink across a call: what it told before and after, and how often it had failed.
+-- A source or a sink across a call: its bytes before and after, where they are known, and how often it had failed.
 pub record Watched : Type 0 where
   pub before : Option (List ℕ)
   pub after : Option (List ℕ)
   pub failures_before : ℕ
   pub failures_after : ℕ
 
--- such a record, from what the object tells before and after the call
+-- such a record of an object, from before and after the call
 abbrev pub watched : {T : Type 0} → (T → Option (List ℕ)) → (T → ℕ) → T → T → Watched
 watched told faults old new = record { before = told old; after = told new; failures_before = faults old; failures_after = faults new }
 
@@ -39,12 +39,12 @@ HasFailed object = Rose object.failures_before object.failures_after
 abbrev pub Wrote : Watched → List ℕ → Type 0
 Wrote object bytes = Appends object.before object.after bytes
 
--- A prefix of the bytes was written, since the sink failed.
+-- The sink failed, and a prefix of the bytes was written.
 pub record WroteFront (object : Watched) (bytes : List ℕ) : Type 0 where
   pub front : AppendsFront object.before object.after bytes
   pub failed : HasFailed object
 
--- A line was written whole, or a prefix of it where the sink failed.
+-- The line was written whole, or a prefix of it where the sink failed.
 abbrev pub WroteLine : Watched → List ℕ → Type 0
 WroteLine object line = Wrote object line ⊎ WroteFront object line
 
@@ -54,46 +54,47 @@ pub record ReadWhole (source : Watched) (bytes : List ℕ) : Type 0 where
   pub end : IsAtEnd source.after
   pub within : length bytes ≤ most_bytes
 
--- why these bytes are refused, and the line that says so
+-- why these bytes are rejected, and the line that says so
 pub data Why (bytes line : List ℕ) : Type 0 where
   NoText : (number at : ℕ) → SyntaxFault bytes number at → line ≡ syntax_line number at → Why bytes line
   Invalid : (script : Script) (number at : ℕ) → Text bytes script → CheckFault script number at → line ≡ check_line number at → Why bytes line
 
--- These bytes are the text of no script that the command takes, and this line says why.
-pub record IsUntaken (takes : Script → Type 0) (bytes line : List ℕ) : Type 0 where
+-- These bytes aren't the text of a script that is taken, and this line says why.
+pub record IsRejected (takes : Script → Type 0) (bytes line : List ℕ) : Type 0 where
   pub none : (script : Script) → Text bytes script → takes script → ⊥
   pub why : Why bytes line
 
--- The source has more bytes than a script may have, or the text of no script that the command takes.
+-- The source has more bytes than a script may have, or they aren't the text of a script that the command takes; the
+-- error line says which.
 abbrev pub HasNoScript : Command → Watched → Watched → Type 0
 HasNoScript command source err =
     (ConsumesJust source.before source.after (most_bytes + 1) × WroteLine err (codes "script: too long\n"))
-    ⊎ ((bytes : List ℕ) × (line : List ℕ) × ReadWhole source bytes × IsUntaken (AcceptsScript command) bytes line × WroteLine err line)
+    ⊎ ((bytes : List ℕ) × (line : List ℕ) × ReadWhole source bytes × IsRejected (AcceptsScript command) bytes line × WroteLine err line)
 
--- This is the command's report, on the source's bytes where it takes a script.
+-- This is the command's report. Where it takes a script, it is the report on the source's bytes.
 abbrev pub HasReport : Command → Watched → Report → Type 0
 HasReport command source report =
     (bytes : List ℕ) × (IsTrue (takes_script command) → ReadWhole source bytes) × Reports command bytes report
 
--- The command's report ends in this way, and its output has this property.
+-- The command's report ends in this way, and its output has property `P`.
 abbrev pub IsReported : Command → Watched → ReportEnd → (List ℕ → Type 0) → Type 0
 IsReported command source ending P = (report : Report) × HasReport command source report × (report.ending ≡ ending) × P report.output
 
--- There is no such strand, and the error line says why.
+-- The report is that there is no strand, and the error line says why.
 abbrev pub TellsNone : Watched → ReportEnd → Type 0
 TellsNone err E.Done = ⊥
 TellsNone err E.Faulted = ⊥
 TellsNone err (E.NoStrand j) = WroteLine err (no_strand_line j)
 TellsNone err (E.Blocked fault) = WroteLine err (blocked_line fault.at)
 
--- A report that ends in this way has an output.
+-- A report that ends in this way has output.
 abbrev pub HasOutput : ReportEnd → Type 0
 HasOutput E.Done = ⊤
 HasOutput E.Faulted = ⊤
 HasOutput (E.NoStrand j) = ⊥
 HasOutput (E.Blocked fault) = ⊥
 
--- What each status means where the words give this command.
+-- What each status means where the words are this command.
 abbrev pub StatusMeans : Command → Watched → Watched → Watched → Status → Type 0
 StatusMeans command source out err Done = IsReported command source E.Done (Wrote out)
 StatusMeans command source out err Faulted = IsReported command source E.Faulted (Wrote out)
@@ -104,7 +105,7 @@ StatusMeans command source out err Write = ((report : Report) × HasReport comma
 StatusMeans command source out err Memory = WroteLine err (codes "out of memory\n")
 StatusMeans command source out err NoStrand = (report : Report) × HasReport command source report × TellsNone err report.ending
 
--- What each status means where the words give no command.
+-- What each status means where the words aren't a command.
 abbrev pub Refuses : WordError → Watched → Status → Type 0
 Refuses (words.Bad number at) err Words = WroteLine err (words_line number at)
 Refuses error err Memory = WroteLine err (codes "out of memory\n")
@@ -114,7 +115,7 @@ abbrev pub KeepsPromise : Result Command WordError → Watched → Watched → W
 KeepsPromise (Ok command) source out err status = StatusMeans command source out err status
 KeepsPromise (Err error) source out err status = Refuses error err status
 
--- The words give no command that reads the source.
+-- The words aren't a command that reads the source.
 abbrev pub ReadsNone : Result Command WordError → Type 0
 ReadsNone (Ok command) = IsFalse (takes_script command)
 ReadsNone (Err error) = ⊤

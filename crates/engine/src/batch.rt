@@ -1,4 +1,4 @@
-// Runs of one script under a list of seeds, and what they write.
+// Runs one script under a list of seeds, and makes the report of all runs.
 
 ghost use Rattle.std.specs.Prelude.{◌≡◌, ◌≤◌, All, IfErr, IfOk, IsTrue, length, map};
 ghost use Rattle.std.specs.Arc.{arc_value};
@@ -11,7 +11,7 @@ ghost use Rattle.serial_meaning.specs.Plan.{PlanView};
 ghost use Rattle.serial_meaning.specs.Prints.{is_print};
 ghost use Rattle.engine.specs.Batches.{IsBatchOf, IsLawfulBatch, batch_ending, is_fault, plan_under, written};
 ghost use Rattle.engine.specs.Promise.{most_bytes};
-ghost use Rattle.engine.specs.Refusal.{IsMisfit};
+ghost use Rattle.engine.specs.Refusal.{IsRejection};
 ghost use Rattle.engine.specs.Report.{report_view};
 
 use crate::output::Output;
@@ -30,7 +30,7 @@ use std::alloc::{AllocError, Global};
 use std::sync::{Arc, Wait};
 use std::thread::Threads;
 
-/// The seeds of a batch, and what its runs have in common.
+/// The seeds of a batch, and the settings that its runs have in common.
 #[derive(Drop)]
 pub struct Batch {
     /// From 1 to 256 seeds. One may occur twice.
@@ -41,7 +41,7 @@ pub struct Batch {
     pub rounds: u32,
 }
 
-// The plan of the run under one seed. All plans share one script.
+// The plan under one seed. All plans share one script.
 fn plan_under(
     alloc: Global,
     batch: &Batch,
@@ -61,7 +61,7 @@ fn plan_under(
     Ok(Arc::new(alloc, make_plan(settings, script.share()?))?)
 }
 
-// The plans of all runs, in the order of the seeds.
+// The plans under all seeds, in order.
 #[tactic(auto, using(crate::proofs::BatchLemmas::plan_more))]
 fn plans(alloc: Global, batch: &Batch, script: &Checked) -> Result<Items<Arc<Plan>>, Refusal>
     requires { IsLawfulBatch batch.now }
@@ -88,7 +88,7 @@ fn any_fault<K: Keep>(answers: &[Answer<K>]) -> bool
     answers.iter().any(|answer| is_fault(&answer.outcome))
 }
 
-// A batch ends by a fault where one of its runs does.
+// A batch ends by a fault if one of its runs does.
 fn ending_for<K: Keep>(answers: &[Answer<K>]) -> ReportEnd
     ensures { result ≡ batch_ending (list_any (λ answer. is_fault answer.outcome) answers.now) }
 {
@@ -99,7 +99,7 @@ fn ending_for<K: Keep>(answers: &[Answer<K>]) -> ReportEnd
     }
 }
 
-// The report of the answers under all seeds, which keep prints only, where the plans show values only.
+// The report of answers that keep their prints alone, where the plans show values only.
 #[tactic(auto, using(crate::proofs::BatchLemmas::answers_whole, crate::proofs::BatchLemmas::answers_written))]
 fn prints_report(
     alloc: Global,
@@ -121,7 +121,7 @@ fn prints_report(
     }
 }
 
-// The report of the answers under all seeds, which keep all events.
+// The report of answers that keep all events.
 #[tactic(auto, using(crate::proofs::BatchLemmas::answers_whole, crate::proofs::BatchLemmas::answers_written))]
 fn log_report(
     alloc: Global,
@@ -148,10 +148,9 @@ fn copied(alloc: Global, seeds: &Items<u64>) -> Result<Items<u64>, AllocError>
     Ok(Items(seeds.as_slice().to_vec(alloc)?))
 }
 
-// The report of the runs of the script with this text under each seed, on this many workers. The gate hears of their
-// tasks.
+// Runs the script under each seed on this many workers, and makes the report. The gate is told of the tasks.
 #[tactic(auto, using(crate::proofs::BatchLemmas::batch_is, crate::proofs::KeptLemmas::all_kept))]
-pub(crate) fn ran_batch<R: Threads + Wait + Sync, G: Gate + Sync>(
+pub(crate) fn report_batch<R: Threads + Wait + Sync, G: Gate + Sync>(
     rt: &R,
     alloc: Global,
     batch: &Batch,
@@ -163,7 +162,7 @@ pub(crate) fn ran_batch<R: Threads + Wait + Sync, G: Gate + Sync>(
     requires workers { IsWorkers workers }
     requires within { length bytes.now ≤ most_bytes }
     ensures report { IfOk result (λ report. IsBatchOf batch.now bytes.now (report_view report)) }
-    ensures refused { IfErr result (IsMisfit IsValid bytes.now) }
+    ensures refused { IfErr result (IsRejection IsValid bytes.now) }
 {
     let script = valid_script(alloc, bytes)?;
     let plans = plans(alloc, batch, &script)?;

@@ -1,5 +1,5 @@
-// What a call does, from its words to its end. Nothing here has the error output: what its line says is decided before
-// it is written.
+// What a call does, from its words to its end. No function here has the error output: its line is decided before it is
+// written.
 
 ghost use Rattle.std.specs.Prelude.{◌≡◌, IfOk, IfErr, IsTrue, IsFalse, map, string_bytes};
 ghost use Rattle.draw_lines.specs.Lines.{CanDraw, lines_of};
@@ -12,14 +12,14 @@ ghost use Rattle.engine.specs.Promise.{HasReport, ReadWhole, ReadsNone, Watched,
 ghost use Rattle.engine.specs.Refusal.{IsCause, IsFetchRefusal};
 ghost use Rattle.engine.specs.Report.{report_view};
 
-use crate::batch::{Batch, ran_batch};
+use crate::batch::{Batch, report_batch};
 use crate::call_end::CallEnd;
 use crate::command::{is_whole, takes_script};
 use crate::line::{blocked_line, no_strand_line, words_line};
 use crate::output::Output;
 use crate::refusal::Refusal;
-use crate::report::{Report, ReportEnd, alone_report, script_report};
-use crate::run::ran_by_crew;
+use crate::report::{Report, ReportEnd, report_without_script, script_report};
+use crate::run::report_crew_run;
 use crew::Gate;
 use draw_lines::{Stream, StreamError, write_stream};
 use ped_io::{ReadError, Sink, Source, read_all, write_all};
@@ -32,7 +32,7 @@ use std::thread::Threads;
 
 const MOST_BYTES: u64 = 1048576;
 
-// All the bytes of the source.
+// Reads the source to its end.
 fn fetch<S: Source>(alloc: Global, source: &mut S) -> Result<Vec<u8>, Refusal>
     ensures whole { IfOk result (λ bytes. ReadWhole (watched S.left S.faults source.old source.new) bytes.items) }
     ensures refused { IfErr result (IsFetchRefusal (watched S.left S.faults source.old source.new)) }
@@ -45,11 +45,11 @@ fn fetch<S: Source>(alloc: Global, source: &mut S) -> Result<Vec<u8>, Refusal>
     }
 }
 
-// The report of a command, on the source's script where it takes one.
+// Makes a command's report. A command that takes a script reads it from the source.
 fn prepare<S: Source>(alloc: Global, command: Command, source: &mut S) -> Result<Report, Refusal>
     requires lawful { IsLawful command }
     requires whole { IsTrue (is_whole command) }
-    requires alone { IsFalse (is_batch command) }
+    requires not_batch { IsFalse (is_batch command) }
     ensures ready { IfOk result (λ report. HasReport command (watched S.left S.faults source.old source.new) (report_view report)) }
     ensures refused { IfErr result (IsCause command (watched S.left S.faults source.old source.new)) }
     ensures untouched { IsFalse (takes_script command) → source.new ≡ source.old }
@@ -58,11 +58,11 @@ fn prepare<S: Source>(alloc: Global, command: Command, source: &mut S) -> Result
         let bytes = fetch(alloc, source)?;
         script_report(alloc, command, &bytes)
     } else {
-        Ok(alone_report(alloc, command)?)
+        Ok(report_without_script(alloc, command)?)
     }
 }
 
-// The report of a run of the source's script on this many workers.
+// Makes the report of a run on this many workers.
 fn prepare_run<R: Threads + Wait + Sync, S: Source, G: Gate + Sync>(
     rt: &R,
     alloc: Global,
@@ -77,10 +77,10 @@ fn prepare_run<R: Threads + Wait + Sync, S: Source, G: Gate + Sync>(
     ensures refused { IfErr result (IsCause (Command.Run settings workers) (watched S.left S.faults source.old source.new)) }
 {
     let bytes = fetch(alloc, source)?;
-    ran_by_crew(rt, alloc, settings, workers, &bytes, gate)
+    report_crew_run(rt, alloc, settings, workers, &bytes, gate)
 }
 
-// The report of a batch of the source's script on this many workers.
+// Makes the report of a batch on this many workers.
 fn prepare_batch<R: Threads + Wait + Sync, S: Source, G: Gate + Sync>(
     rt: &R,
     alloc: Global,
@@ -95,10 +95,10 @@ fn prepare_batch<R: Threads + Wait + Sync, S: Source, G: Gate + Sync>(
     ensures refused { IfErr result (IsCause (batch_command batch.now workers) (watched S.left S.faults source.old source.new)) }
 {
     let bytes = fetch(alloc, source)?;
-    ran_batch(rt, alloc, batch, workers, &bytes, gate)
+    report_batch(rt, alloc, batch, workers, &bytes, gate)
 }
 
-/// Writes a text, and returns how the call ends: `whole` where all of it was written.
+/// Writes a text, and returns how the call ends: by `whole` where all of it was written, else by `Write`.
 pub fn put_text<K: Sink>(text: &[u8], whole: CallEnd, out: &mut K) -> CallEnd
     ensures { Puts text.now whole (watched K.written K.faults out.old out.new) result }
 {
@@ -108,8 +108,8 @@ pub fn put_text<K: Sink>(text: &[u8], whole: CallEnd, out: &mut K) -> CallEnd
     }
 }
 
-// Writes an output by pieces, and returns how the call ends: `whole` where all of it was written. The memory is taken
-// before the first write.
+// Writes an output piece by piece, and returns how the call ends: by `whole` where all of it was written. All memory is
+// taken before the first write.
 fn put_output<K: Sink>(alloc: Global, output: &Output, whole: CallEnd, out: &mut K) -> CallEnd
     requires { IsTrue (has_output (end_status whole)) }
     ensures put { PutsWhereRoom output.now whole (watched K.written K.faults out.old out.new) result }
@@ -124,7 +124,7 @@ fn put_output<K: Sink>(alloc: Global, output: &Output, whole: CallEnd, out: &mut
     }
 }
 
-// Writes a report, unless it says that there is no strand, and returns how the call ends.
+// Writes a report, unless there is no strand to report, and returns how the call ends.
 fn put_report<K: Sink>(alloc: Global, report: &Report, out: &mut K) -> CallEnd
     ensures delivered { Delivers report.now.output report.now.ending (watched K.written K.faults out.old out.new) result }
     ensures no_output { IsFalse (has_output (end_status result)) → out.new ≡ out.old }
@@ -143,7 +143,7 @@ fn put_report<K: Sink>(alloc: Global, report: &Report, out: &mut K) -> CallEnd
     }
 }
 
-// The same, without freeing the report: the process ends next, and freeing its events would take a third of the time of
+// The same without freeing the report: the process ends next, and freeing the events would take a third of the time of
 // a run on four workers.
 fn deliver<K: Sink>(alloc: Global, report: Report, out: &mut K) -> CallEnd
     ensures delivered { Delivers report.output report.ending (watched K.written K.faults out.old out.new) result }
@@ -154,7 +154,7 @@ fn deliver<K: Sink>(alloc: Global, report: Report, out: &mut K) -> CallEnd
     end
 }
 
-// The end of a call whose words are refused.
+// How a call ends whose words aren't a command.
 fn refused_words(alloc: Global, error: WordError) -> CallEnd
     ensures { EndRefuses error result }
 {
@@ -167,7 +167,7 @@ fn refused_words(alloc: Global, error: WordError) -> CallEnd
     }
 }
 
-// Runs a command whose report is made whole.
+// Runs a command whose report is made whole before it is written.
 fn answer_whole<S: Source, K: Sink>(
     alloc: Global,
     command: Command,
@@ -176,7 +176,7 @@ fn answer_whole<S: Source, K: Sink>(
 ) -> CallEnd
     requires lawful { IsLawful command }
     requires whole { IsTrue (is_whole command) }
-    requires alone { IsFalse (is_batch command) }
+    requires not_batch { IsFalse (is_batch command) }
     ensures answers { EndMeans command (watched S.left S.faults source.old source.new) (watched K.written K.faults out.old out.new) result }
     ensures untouched { IsFalse (takes_script command) → source.new ≡ source.old }
     ensures no_output { IsFalse (has_output (end_status result)) → out.new ≡ out.old }
@@ -187,7 +187,7 @@ fn answer_whole<S: Source, K: Sink>(
     }
 }
 
-// Writes a stream, block by block.
+// Runs `stream`, which draws and writes block by block.
 fn answer_stream<K: Sink>(alloc: Global, stream: Stream, count: u32, out: &mut K) -> CallEnd
     requires { CanDraw stream count }
     ensures delivered { Delivers (lines_of stream count) ReportEnd.Done (watched K.written K.faults out.old out.new) result }
@@ -200,7 +200,7 @@ fn answer_stream<K: Sink>(alloc: Global, stream: Stream, count: u32, out: &mut K
     }
 }
 
-// Runs a command whose report is written in parts, which reads no source.
+// Runs a command that writes its report in parts. Such a command reads no source.
 fn answer_in_parts<K: Sink>(alloc: Global, command: Command, out: &mut K) -> CallEnd
     requires lawful { IsLawful command }
     requires in_parts { IsFalse (is_whole command) }
@@ -235,7 +235,7 @@ fn answer_command<S: Source, K: Sink>(
     out: &mut K,
 ) -> CallEnd
     requires lawful { IsLawful command }
-    requires alone { IsFalse (is_batch command) }
+    requires not_batch { IsFalse (is_batch command) }
     ensures answers { EndMeans command (watched S.left S.faults source.old source.new) (watched K.written K.faults out.old out.new) result }
     ensures untouched { IsFalse (takes_script command) → source.new ≡ source.old }
     ensures no_output { IsFalse (has_output (end_status result)) → out.new ≡ out.old }
@@ -268,7 +268,7 @@ fn answer_run<R: Threads + Wait + Sync, S: Source, K: Sink, G: Gate + Sync>(
     }
 }
 
-// Runs a script under a list of seeds, on this many workers.
+// Runs a script under a list of seeds on this many workers.
 fn answer_batch<R: Threads + Wait + Sync, S: Source, K: Sink, G: Gate + Sync>(
     rt: &R,
     alloc: Global,
@@ -289,7 +289,7 @@ fn answer_batch<R: Threads + Wait + Sync, S: Source, K: Sink, G: Gate + Sync>(
     }
 }
 
-// Runs a command, `run` and `batch` by workers on threads.
+// Runs any command: `run` and `batch` on workers, others on the caller's thread.
 fn answer_command_by_crew<R: Threads + Wait + Sync, S: Source, K: Sink, G: Gate + Sync>(
     rt: &R,
     alloc: Global,
@@ -326,7 +326,8 @@ fn answer_command_by_crew<R: Threads + Wait + Sync, S: Source, K: Sink, G: Gate 
     }
 }
 
-// Reads the words and runs their command on the caller's thread. The first word isn't that of a command that runs on workers.
+// Reads the words and runs their command on the caller's thread. The first word must not name a command that runs on
+// workers.
 pub(crate) fn answer_words<S: Source, K: Sink>(
     alloc: Global,
     words: &[String],
@@ -345,7 +346,7 @@ pub(crate) fn answer_words<S: Source, K: Sink>(
     }
 }
 
-// Reads the words and runs their command. `run` and `batch` go by workers on threads. The gate hears of their tasks.
+// Reads the words and runs their command. `run` and `batch` run on workers, and the gate is told of their tasks.
 pub(crate) fn answer_words_by_crew<R: Threads + Wait + Sync, S: Source, K: Sink, G: Gate + Sync>(
     rt: &R,
     alloc: Global,

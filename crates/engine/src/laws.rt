@@ -2,15 +2,16 @@
 
 ghost use Rattle.engine.specs.Laws.{SimulationsAreOne, StreamsAreDraws};
 
-/// Number `i` of a stream, from 0, is what the strand `i` ranks later draws by the same seed or list and as many rounds, whatever the script,
-/// where it has such a strand: in a run of each depth that the strand is within, and in a replay of it, behind a fault too.
+/// `stream` prints what scripts draw: number `i`, from 0, is the draw of the strand `i` ranks later, under the same
+/// seed or list and with as many rounds, in any script that has this strand. That holds in a run of any depth that the
+/// strand is within, and in a replay of it, also after a fault.
 #[tactic(auto, using(crate::proofs::LawLemmas::streams_are_draws))]
 pub fn streams_are_draws()
     ensures { StreamsAreDraws }
 {}
 
-/// There is one report of a simulation, so its worker is a function of the script, the coefficients and limits, the number of workers and
-/// the number that picks the steps.
+/// A simulation has one report: the worker in it depends on the script, coefficients, limits, number of workers and the
+/// number that picks the steps, and on nothing else.
 pub fn simulations_are_one()
     ensures { SimulationsAreOne }
 {}

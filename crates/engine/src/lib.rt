@@ -1,4 +1,4 @@
-//! The program's top calls.
+//! All that the program does, as a call over any source and sinks.
 #![tactic(auto)]
 
 pub mod batch;
@@ -19,4 +19,4 @@ pub mod top;
 pub use crew::{Gate, OpenGate};
 pub use place::{FaultPlace, fault_place};
 pub use status::Status;
-pub use top::{is_run, pedrun, pedrun_plain, pedrun_run};
+pub use top::{pedrun, pedrun_plain, pedrun_run, runs_on_workers};

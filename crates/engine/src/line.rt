@@ -1,4 +1,4 @@
-// The lines of the error output that name a place or a pedigree.
+// Lines of the error output that name a position or a pedigree.
 
 ghost use Rattle.std.specs.Prelude.{◌≡◌, ◌++◌, IfOk, codes, string_bytes};
 ghost use Rattle.ped_path.specs.Text.{ped_text};
@@ -11,7 +11,7 @@ use script_text::fault_text;
 use serial_meaning::Memory;
 use std::alloc::{AllocError, Global};
 
-/// The line of a rule that the words break.
+/// `words: TEXT at word I`, for a rule that the words break.
 pub fn words_line(alloc: Global, number: u8, at: u32) -> Result<String, AllocError>
     ensures { IfOk result (λ line. string_bytes line ≡ words_line number at) }
 {
@@ -19,7 +19,7 @@ pub fn words_line(alloc: Global, number: u8, at: u32) -> Result<String, AllocErr
     format!(in alloc; "words: {text} at word {at}\n")
 }
 
-/// The line of a text's first fault.
+/// `script: TEXT at byte O`, for the first fault of a text.
 pub fn syntax_line(alloc: Global, number: u8, at: u32) -> Result<String, AllocError>
     ensures { IfOk result (λ line. string_bytes line ≡ syntax_line number at) }
 {
@@ -27,7 +27,7 @@ pub fn syntax_line(alloc: Global, number: u8, at: u32) -> Result<String, AllocEr
     format!(in alloc; "script: {text} at byte {at}\n")
 }
 
-/// The line of the first condition that a script violates.
+/// `script: TEXT at byte O`, for the first condition that a script violates.
 pub fn check_line(alloc: Global, number: u8, at: u32) -> Result<String, AllocError>
     ensures { IfOk result (λ line. string_bytes line ≡ check_line number at) }
 {
@@ -44,14 +44,14 @@ fn pedigree_line(alloc: Global, text: &[u8], at: &Pedigree) -> Result<Vec<u8>, M
     Ok(line)
 }
 
-/// The line of a pedigree that no strand has.
+/// `no strand J`, for a pedigree that no strand has.
 pub fn no_strand_line(alloc: Global, at: &Pedigree) -> Result<Vec<u8>, Memory>
     ensures { IfOk result (λ line. line.items ≡ no_strand_line at.now) }
 {
     pedigree_line(alloc, b"no strand ", at)
 }
 
-/// The line of a strand that isn't known, since a fault with this pedigree comes before it.
+/// `blocked by fault F`, for a strand that a fault with this pedigree comes before.
 pub fn blocked_line(alloc: Global, at: &Pedigree) -> Result<Vec<u8>, Memory>
     ensures { IfOk result (λ line. line.items ≡ blocked_line at.now) }
 {

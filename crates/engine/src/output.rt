@@ -1,4 +1,4 @@
-// The bytes for the output.
+// The output of a report, as it is kept until it is written.
 
 ghost use Rattle.std.specs.Prelude.{◌≡◌, ◌++◌, [], All, OnErr, OnOk, length};
 ghost use Rattle.ped_io.specs.Causes.{HasCause};
@@ -8,31 +8,32 @@ ghost use Rattle.seed_batch.specs.Batch.{batch_text};
 ghost use Rattle.serial_meaning.specs.Answer.{AnswerView};
 ghost use Rattle.serial_meaning.specs.KeptLines.{KeepsLines};
 ghost use Rattle.serial_meaning.specs.Prints.{is_print};
-ghost use Rattle.serial_meaning.specs.Render.{IsWhole, answer_text};
+ghost use Rattle.serial_meaning.specs.Render.{IsWhole, answer_text, strand_text};
 
 use contract_views::Items;
 use ped_io::{Failed, Sink};
-use run_lines::{Page, put_answer};
+use run_lines::{Page, put_answer, put_strand};
 use seed_batch::put_batch;
-use serial_meaning::{Answer, Prints};
+use serial_meaning::{Answer, Prints, Strand};
 use std::alloc::Global;
 use std::marker::Model;
 
-/// The bytes for the output: a text, and after it the lines of runs, which are made as they are written. Contracts see
-/// the list of all these bytes.
+/// The output of a report: a text, and after it the lines of runs or of a strand, which are made only as they are
+/// written. Contracts see it as the list of all its bytes.
 #[derive(Drop)]
 pub struct Output {
     text: Vec<u8>,
     runs: Runs,
 }
 
-// Runs by their answers, each of which keeps the events that have a line.
+// The answers of runs, each of which has kept the events that have a line, or a strand.
 #[derive(Drop)]
 enum Runs {
     Nothing,
     Prints(Answer<Prints>),
     Log(Answer),
-    // The runs under these seeds.
+    Strand(Strand),
+    // The runs under a list of seeds.
     SeedsPrints(Items<u64>, Items<Answer<Prints>>),
     SeedsLogs(Items<u64>, Items<Answer>),
 }
@@ -49,7 +50,7 @@ impl Model for Output {
 }
 
 impl Output {
-    /// A text alone.
+    /// A text, and no runs.
     pub fn text(text: Vec<u8>) -> Output
         ensures { result ≡ text.items }
     {
@@ -59,7 +60,7 @@ impl Output {
         }
     }
 
-    /// The lines of a run whose answer keeps prints only.
+    /// The lines of a run whose answer keeps its prints alone, which must be enough for what it shows.
     pub fn prints(alloc: Global, answer: Answer<Prints>) -> Output
         requires whole { IsWhole answer.outcome }
         requires lines { KeepsLines is_print answer.plan.show }
@@ -82,7 +83,17 @@ impl Output {
         }
     }
 
-    /// The lines of a batch whose answers keep prints only.
+    /// The lines of a strand.
+    pub fn strand(alloc: Global, strand: Strand) -> Output
+        ensures { result ≡ strand_text strand }
+    {
+        Output {
+            text: Vec::new(alloc),
+            runs: Runs::Strand(strand),
+        }
+    }
+
+    /// The lines of a batch whose answers keep their prints alone.
     pub fn batch_of_prints(
         alloc: Global,
         seeds: Items<u64>,
@@ -120,10 +131,10 @@ impl Output {
         self.runs.put(page, out)
     }
 
-    /// Writes all bytes, through a page on which nothing waits. It takes no memory.
+    /// Writes all bytes through a page, which must be empty. It takes no memory.
     ///
     /// # Errors
-    /// `Failed` where a write failed. A prefix of the bytes was written.
+    /// `Failed` where a write failed: a prefix of the bytes was written.
     pub fn write<S: Sink>(&self, page: &mut Page, out: &mut S) -> Result<(), Failed>
         requires { page.old ≡ [] }
         ensures all { OnOk result (Appends (S.written out.old) (S.written out.new) self.now) }
@@ -148,6 +159,7 @@ impl Runs {
             Runs::Nothing => Ok(()),
             Runs::Prints(answer) => put_answer(answer, page, out),
             Runs::Log(answer) => put_answer(answer, page, out),
+            Runs::Strand(strand) => put_strand(strand, page, out),
             Runs::SeedsPrints(seeds, answers) => put_batch(seeds, answers, page, out),
             Runs::SeedsLogs(seeds, answers) => put_batch(seeds, answers, page, out),
         }

@@ -1,4 +1,4 @@
-// Where the fault of a strand came from.
+// Where in the script the fault of a strand came from.
 
 ghost use Rattle.std.specs.Prelude.{◌≤◌, length, map, string_bytes, IfSome};
 ghost use Rattle.ped_words.specs.Commands.{AreLawful};
@@ -6,26 +6,26 @@ ghost use Rattle.ped_words.specs.Reading.{reading};
 ghost use Rattle.engine.specs.FaultPlaces.{IsPlaceBy, IsPlaceIn, IsPlaceUnder};
 ghost use Rattle.engine.specs.Promise.{most_bytes};
 
-use crate::run::planned;
+use crate::run::plan_script;
 use ped_path::Pedigree;
 use ped_words::{Command, Settings, read_words};
 use script_grammar::NameText;
 use serial_meaning::Plan;
 use std::alloc::Global;
 
-// The most bytes of a script's text.
+// A script has at most this many bytes.
 const MOST_BYTES: usize = 1048576;
 
-/// Where an instance stood when it met a fault of its own.
+/// Where in the script an instance met a fault of its own.
 #[derive(Drop)]
 pub struct FaultPlace {
-    /// The name of the function.
+    /// The function's name.
     pub function: NameText,
-    /// The offset in the text of the statement that met it, or of the word `return`.
+    /// The offset in the text of the statement that met the fault, or of the word `return`.
     pub at: u32,
 }
 
-// The place in the plan's function with this index.
+// The place at offset `at`, in the script's function with this index.
 fn place_in(plan: &Plan, function: u32, at: u32) -> Option<FaultPlace>
     ensures { IfSome result (IsPlaceIn plan.now function at) }
 {
@@ -36,13 +36,13 @@ fn place_in(plan: &Plan, function: u32, at: u32) -> Option<FaultPlace>
     })
 }
 
-// The place of the fault of the strand with this pedigree.
+// The place where the strand with this pedigree met its fault.
 fn place_under(alloc: Global, settings: Settings, at: &Pedigree, bytes: &[u8]) -> Option<FaultPlace>
     requires lawful { AreLawful settings }
     requires within { length bytes.now ≤ most_bytes }
     ensures { IfSome result (IsPlaceUnder settings at.now bytes.now) }
 {
-    let Ok(plan) = planned(alloc, settings, bytes) else {
+    let Ok(plan) = plan_script(alloc, settings, bytes) else {
         return None;
     };
     match replay::fault_place(alloc, &plan, at) {
@@ -51,11 +51,11 @@ fn place_under(alloc: Global, settings: Settings, at: &Pedigree, bytes: &[u8]) -
     }
 }
 
-/// Where the fault of a strand came from: the strand that the words of this `replay` call name, in the script with this
-/// text. None where the words or the script aren't valid, where the strand has no fault of its own, and where there was
-/// no memory.
+/// Where the fault of a strand came from. The words are those of a `replay` call, which name the strand, and the bytes
+/// are the script's text. `None` where the words aren't such a call, the script isn't valid, there is no such strand or
+/// it has no fault of its own, and where memory ran out.
 ///
-/// It takes as long as the replay, and the run of the strand's instance once more.
+/// It takes as long as the replay and one more run of the strand's instance.
 pub fn fault_place(alloc: Global, words: &[String], bytes: &[u8]) -> Option<FaultPlace>
     ensures { IfSome result (IsPlaceBy (reading (map string_bytes words.now)) bytes.now) }
 {

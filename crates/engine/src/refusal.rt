@@ -1,4 +1,4 @@
-// Why a command has no report.
+// Why no report could be made.
 
 ghost use Rattle.std.specs.Prelude.{◌≡◌};
 ghost use Rattle.engine.specs.Lines.{check_line, syntax_line};
@@ -7,13 +7,13 @@ ghost use Rattle.engine.specs.Refusal.{IsRefusalLine};
 use crate::line::{check_line, syntax_line};
 use std::alloc::{AllocError, AllocFailed, Global};
 
-/// Why a command has no report.
+/// Why no report could be made.
 #[derive(Drop)]
 pub enum Refusal {
     /// The source has more than 1048576 bytes.
     TooLong,
     /// The source's text isn't a script that the command takes; the line that says why.
-    Untaken(String),
+    Rejected(String),
     /// A read failed.
     Read,
     /// There was no memory.
@@ -21,21 +21,21 @@ pub enum Refusal {
 }
 
 /// The refusal of a text with this fault.
-pub fn no_text(alloc: Global, number: u8, at: u32) -> Refusal
+pub fn syntax_refusal(alloc: Global, number: u8, at: u32) -> Refusal
     ensures { IsRefusalLine (syntax_line number at) result }
 {
     match syntax_line(alloc, number, at) {
-        Ok(line) => Refusal::Untaken(line),
+        Ok(line) => Refusal::Rejected(line),
         Err(_) => Refusal::Memory,
     }
 }
 
 /// The refusal of a script that violates this condition.
-pub fn invalid(alloc: Global, number: u8, at: u32) -> Refusal
+pub fn check_refusal(alloc: Global, number: u8, at: u32) -> Refusal
     ensures { IsRefusalLine (check_line number at) result }
 {
     match check_line(alloc, number, at) {
-        Ok(line) => Refusal::Untaken(line),
+        Ok(line) => Refusal::Rejected(line),
         Err(_) => Refusal::Memory,
     }
 }

@@ -1,4 +1,4 @@
-// Runs of a script, and what they write.
+// Runs a script in each way, and makes the report of the run.
 
 ghost use Rattle.std.specs.Prelude.{◌≡◌, ◌≤◌, ◌++◌, [], IfErr, IfOk, length};
 ghost use Rattle.std.specs.Arc.{arc_value};
@@ -11,7 +11,7 @@ ghost use Rattle.serial_meaning.specs.Render.{IsWhole, end_line};
 ghost use Rattle.strand_meaning.specs.Laws.{IsFaultOf};
 ghost use Rattle.strand_meaning.specs.Strands.{strand_at};
 ghost use Rattle.engine.specs.Promise.{most_bytes};
-ghost use Rattle.engine.specs.Refusal.{IsMisfit};
+ghost use Rattle.engine.specs.Refusal.{IsRejection};
 ghost use Rattle.engine.specs.Report.{IsPlanIn, IsPlanOf, IsReplayOf, IsRunOf, IsSimOf, IsSpanOf, IsSpanReport, found_report, outcome_ending, plan_of, run_report, report_view, span_lines, strand_report, worker_line};
 
 use crate::output::Output;
@@ -32,7 +32,7 @@ use std::alloc::{AllocError, Global};
 use std::sync::{Arc, Wait};
 use std::thread::Threads;
 
-// The plan of these settings and this script.
+// The plan of a script with these settings.
 pub(crate) fn make_plan(settings: Settings, script: Checked) -> Plan
     requires { AreLawful settings }
     ensures { result ≡ plan_of settings script }
@@ -46,14 +46,18 @@ pub(crate) fn make_plan(settings: Settings, script: Checked) -> Plan
     Plan::new(script, gamma, limits, show, rounds)
 }
 
-// The plan of the script with this text.
+// The plan of the script with this text, which is judged first.
 #[tactic(auto, using(crate::proofs::BatchLemmas::only_plan))]
-pub(crate) fn planned(alloc: Global, settings: Settings, bytes: &[u8]) -> Result<Arc<Plan>, Refusal>
+pub(crate) fn plan_script(
+    alloc: Global,
+    settings: Settings,
+    bytes: &[u8],
+) -> Result<Arc<Plan>, Refusal>
     requires lawful { AreLawful settings }
     requires within { length bytes.now ≤ most_bytes }
     ensures plan { IfOk result (λ plan. IsPlanOf settings bytes.now (arc_value plan)) }
     ensures only { IfOk result (λ plan. IsPlanIn settings bytes.now (arc_value plan)) }
-    ensures refused { IfErr result (IsMisfit IsValid bytes.now) }
+    ensures refused { IfErr result (IsRejection IsValid bytes.now) }
 {
     let script = valid_script(alloc, bytes)?;
     Ok(Arc::new(alloc, make_plan(settings, script))?)
@@ -68,7 +72,7 @@ fn ending_for(outcome: &Outcome) -> ReportEnd
     }
 }
 
-// The report of main's answer, which keeps prints only, where the plan shows values only.
+// The report of an answer of main that keeps its prints alone, where the plan shows values only.
 fn prints_report(alloc: Global, answer: Answer<Prints>) -> Report
     requires main { answer.origin ≡ main_origin answer.plan }
     requires whole { IsWhole answer.outcome }
@@ -83,7 +87,7 @@ fn prints_report(alloc: Global, answer: Answer<Prints>) -> Report
     }
 }
 
-// The report of main's answer, which keeps all events, with this text before its lines.
+// The report of an answer of main that keeps all events, with a text before its lines.
 fn log_report(text: Vec<u8>, answer: Answer) -> Report
     requires main { answer.origin ≡ main_origin answer.plan }
     requires whole { IsWhole answer.outcome }
@@ -99,7 +103,7 @@ fn log_report(text: Vec<u8>, answer: Answer) -> Report
 }
 
 // Runs main on the caller's thread.
-fn run_alone<K: Keep>(alloc: Global, plan: &Arc<Plan>) -> Result<Answer<K>, crew::Memory>
+fn run_serially<K: Keep>(alloc: Global, plan: &Arc<Plan>) -> Result<Answer<K>, crew::Memory>
     ensures plan { IfOk result (λ answer. answer.plan ≡ arc_value plan.now) }
     ensures origin { IfOk result (λ answer. answer.origin ≡ main_origin (arc_value plan.now)) }
     ensures fault { IfOk result (λ answer. IsFaultOf (arc_value plan.now) answer.outcome) }
@@ -108,30 +112,34 @@ fn run_alone<K: Keep>(alloc: Global, plan: &Arc<Plan>) -> Result<Answer<K>, crew
     run_serial_keeping(alloc, plan, origin)
 }
 
-// The report of a run on the caller's thread, of the script with this text.
+// Runs the script with this text on the caller's thread.
 #[tactic(auto, using(crate::proofs::KeptLemmas::all_kept, crate::proofs::KeptLemmas::prints_kept_of))]
-pub(crate) fn ran(alloc: Global, settings: Settings, bytes: &[u8]) -> Result<Report, Refusal>
+pub(crate) fn report_serial_run(
+    alloc: Global,
+    settings: Settings,
+    bytes: &[u8],
+) -> Result<Report, Refusal>
     requires lawful { AreLawful settings }
     requires within { length bytes.now ≤ most_bytes }
     ensures report { IfOk result (λ report. IsRunOf settings bytes.now (report_view report)) }
-    ensures refused { IfErr result (IsMisfit IsValid bytes.now) }
+    ensures refused { IfErr result (IsRejection IsValid bytes.now) }
 {
-    let plan = planned(alloc, settings, bytes)?;
+    let plan = plan_script(alloc, settings, bytes)?;
     match plan.show {
         Show::Plain => {
-            let prints: Answer<Prints> = run_alone(alloc, &plan)?;
+            let prints: Answer<Prints> = run_serially(alloc, &plan)?;
             Ok(prints_report(alloc, prints))
         }
         Show::Log => {
-            let answer: Answer = run_alone(alloc, &plan)?;
+            let answer: Answer = run_serially(alloc, &plan)?;
             Ok(log_report(Vec::new(alloc), answer))
         }
     }
 }
 
-// The same for a run on this many workers. The gate hears of their tasks.
+// The same on this many workers. The gate is told of their tasks.
 #[tactic(auto, using(crate::proofs::KeptLemmas::all_kept, crate::proofs::KeptLemmas::prints_kept_of))]
-pub(crate) fn ran_by_crew<R: Threads + Wait + Sync, G: Gate + Sync>(
+pub(crate) fn report_crew_run<R: Threads + Wait + Sync, G: Gate + Sync>(
     rt: &R,
     alloc: Global,
     settings: Settings,
@@ -143,9 +151,9 @@ pub(crate) fn ran_by_crew<R: Threads + Wait + Sync, G: Gate + Sync>(
     requires workers { IsWorkers workers }
     requires within { length bytes.now ≤ most_bytes }
     ensures report { IfOk result (λ report. IsRunOf settings bytes.now (report_view report)) }
-    ensures refused { IfErr result (IsMisfit IsValid bytes.now) }
+    ensures refused { IfErr result (IsRejection IsValid bytes.now) }
 {
-    let plan = planned(alloc, settings, bytes)?;
+    let plan = plan_script(alloc, settings, bytes)?;
     match plan.show {
         Show::Plain => {
             let prints = run_crew_of_prints(rt, alloc, &plan, workers, gate)?;
@@ -165,7 +173,7 @@ fn worker_line(alloc: Global, worker: u32) -> Result<Vec<u8>, AllocError>
     Ok(line.into_bytes())
 }
 
-// The report of main's answer in a simulation, and of the worker that gave it.
+// The report of a simulation: the worker, and then main's answer.
 fn sim_report(alloc: Global, simulated: Simulated) -> Result<Report, AllocError>
     requires main { simulated.answer.origin ≡ main_origin simulated.answer.plan }
     requires whole { IsWhole simulated.answer.outcome }
@@ -177,9 +185,8 @@ fn sim_report(alloc: Global, simulated: Simulated) -> Result<Report, AllocError>
     Ok(log_report(text, answer))
 }
 
-// The report of a simulated run on this many workers, of the script with this text. The words of the number pick its
-// events.
-pub(crate) fn simulated(
+// Simulates a run of the script with this text on this many workers. The number picks the schedule.
+pub(crate) fn report_simulation(
     alloc: Global,
     settings: Settings,
     workers: u32,
@@ -190,14 +197,14 @@ pub(crate) fn simulated(
     requires workers { IsWorkers workers }
     requires within { length bytes.now ≤ most_bytes }
     ensures report { IfOk result (λ report. IsSimOf settings workers number bytes.now (report_view report)) }
-    ensures refused { IfErr result (IsMisfit IsValid bytes.now) }
+    ensures refused { IfErr result (IsRejection IsValid bytes.now) }
 {
-    let plan = planned(alloc, settings, bytes)?;
+    let plan = plan_script(alloc, settings, bytes)?;
     let simulated = simulate(alloc, &plan, workers, number)?;
     Ok(sim_report(alloc, simulated)?)
 }
 
-// The line of the fault by which an answer ended, if it did.
+// The line of the fault by which an answer ended, if one did.
 fn end_line(alloc: Global, outcome: Outcome) -> Result<Vec<u8>, Memory>
     ensures { IfOk result (λ line. line.items ≡ end_line outcome) }
 {
@@ -227,7 +234,7 @@ fn into_outcome(answer: Answer) -> Outcome
     answer.outcome
 }
 
-// Work and span of main's answer, and the line of its fault.
+// The report of the work and span of main's answer, and of its fault.
 fn measure_report(alloc: Global, answer: Answer) -> Result<Report, Memory>
     requires main { answer.origin ≡ main_origin answer.plan }
     requires whole { IsWhole answer.outcome }
@@ -247,35 +254,38 @@ fn measure_report(alloc: Global, answer: Answer) -> Result<Report, Memory>
     })
 }
 
-// The report of the work and the span of a run on the caller's thread, of the script with this text.
-pub(crate) fn measured(alloc: Global, settings: Settings, bytes: &[u8]) -> Result<Report, Refusal>
+// Runs the script with this text on the caller's thread, and reports work and span.
+pub(crate) fn report_span(
+    alloc: Global,
+    settings: Settings,
+    bytes: &[u8],
+) -> Result<Report, Refusal>
     requires lawful { AreLawful settings }
     requires within { length bytes.now ≤ most_bytes }
     ensures report { IfOk result (λ report. IsSpanOf settings bytes.now (report_view report)) }
-    ensures refused { IfErr result (IsMisfit IsValid bytes.now) }
+    ensures refused { IfErr result (IsRejection IsValid bytes.now) }
 {
-    let plan = planned(alloc, settings, bytes)?;
-    let answer = run_alone(alloc, &plan)?;
+    let plan = plan_script(alloc, settings, bytes)?;
+    let answer = run_serially(alloc, &plan)?;
     Ok(measure_report(alloc, answer)?)
 }
 
 // The report of a strand.
-fn strand_report(alloc: Global, strand: &Strand) -> Result<Report, Memory>
-    ensures { IfOk result (λ report. report_view report ≡ strand_report strand.now) }
+fn strand_report(alloc: Global, strand: Strand) -> Report
+    ensures { report_view result ≡ strand_report strand }
 {
-    let text = render_strand(alloc, strand)?;
     let ending = match &strand.fault {
         Some(_) => ReportEnd::Faulted,
         None => ReportEnd::Done,
     };
-    Ok(Report {
-        output: Output::text(text),
+    Report {
+        output: Output::strand(alloc, strand),
         ending,
-    })
+    }
 }
 
-// No output, and why.
-fn absent(alloc: Global, ending: ReportEnd) -> Report
+// A report without output.
+fn empty_report(alloc: Global, ending: ReportEnd) -> Report
     ensures { report_view result ≡ record { output = []; ending = ending } }
 {
     Report {
@@ -284,21 +294,21 @@ fn absent(alloc: Global, ending: ReportEnd) -> Report
     }
 }
 
-// The report of a replay of the strand with this pedigree.
+// Replays the strand with this pedigree under the plan.
 fn replay_report(alloc: Global, plan: &Arc<Plan>, at: Pedigree) -> Result<Report, Refusal>
     ensures report { IfOk result (λ report. report_view report ≡ found_report at (strand_at (arc_value plan.now) at)) }
     ensures refused { IfErr result (λ refusal. refusal ≡ Refusal.Memory) }
 {
     match replay(alloc, plan, &at) {
-        Ok(strand) => Ok(strand_report(alloc, &strand)?),
-        Err(ReplayError::NoStrand) => Ok(absent(alloc, ReportEnd::NoStrand(at))),
-        Err(ReplayError::Blocked(fault)) => Ok(absent(alloc, ReportEnd::Blocked(fault))),
+        Ok(strand) => Ok(strand_report(alloc, strand)),
+        Err(ReplayError::NoStrand) => Ok(empty_report(alloc, ReportEnd::NoStrand(at))),
+        Err(ReplayError::Blocked(fault)) => Ok(empty_report(alloc, ReportEnd::Blocked(fault))),
         Err(ReplayError::Memory) => Err(Refusal::Memory),
     }
 }
 
-// The report of a replay, on the script with this text.
-pub(crate) fn replayed(
+// Replays the strand with this pedigree in the script with this text.
+pub(crate) fn report_replay(
     alloc: Global,
     settings: Settings,
     at: Pedigree,
@@ -307,8 +317,8 @@ pub(crate) fn replayed(
     requires lawful { AreLawful settings }
     requires within { length bytes.now ≤ most_bytes }
     ensures report { IfOk result (λ report. IsReplayOf settings at bytes.now (report_view report)) }
-    ensures refused { IfErr result (IsMisfit IsValid bytes.now) }
+    ensures refused { IfErr result (IsRejection IsValid bytes.now) }
 {
-    let plan = planned(alloc, settings, bytes)?;
+    let plan = plan_script(alloc, settings, bytes)?;
     replay_report(alloc, &plan, at)
 }

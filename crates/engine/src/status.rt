@@ -1,16 +1,16 @@
-// How a call ends.
+// The exit statuses.
 
 ghost use Rattle.std.specs.Prelude.{◌≡◌};
 ghost use Rattle.engine.specs.Status.{code_of};
 
-/// How a call ends. The program's exit status is its code.
+/// How a call ended. The program's exit status is its code.
 #[derive(Clone, Copy, Debug, PartialEq, Eq)]
 pub enum Status {
     /// The whole output was written.
     Done,
     /// The whole output was written, and its last line is a fault's.
     Faulted,
-    /// The words are no command. Nothing was read.
+    /// The words aren't a command. Nothing was read.
     Words,
     /// The script has more than 1048576 bytes, isn't in the grammar, or isn't valid. `fmt` takes one that isn't valid.
     Script,
@@ -18,9 +18,10 @@ pub enum Status {
     Read,
     /// A write of the output failed. A prefix of it was written.
     Write,
-    /// There was no memory. Nothing was written to the output.
+    /// Memory ran out. Nothing was written to the output.
     Memory,
-    /// No strand has the pedigree that was asked for, or the way to it is blocked by a child's fault. Nothing was written to the output.
+    /// No strand has the pedigree that was asked for, or a child's fault ends the way down to it. Nothing was written
+    /// to the output.
     NoStrand,
 }
 

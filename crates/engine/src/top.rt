@@ -1,4 +1,4 @@
-// The top calls.
+// The top calls: the whole program but for the standard streams.
 
 ghost use Rattle.std.specs.Prelude.{◌↔◌, IsTrue, map, string_bytes};
 ghost use Rattle.ped_words.specs.Reading.{reading};
@@ -6,7 +6,7 @@ ghost use Rattle.engine.specs.Clauses.{IsTopCall, change};
 ghost use Rattle.engine.specs.Commands.{RunsOnWorkers, IsRunWord};
 
 use crate::call::{answer_words, answer_words_by_crew};
-use crate::call_end::tell;
+use crate::call_end::write_end;
 use crate::status::Status;
 use crew::Gate;
 use ped_io::{Sink, Source};
@@ -21,8 +21,8 @@ fn is_run_word(word: &str) -> bool
     matches!(word, "run" | "batch")
 }
 
-/// Whether the words say a command that runs on workers: the first one is `run` or `batch`.
-pub fn is_run(words: &[String]) -> bool
+/// Whether the words name a command that runs on workers: the first one is `run` or `batch`.
+pub fn runs_on_workers(words: &[String]) -> bool
     ensures { IsTrue result ↔ RunsOnWorkers (map string_bytes words.now) }
 {
     match words {
@@ -33,15 +33,16 @@ pub fn is_run(words: &[String]) -> bool
 
 /// All that the program does, over any source of the script, sink of the output and sink of the error line.
 ///
-/// `words` are those of the command line without the program's name. The clauses are the fields of `IsTopCall`. What each status means, and
-/// which bytes were read and written then, is `promise`; `words` to `complete` say its parts. Statuses 2 to 7 come with one line on `err`,
-/// or a prefix of it where `err` failed. `events` says what holds of each run.
+/// `words` are those of the command line without the program's name. The clauses are the fields of `IsTopCall`:
+/// `promise` says what each status means, and which bytes were read and written then; `words` to `complete` say its
+/// parts one by one; `events` says what holds of every run. Statuses 2 to 7 come with one line on `err`, or a prefix of
+/// it where `err` failed.
 ///
-/// Status and line are decided by calls that aren't lent `err`, and the one that writes the line returns nothing. So whether `err` takes it
-/// changes no status; that is read off the bodies, and no clause says it.
+/// A failed write to `err` changes no status: status and line are decided by calls that don't have `err`, and the one
+/// that writes the line returns nothing. No clause says this; it is read off the bodies.
 ///
-/// The commands `run` and `batch` go by workers on threads of `rt`, and `gate` is told of their tasks. No clause speaks of the gate, or of the
-/// number of workers beyond the words.
+/// `run` and `batch` run on workers, in threads of `rt`, and `gate` is told of their tasks. No clause speaks of the
+/// gate, nor of how many of the workers there really are.
 pub fn pedrun<R: Threads + Wait + Sync, S: Source, K: Sink, E: Sink, G: Gate + Sync>(
     rt: &R,
     alloc: Global,
@@ -54,14 +55,15 @@ pub fn pedrun<R: Threads + Wait + Sync, S: Source, K: Sink, E: Sink, G: Gate + S
     ensures { IsTopCall (reading (map string_bytes words.now)) (change S.left S.faults script.old script.new)
         (change K.written K.faults out.old out.new) (change E.written E.faults err.old err.new) result }
 {
-    if is_run(words) {
+    if runs_on_workers(words) {
         pedrun_run(rt, alloc, words, script, out, err, gate)
     } else {
         pedrun_plain(alloc, words, script, out, err)
     }
 }
 
-/// What `pedrun` does where the first word is neither `run` nor `batch`, or there is none: it starts no thread, waits for none, and returns.
+/// What `pedrun` does where the first word is neither `run` nor `batch`, or there is no word. It starts no thread,
+/// waits for none, and always returns.
 pub fn pedrun_plain<S: Source, K: Sink, E: Sink>(
     alloc: Global,
     words: &[String],
@@ -74,7 +76,7 @@ pub fn pedrun_plain<S: Source, K: Sink, E: Sink>(
         (change K.written K.faults out.old out.new) (change E.written E.faults err.old err.new) result }
 {
     let end = answer_words(alloc, words, script, out);
-    tell(&end, err);
+    write_end(&end, err);
     end.status()
 }
 
@@ -93,6 +95,6 @@ pub fn pedrun_run<R: Threads + Wait + Sync, S: Source, K: Sink, E: Sink, G: Gate
         (change K.written K.faults out.old out.new) (change E.written E.faults err.old err.new) result }
 {
     let end = answer_words_by_crew(rt, alloc, words, script, out, gate);
-    tell(&end, err);
+    write_end(&end, err);
     end.status()
 }

@@ -1,4 +1,4 @@
--- The pieces of a line.
+-- The text of a line's pieces.
 use Rattle.std.specs.Prelude.{ℕ, List, decimal, flat_map}
 use Rattle.std.specs.Fmt.{signed_decimal}
 use Rattle.ped_path.specs.Text.{ped_text}

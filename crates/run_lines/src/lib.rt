@@ -1,4 +1,4 @@
-//! A run's lines, written by pieces through a page of bounded size.
+//! The lines of a run or of a strand, written by pieces through a page of bounded size.
 #![tactic(auto)]
 
 mod line;
@@ -7,4 +7,4 @@ mod run;
 
 pub use line::{Piece, put_pieces};
 pub use page::Page;
-pub use run::put_answer;
+pub use run::{put_answer, put_strand};

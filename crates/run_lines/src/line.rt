@@ -13,7 +13,7 @@ use ped_io::{Failed, Sink};
 use ped_path::Pedigree;
 use serial_meaning::{Fault, FaultKind, Value};
 
-/// A piece of a line.
+/// A piece of a line. Pieces go to the page one by one; no line is put together first.
 #[derive(Clone, Copy)]
 pub enum Piece<'a> {
     Text(&'a [u8]),
@@ -39,7 +39,7 @@ fn put_signed<S: Sink>(number: i64, page: &mut Page, out: &mut S) -> Result<(), 
     page.put(Buffer::new().format(number).as_bytes(), out)
 }
 
-// Puts a rank, and a full stop after it.
+// A rank with a full stop after it.
 fn put_rank<S: Sink>(rank: u64, page: &mut Page, out: &mut S) -> Result<(), Failed>
     ensures all { OnOk result (Puts (S.written out.old) (S.written out.new) page.old page.new (decimal rank ++ codes ".")) }
     ensures front { OnErr result (AppendsFront (S.written out.old) (S.written out.new) (page.old ++ (decimal rank ++ codes "."))) }
@@ -77,10 +77,10 @@ fn put_piece<S: Sink>(piece: &Piece, page: &mut Page, out: &mut S) -> Result<(),
     }
 }
 
-/// Puts these pieces, one after the other.
+/// Puts the pieces, one after the other.
 ///
 /// # Errors
-/// `Failed` where a write failed. A prefix of what waited and of the pieces was written.
+/// `Failed` where a write failed: of the bytes that waited and these pieces, a prefix was written.
 pub fn put_pieces<S: Sink>(pieces: &[Piece], page: &mut Page, out: &mut S) -> Result<(), Failed>
     ensures all { OnOk result (Puts (S.written out.old) (S.written out.new) page.old page.new (pieces_text pieces.now)) }
     ensures front { OnErr result (AppendsFront (S.written out.old) (S.written out.new) (page.old ++ pieces_text pieces.now)) }
@@ -92,7 +92,7 @@ pub fn put_pieces<S: Sink>(pieces: &[Piece], page: &mut Page, out: &mut S) -> Re
     Ok(())
 }
 
-// Puts the line of a draw.
+// `draw J = N`
 pub(crate) fn put_draw<S: Sink>(
     at: &Pedigree,
     number: u64,
@@ -113,17 +113,22 @@ pub(crate) fn put_draw<S: Sink>(
     put_pieces(&pieces, page, out)
 }
 
-// Puts the line of an object.
-pub(crate) fn put_new<S: Sink>(at: &Pedigree, page: &mut Page, out: &mut S) -> Result<(), Failed>
-    ensures all { OnOk result (Puts (S.written out.old) (S.written out.new) page.old page.new (line (codes "new " ++ ped_text at.now))) }
-    ensures front { OnErr result (AppendsFront (S.written out.old) (S.written out.new) (page.old ++ line (codes "new " ++ ped_text at.now))) }
+// Puts the line of this word and a pedigree.
+pub(crate) fn put_named<'a, S: Sink>(
+    word: &'a [u8],
+    at: &'a Pedigree,
+    page: &mut Page,
+    out: &mut S,
+) -> Result<(), Failed>
+    ensures all { OnOk result (Puts (S.written out.old) (S.written out.new) page.old page.new (line (word.now ++ ped_text at.now))) }
+    ensures front { OnErr result (AppendsFront (S.written out.old) (S.written out.new) (page.old ++ line (word.now ++ ped_text at.now))) }
     ensures cause { HasCause (S.faults out.old) (S.faults out.new) result }
 {
-    let pieces = [Piece::Text(b"new "), Piece::Place(at), Piece::Text(b"\n")];
+    let pieces = [Piece::Text(word), Piece::Place(at), Piece::Text(b"\n")];
     put_pieces(&pieces, page, out)
 }
 
-// Puts the line of a value that is printed.
+// The line of a printed value.
 pub(crate) fn put_value<S: Sink>(value: &Value, page: &mut Page, out: &mut S) -> Result<(), Failed>
     ensures all { OnOk result (Puts (S.written out.old) (S.written out.new) page.old page.new (line (value_text value.now))) }
     ensures front { OnErr result (AppendsFront (S.written out.old) (S.written out.new) (page.old ++ line (value_text value.now))) }
@@ -137,7 +142,7 @@ pub(crate) fn put_value<S: Sink>(value: &Value, page: &mut Page, out: &mut S) ->
     }
 }
 
-// Puts the line of a fault.
+// `fault J: TEXT`
 pub(crate) fn put_fault<S: Sink>(fault: &Fault, page: &mut Page, out: &mut S) -> Result<(), Failed>
     ensures all { OnOk result (Puts (S.written out.old) (S.written out.new) page.old page.new (fault_line fault.now)) }
     ensures front { OnErr result (AppendsFront (S.written out.old) (S.written out.new) (page.old ++ fault_line fault.now)) }

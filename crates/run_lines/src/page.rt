@@ -7,10 +7,10 @@ use ped_io::{Failed, Memory, Sink, write_all};
 use std::alloc::{AllocError, Global};
 use std::marker::Model;
 
-// The most bytes that wait.
+// How many bytes wait at most.
 const PAGE: usize = 65536;
 
-/// An output buffer of 65536 bytes. Contracts see the list of the bytes that wait to be written.
+/// An output buffer of 65536 bytes. Contracts see it as the list of the bytes that wait in it.
 #[derive(Drop)]
 pub struct Page {
     text: Vec<u8>,
@@ -25,7 +25,7 @@ impl Model for Page {
 }
 
 impl Page {
-    /// A page on which nothing waits. No later call takes memory.
+    /// An empty buffer. It takes all its memory here; no other call takes any. The error: out of memory.
     pub fn new(alloc: Global) -> Result<Page, Memory>
         ensures { IfOk result (λ page. page ≡ []) }
     {
@@ -34,7 +34,7 @@ impl Page {
         })
     }
 
-    // Puts a piece after what waits, where there is room for it.
+    // Adds a piece to the bytes that wait, if there is room for it.
     fn take(&mut self, piece: &[u8]) -> bool
         ensures { self.new ≡ (if result then self.old ++ piece.now else self.old) }
     {
@@ -44,10 +44,11 @@ impl Page {
         self.text.extend_from_slice(piece).is_ok()
     }
 
-    /// Puts a piece after what waits. Where it finds no room there, what waits is written first.
+    /// Adds a piece to the bytes that wait. If there is no room, these are written first; a piece that is larger than
+    /// the buffer is written at once.
     ///
     /// # Errors
-    /// `Failed` where a write failed. A prefix of what waited and of the piece was written.
+    /// `Failed` where a write failed: of the bytes that waited and the piece, a prefix was written.
     pub fn put<S: Sink>(&mut self, piece: &[u8], out: &mut S) -> Result<(), Failed>
         ensures all { OnOk result (Puts (S.written out.old) (S.written out.new) self.old self.new piece.now) }
         ensures front { OnErr result (AppendsFront (S.written out.old) (S.written out.new) (self.old ++ piece.now)) }
@@ -63,10 +64,10 @@ impl Page {
         write_all(out, piece)
     }
 
-    /// Writes what waits.
+    /// Writes all bytes that wait.
     ///
     /// # Errors
-    /// `Failed` where a write failed. A prefix of what waited was written.
+    /// `Failed` where a write failed: a prefix of the bytes that waited was written.
     pub fn flush<S: Sink>(&mut self, out: &mut S) -> Result<(), Failed>
         ensures all { OnOk result (Appends (S.written out.old) (S.written out.new) self.old) }
         ensures none { OnOk result (self.new ≡ []) }

@@ -4,17 +4,26 @@ ghost use Rattle.ped_io.specs.Streams.{AppendsFront};
 ghost use Rattle.run_lines.specs.Puts.{Puts};
 ghost use Rattle.serial_meaning.specs.Chunks.{joined};
 ghost use Rattle.serial_meaning.specs.KeptLines.{KeepsLines};
-ghost use Rattle.serial_meaning.specs.Render.{IsWhole, answer_text, end_line, event_line};
+ghost use Rattle.serial_meaning.specs.Render.{IsWhole, answer_text, end_line, last_line, strand_text};
+ghost use Rattle.run_lines.specs.Lines.{KeepsLinesIn, line_in};
 
-use crate::line::{put_draw, put_fault, put_new, put_value};
+use crate::line::{put_draw, put_fault, put_named, put_value};
 use crate::page::Page;
 use ped_io::{Failed, Sink};
-use serial_meaning::{Answer, Chunk, Event, Keep, Out, Outcome, Plan, Show};
+use serial_meaning::{Answer, Chunk, Event, Fault, Keep, Out, Outcome, Plan, Show, Strand};
 
-/// Puts what a run with this answer prints. The answer keeps each event that has a line.
+// Which lines events have: those of a run, or those of a strand.
+#[derive(Clone, Copy)]
+enum Listing {
+    Run(Show),
+    Strand,
+}
+
+/// Puts the lines that a run with this answer prints. The answer must have kept each event that has a line. What
+/// doesn't fill the page waits on it: call `Page::flush` at the end.
 ///
 /// # Errors
-/// `Failed` where a write failed. A prefix of what waited and of the lines was written.
+/// `Failed` where a write failed: of the bytes that waited and these lines, a prefix was written.
 pub fn put_answer<K: Keep, S: Sink>(
     answer: &Answer<K>,
     page: &mut Page,
@@ -27,8 +36,33 @@ pub fn put_answer<K: Keep, S: Sink>(
     ensures cause { HasCause (S.faults out.old) (S.faults out.new) result }
 {
     let plan: &Plan = &answer.plan;
-    put_events(plan.show, &answer.out, page, out)?;
+    put_events(Listing::Run(plan.show), &answer.out, page, out)?;
     put_end(&answer.outcome, page, out)
+}
+
+/// Puts what a strand prints: a line for each of its events, and then the line of its own fault, if it has one.
+///
+/// # Errors
+/// `Failed` where a write failed. A prefix of what waited and of the lines was written.
+pub fn put_strand<S: Sink>(strand: &Strand, page: &mut Page, out: &mut S) -> Result<(), Failed>
+    ensures all { OnOk result (Puts (S.written out.old) (S.written out.new) page.old page.new (strand_text strand.now)) }
+    ensures front { OnErr result (AppendsFront (S.written out.old) (S.written out.new) (page.old ++ strand_text strand.now)) }
+    ensures cause { HasCause (S.faults out.old) (S.faults out.new) result }
+{
+    put_events(Listing::Strand, &strand.events, page, out)?;
+    put_last(&strand.fault, page, out)
+}
+
+// Puts the line of a strand's own fault, if it has one.
+fn put_last<S: Sink>(fault: &Option<Fault>, page: &mut Page, out: &mut S) -> Result<(), Failed>
+    ensures all { OnOk result (Puts (S.written out.old) (S.written out.new) page.old page.new (last_line fault.now)) }
+    ensures front { OnErr result (AppendsFront (S.written out.old) (S.written out.new) (page.old ++ last_line fault.now)) }
+    ensures cause { HasCause (S.faults out.old) (S.faults out.new) result }
+{
+    match fault {
+        Some(fault) => put_fault(fault, page, out),
+        None => Ok(()),
+    }
 }
 
 // Puts the line of the fault by which a run ended, if it did.
@@ -43,103 +77,116 @@ fn put_end<S: Sink>(outcome: &Outcome, page: &mut Page, out: &mut S) -> Result<(
     }
 }
 
-// Puts the lines of a run's events; each event that has a line is kept.
+// Puts the lines of events; each event that has a line is kept.
 fn put_events<K: Keep, S: Sink>(
-    show: Show,
+    listing: Listing,
     events: &Out<K>,
     page: &mut Page,
     out: &mut S,
 ) -> Result<(), Failed>
-    requires { KeepsLines K.kept show }
-    ensures all { OnOk result (Puts (S.written out.old) (S.written out.new) page.old page.new (flat_map (event_line show) events.now)) }
-    ensures front { OnErr result (AppendsFront (S.written out.old) (S.written out.new) (page.old ++ flat_map (event_line show) events.now)) }
+    requires { KeepsLinesIn K.kept listing }
+    ensures all { OnOk result (Puts (S.written out.old) (S.written out.new) page.old page.new (flat_map (line_in listing) events.now)) }
+    ensures front { OnErr result (AppendsFront (S.written out.old) (S.written out.new) (page.old ++ flat_map (line_in listing) events.now)) }
     ensures cause { HasCause (S.faults out.old) (S.faults out.new) result }
 {
     match events.kept_chunks() {
-        Some((full, last)) => put_parts(show, full, last, page, out),
+        Some((full, last)) => put_parts(listing, full, last, page, out),
         None => Ok(()),
     }
 }
 
-// Puts the lines of full chunks and of a last one.
+// The lines of the full chunks, and then of the last one.
 fn put_parts<S: Sink>(
-    show: Show,
+    listing: Listing,
     full: &[Chunk],
     last: &[Event],
     page: &mut Page,
     out: &mut S,
 ) -> Result<(), Failed>
-    ensures all { OnOk result (Puts (S.written out.old) (S.written out.new) page.old page.new (flat_map (event_line show) (joined full.now ++ last.now))) }
-    ensures front { OnErr result (AppendsFront (S.written out.old) (S.written out.new) (page.old ++ flat_map (event_line show) (joined full.now ++ last.now))) }
+    ensures all { OnOk result (Puts (S.written out.old) (S.written out.new) page.old page.new (flat_map (line_in listing) (joined full.now ++ last.now))) }
+    ensures front { OnErr result (AppendsFront (S.written out.old) (S.written out.new) (page.old ++ flat_map (line_in listing) (joined full.now ++ last.now))) }
     ensures cause { HasCause (S.faults out.old) (S.faults out.new) result }
 {
-    put_chunks(show, full, page, out)?;
-    put_list(show, last, page, out)
+    put_chunks(listing, full, page, out)?;
+    put_list(listing, last, page, out)
 }
 
 fn put_chunks<S: Sink>(
-    show: Show,
+    listing: Listing,
     chunks: &[Chunk],
     page: &mut Page,
     out: &mut S,
 ) -> Result<(), Failed>
-    ensures all { OnOk result (Puts (S.written out.old) (S.written out.new) page.old page.new (flat_map (flat_map (event_line show)) chunks.now)) }
-    ensures front { OnErr result (AppendsFront (S.written out.old) (S.written out.new) (page.old ++ flat_map (flat_map (event_line show)) chunks.now)) }
+    ensures all { OnOk result (Puts (S.written out.old) (S.written out.new) page.old page.new (flat_map (flat_map (line_in listing)) chunks.now)) }
+    ensures front { OnErr result (AppendsFront (S.written out.old) (S.written out.new) (page.old ++ flat_map (flat_map (line_in listing)) chunks.now)) }
     ensures cause { HasCause (S.faults out.old) (S.faults out.new) result }
 {
     for chunk in chunks {
-        put_chunk(show, chunk, page, out)?;
+        put_chunk(listing, chunk, page, out)?;
     }
     Ok(())
 }
 
 // Puts the lines of a chunk's events. A chunk that is known to have none is skipped.
-fn put_chunk<S: Sink>(show: Show, chunk: &Chunk, page: &mut Page, out: &mut S) -> Result<(), Failed>
-    ensures all { OnOk result (Puts (S.written out.old) (S.written out.new) page.old page.new (flat_map (event_line show) chunk.now)) }
-    ensures front { OnErr result (AppendsFront (S.written out.old) (S.written out.new) (page.old ++ flat_map (event_line show) chunk.now)) }
+fn put_chunk<S: Sink>(
+    listing: Listing,
+    chunk: &Chunk,
+    page: &mut Page,
+    out: &mut S,
+) -> Result<(), Failed>
+    ensures all { OnOk result (Puts (S.written out.old) (S.written out.new) page.old page.new (flat_map (line_in listing) chunk.now)) }
+    ensures front { OnErr result (AppendsFront (S.written out.old) (S.written out.new) (page.old ++ flat_map (line_in listing) chunk.now)) }
     ensures cause { HasCause (S.faults out.old) (S.faults out.new) result }
 {
-    if is_silent(show, chunk) {
+    if is_silent(listing, chunk) {
         return Ok(());
     }
-    put_list(show, chunk.events(), page, out)
+    put_list(listing, chunk.events(), page, out)
 }
 
-// Whether it is known that none of its events has a line.
+// Whether it is certain that none of the chunk's events has a line.
 #[tactic(auto, using(serial_meaning::proofs::PlainLines::plain_of_none))]
-fn is_silent(show: Show, chunk: &Chunk) -> bool
-    ensures { result ≡ true → flat_map (event_line show) chunk.now ≡ [] }
+fn is_silent(listing: Listing, chunk: &Chunk) -> bool
+    ensures { result ≡ true → flat_map (line_in listing) chunk.now ≡ [] }
 {
-    matches!(show, Show::Plain) && !chunk.prints()
+    matches!(listing, Listing::Run(Show::Plain)) && !chunk.prints()
 }
 
 fn put_list<S: Sink>(
-    show: Show,
+    listing: Listing,
     events: &[Event],
     page: &mut Page,
     out: &mut S,
 ) -> Result<(), Failed>
-    ensures all { OnOk result (Puts (S.written out.old) (S.written out.new) page.old page.new (flat_map (event_line show) events.now)) }
-    ensures front { OnErr result (AppendsFront (S.written out.old) (S.written out.new) (page.old ++ flat_map (event_line show) events.now)) }
+    ensures all { OnOk result (Puts (S.written out.old) (S.written out.new) page.old page.new (flat_map (line_in listing) events.now)) }
+    ensures front { OnErr result (AppendsFront (S.written out.old) (S.written out.new) (page.old ++ flat_map (line_in listing) events.now)) }
     ensures cause { HasCause (S.faults out.old) (S.faults out.new) result }
 {
     for event in events {
-        put_event(show, event, page, out)?;
+        put_event(listing, event, page, out)?;
     }
     Ok(())
 }
 
 #[tactic(auto, using(crate::proofs::PutLemmas::puts_none))]
-fn put_event<S: Sink>(show: Show, event: &Event, page: &mut Page, out: &mut S) -> Result<(), Failed>
-    ensures all { OnOk result (Puts (S.written out.old) (S.written out.new) page.old page.new (event_line show event.now)) }
-    ensures front { OnErr result (AppendsFront (S.written out.old) (S.written out.new) (page.old ++ event_line show event.now)) }
+fn put_event<S: Sink>(
+    listing: Listing,
+    event: &Event,
+    page: &mut Page,
+    out: &mut S,
+) -> Result<(), Failed>
+    ensures all { OnOk result (Puts (S.written out.old) (S.written out.new) page.old page.new (line_in listing event.now)) }
+    ensures front { OnErr result (AppendsFront (S.written out.old) (S.written out.new) (page.old ++ line_in listing event.now)) }
     ensures cause { HasCause (S.faults out.old) (S.faults out.new) result }
 {
-    match (show, event) {
+    match (listing, event) {
         (_, Event::Print(_, value)) => put_value(value, page, out),
-        (Show::Plain, _) => Ok(()),
-        (Show::Log, Event::Draw(at, number)) => put_draw(at, *number, page, out),
-        (Show::Log, Event::New(at)) => put_new(at, page, out),
-        (Show::Log, _) => Ok(()),
+        (Listing::Run(Show::Plain), _) => Ok(()),
+        (_, Event::Draw(at, number)) => put_draw(at, *number, page, out),
+        (_, Event::New(at)) => put_named(b"new ", at, page, out),
+        (Listing::Run(Show::Log), _) => Ok(()),
+        (Listing::Strand, Event::Spawn(at)) => put_named(b"spawn ", at, page, out),
+        (Listing::Strand, Event::Sync(at)) => put_named(b"sync ", at, page, out),
+        (Listing::Strand, Event::Loop(at)) => put_named(b"loop ", at, page, out),
     }
 }

@@ -5,8 +5,8 @@ use Rattle.engine.proofs.CallLemmas.{words_refused, words_taken}
 use Rattle.engine.proofs.WordLemmas.{no_batch}
 use Rattle.engine.proofs.call.answer_words.Goals as goal
 
-pub answer_command-requires-clause-alone : goal.answer_command-requires-clause-alone
-answer_command-requires-clause-alone g c =
+pub answer_command-requires-clause-not_batch : goal.answer_command-requires-clause-not_batch
+answer_command-requires-clause-not_batch g c =
     let e : reading (map string_bytes c.args.words.now) ≡ Ok c.in-Ok.command = search rules in
     no_batch (map string_bytes c.args.words.now) c.in-Ok.command e c.requires
 

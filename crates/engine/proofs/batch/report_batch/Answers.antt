@@ -5,7 +5,7 @@ use Rattle.engine.specs.Batches.{written}
 use Rattle.engine.specs.Report.{report_view}
 use Rattle.engine.proofs.BatchLemmas.{batch_is, plans_keep}
 use Rattle.engine.proofs.KeptLemmas.{prints_kept}
-use Rattle.engine.proofs.batch.ran_batch.Goals as goal
+use Rattle.engine.proofs.batch.report_batch.Goals as goal
 
 pub prints_report-requires-clause-lines : goal.prints_report-requires-clause-lines
 prints_report-requires-clause-lines g c =

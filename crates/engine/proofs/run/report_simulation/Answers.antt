@@ -1,7 +1,7 @@
 use Rattle.std.specs.Arc.{arc_value}
 use Rattle.engine.specs.Report.{report_view}
 use Rattle.engine.proofs.ReportLemmas.{simulated_of}
-use Rattle.engine.proofs.run.simulated.Goals as goal
+use Rattle.engine.proofs.run.report_simulation.Goals as goal
 
 pub returns-clause-report : goal.returns-clause-report
 returns-clause-report c =

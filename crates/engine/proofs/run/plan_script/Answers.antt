@@ -2,7 +2,7 @@ use Rattle.std.proofs.Common.{◌≡◌, rules}
 use Rattle.std.specs.Arc.{arc_value}
 use Rattle.engine.specs.Report.{plan_of}
 use Rattle.engine.proofs.BatchLemmas.{only_plan}
-use Rattle.engine.proofs.run.planned.Goals as goal
+use Rattle.engine.proofs.run.plan_script.Goals as goal
 
 pub returns-clause-only : goal.returns-clause-only
 returns-clause-only c =

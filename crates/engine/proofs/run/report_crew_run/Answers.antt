@@ -1,7 +1,7 @@
 use Rattle.std.specs.Arc.{arc_value}
 use Rattle.engine.specs.Report.{report_view}
-use Rattle.engine.proofs.ReportLemmas.{lines_alone, played_of}
-use Rattle.engine.proofs.run.ran_by_crew.Goals as goal
+use Rattle.engine.proofs.ReportLemmas.{lines_only, played_of}
+use Rattle.engine.proofs.run.report_crew_run.Goals as goal
 
 pub returns-in-Plain-clause-report : goal.returns-in-Plain-clause-report
 returns-in-Plain-clause-report g c =
@@ -13,4 +13,4 @@ returns-clause-report g c =
     let a = c.in_ok-answer-in-Log in
     let r = c.log_report in
     played_of c.args.settings c.args.bytes.now (arc_value c.in_ok-plan.plan) a.answer.plan (report_view r.result) c.in_ok-plan.ensures.plan a.ensures.plan
-    (lines_alone a.answer.plan c.new.result.items (report_view r.result) c.new.ensures.items r.ensures.output r.ensures.ending)
+    (lines_only a.answer.plan c.new.result.items (report_view r.result) c.new.ensures.items r.ensures.output r.ensures.ending)

@@ -1,7 +1,7 @@
 use Rattle.std.proofs.Common.{◌≡◌, rules}
 use Rattle.std.specs.Arc.{arc_value}
 use Rattle.engine.proofs.ReportLemmas.{main_is_origin}
-use Rattle.engine.proofs.run.run_alone.Goals as goal
+use Rattle.engine.proofs.run.run_serially.Goals as goal
 
 pub run_serial_keeping-requires : goal.run_serial_keeping-requires
 run_serial_keeping-requires g c =

@@ -1,7 +1,7 @@
 use Rattle.std.proofs.Common.{refl}
 use Rattle.std.specs.Arc.{arc_value}
 use Rattle.engine.proofs.ReportLemmas.{replayed_of}
-use Rattle.engine.proofs.run.replayed.Goals as goal
+use Rattle.engine.proofs.run.report_replay.Goals as goal
 
 pub returns-clause-report : goal.returns-clause-report
 returns-clause-report c =

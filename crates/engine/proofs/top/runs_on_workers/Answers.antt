@@ -1,7 +1,7 @@
 use Rattle.std.proofs.Common.{◌↔◌, ◌<◌, length, IsTrue, string_bytes, arith, rules}
 use Rattle.engine.specs.Commands.{IsRunWord}
 use Rattle.engine.proofs.WordLemmas.{is_run_first}
-use Rattle.engine.proofs.top.is_run.Goals as goal
+use Rattle.engine.proofs.top.runs_on_workers.Goals as goal
 
 pub returns-in-len1-up : goal.returns-in-len1-up
 returns-in-len1-up c =
