@@ -15,9 +15,9 @@ use Rattle.serial_meaning.specs.declared.plan.Limits.{Limits}
 use Rattle.ped_words.specs.Commands.{IsBatch}
 use Rattle.ped_words.specs.Numbers.{are_few}
 use Rattle.ped_words.specs.Table.{value_type_of, most_seeds}
-use Rattle.ped_words.specs.Making.{gamma_error, gamma_fits, gamma_from, command_gamma, holds_for, is_gamma, unfit}
+use Rattle.ped_words.specs.Making.{gamma_error, gamma_fits, gamma_from, command_gamma, holds_for, is_gamma, range_error}
 use Rattle.ped_words.specs.Rules.{breaks, IsRefusal}
-use Rattle.ped_words.specs.Given.{HasCount, IsPlacedList}
+use Rattle.ped_words.specs.Given.{HasCount, IsIndexedList}
 use Rattle.ped_words.specs.Values.{IsInRange, OptionValues, number_value}
 use Rattle.ped_words.specs.declared.rule.Rule.TheVariants.{OutOfRange}
 use Rattle.ped_words.specs.declared.rule.WordError.{WordError}
@@ -59,26 +59,26 @@ is_gamma_err list depth (TooBig i) other j =
 is_gamma_err list depth Memory other j = absurd (other refl)
 
 -- what the list that is given for coefficients shows
-module _ (values : OptionValues) (given : List ℕ) (at depth : ℕ) (placed : IsPlacedList values name.Gamma (Some (given, at))) where
+module _ (values : OptionValues) (given : List ℕ) (at depth : ℕ) (placed : IsIndexedList values name.Gamma (Some (given, at))) where
   fits_by : (b : Bool) → is_gamma given depth ≡ b → gamma_fits values depth ≡ b
   fits_by b fits = ap (holds_for (λ g. is_gamma g depth)) placed.0 ∙ fits
 
   pub gamma_ok : (gamma : List ℕ) → Judged given depth (Ok gamma) → gamma ≡ padded given depth → (gamma ≡ command_gamma values depth) × (gamma_fits values depth ≡ true)
   gamma_ok gamma j made = (made ∙ sym (ap (λ g. gamma_from g (unwrap_or (number_value values name.Seed) 0) depth) placed.0), fits_by true (is_gamma_ok given gamma depth j))
 
-  pub gamma_err : (error : GammaError) (e : WordError) → Judged given depth (Err error) → e ≡ gamma_error error at → IsRefusal (unfit values name.Gamma (gamma_fits values depth)) e
-  gamma_err error e j is = subst (λ (x : WordError). IsRefusal (unfit values name.Gamma (gamma_fits values depth)) x) (sym is) (at_error error j)
+  pub gamma_err : (error : GammaError) (e : WordError) → Judged given depth (Err error) → e ≡ gamma_error error at → IsRefusal (range_error values name.Gamma (gamma_fits values depth)) e
+  gamma_err error e j is = subst (λ (x : WordError). IsRefusal (range_error values name.Gamma (gamma_fits values depth)) x) (sym is) (at_error error j)
     where
-      broken : (error : GammaError) → (error ≡ Memory → ⊥) → Judged given depth (Err error) → unfit values name.Gamma (gamma_fits values depth) ≡ Some (breaks OutOfRange at)
-      broken error other j = ap (unfit values name.Gamma) (fits_by false (is_gamma_err given depth error other j)) ∙ ap (option_map (λ i. breaks OutOfRange i)) placed.1
+      broken : (error : GammaError) → (error ≡ Memory → ⊥) → Judged given depth (Err error) → range_error values name.Gamma (gamma_fits values depth) ≡ Some (breaks OutOfRange at)
+      broken error other j = ap (range_error values name.Gamma) (fits_by false (is_gamma_err given depth error other j)) ∙ ap (option_map (λ i. breaks OutOfRange i)) placed.1
 
-      at_error : (error : GammaError) → Judged given depth (Err error) → IsRefusal (unfit values name.Gamma (gamma_fits values depth)) (gamma_error error at)
+      at_error : (error : GammaError) → Judged given depth (Err error) → IsRefusal (range_error values name.Gamma (gamma_fits values depth)) (gamma_error error at)
       at_error TooMany j = broken TooMany (λ h. cc h) j
       at_error (TooBig i) j = broken (TooBig i) (λ h. cc h) j
       at_error Memory j = tt
 
 -- Without a list the seed's coefficients fit.
-pub seed_ok : (values : OptionValues) (depth seed : ℕ) (gamma : List ℕ) → IsPlacedList values name.Gamma None → seed ≡ unwrap_or (number_value values name.Seed) 0 → gamma ≡ coefficients seed depth → (gamma ≡ command_gamma values depth) × (gamma_fits values depth ≡ true)
+pub seed_ok : (values : OptionValues) (depth seed : ℕ) (gamma : List ℕ) → IsIndexedList values name.Gamma None → seed ≡ unwrap_or (number_value values name.Seed) 0 → gamma ≡ coefficients seed depth → (gamma ≡ command_gamma values depth) × (gamma_fits values depth ≡ true)
 seed_ok values depth seed gamma none is made =
     (made ∙ ap (λ s. coefficients s depth) is ∙ sym (ap (λ g. gamma_from g (unwrap_or (number_value values name.Seed) 0) depth) none), ap (holds_for (λ g. is_gamma g depth)) none)
 

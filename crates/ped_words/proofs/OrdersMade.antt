@@ -3,7 +3,7 @@ use Rattle.std.proofs.Common.{◌≡◌, ℕ, ◌+◌, ◌^◌, Bool, true, fals
 use Rattle.std.specs.Prelude.{unwrap_or, option_and_then, is_some, nat_le}
 use Rattle.std.specs.Option.{option_map, option_or}
 use Rattle.std.proofs.lemmas.Option.{none-some}
-use Rattle.ped_words.specs.Making.{budget_of, command_of, count_fits, default_depth, depth_for, depth_of, first_late, gamma_fits, gamma_from, command_gamma, hash_depth, holds_for, is_gamma, is_size, late_rules, limits_of, made_command, made_of, rounds_of, settings_of, size_fits, unfit, workers_of}
+use Rattle.ped_words.specs.Making.{budget_of, command_of, count_fits, default_depth, depth_for, depth_of, first_late, gamma_fits, gamma_from, command_gamma, hash_depth, holds_for, is_gamma, is_size, late_rules, limits_of, made_command, made_of, rounds_of, settings_of, size_fits, range_error, workers_of}
 use Rattle.ped_words.specs.Pedigrees.{last_rank}
 use Rattle.ped_words.specs.Rules.{breaks}
 use Rattle.ped_words.specs.Table.{value_type_of, show_of, shape_of, takes_option}
@@ -157,7 +157,7 @@ module _ (values others : OptionValues) (same : (n : OptionName) → word_of oth
       ∙ ap (λ z. holds_for (λ j. holds_for (λ n. nat_le (last_rank j + n) (2 ^ 32)) (number_value values name.Count)) z) pedigree-same
 
   -- what is in range stays so
-  late-one : (v : Subcommand) (n : OptionName) (fits other : Bool) → other ≡ fits → (if takes_option v n then unfit values n fits else None) ≡ None → (if takes_option v n then unfit others n other else None) ≡ None
+  late-one : (v : Subcommand) (n : OptionName) (fits other : Bool) → other ≡ fits → (if takes_option v n then range_error values n fits else None) ≡ None → (if takes_option v n then range_error others n other else None) ≡ None
   late-one v n fits other e f = by_takes (takes_option v n) f
     where
       absent : (o p : Option (List ℕ × ℕ)) → option_map (λ (w : List ℕ × ℕ). w.0) p ≡ option_map (λ (w : List ℕ × ℕ). w.0) o →
@@ -166,12 +166,12 @@ module _ (values others : OptionValues) (same : (n : OptionName) → word_of oth
       absent None (Some w) g h = absurd (none-some w.0 (sym g))
       absent (Some x) (Some w) g h = absurd (none-some _ (sym h))
 
-      by_fits : (b : Bool) → fits ≡ b → unfit values n b ≡ None → unfit others n b ≡ None
+      by_fits : (b : Bool) → fits ≡ b → range_error values n b ≡ None → range_error others n b ≡ None
       by_fits true g h = refl
       by_fits false g h = absent (values n) (others n) (same n) h
 
-      by_takes : (b : Bool) → (if b then unfit values n fits else None) ≡ None → (if b then unfit others n other else None) ≡ None
-      by_takes true g = ap (unfit others n) e ∙ by_fits fits refl g
+      by_takes : (b : Bool) → (if b then range_error values n fits else None) ≡ None → (if b then range_error others n other else None) ≡ None
+      by_takes true g = ap (range_error others n) e ∙ by_fits fits refl g
       by_takes false g = refl
 
   late-none : (v : Subcommand) → first_late v values (late_rules v values) ≡ None → first_late v others (late_rules v others) ≡ None

@@ -1,4 +1,4 @@
--- What holds of every command that words give, so that it can be carried out.
+-- What holds of every command that is read, so that it can be carried out.
 use Rattle.std.specs.Prelude.{◌≡◌, ℕ, ◌+◌, ◌≤◌, ◌^◌, Bool, true, false, List, length, IfSome}
 use Rattle.dotmix.specs.Draws.{most_rounds}
 use Rattle.dotmix.specs.Words.{coefficients}
@@ -12,26 +12,26 @@ use Rattle.ped_words.specs.declared.command.Command.{Command}
 use Rattle.ped_words.specs.declared.command.Command.TheVariants.{Run, Serial, Sim, Replay, Hash, Check, Fmt, Gen, Stream, Span, Batch}
 use Rattle.ped_words.specs.declared.command.Settings.{Settings}
 
--- A script with these settings is a plan.
+-- The settings make a plan of any script.
 abbrev pub AreLawful : Settings → Type 0
 AreLawful settings = IsPlan settings.gamma settings.limits settings.rounds
 
 abbrev pub IsWorkers : ℕ → Type 0
 IsWorkers n = (1 ≤ n) × (n ≤ 64)
 
--- A pedigree may be hashed with these coefficients in so many rounds.
+-- The pedigree can be hashed with these coefficients and rounds.
 pub record IsHash (gamma at : List ℕ) (rounds : ℕ) : Type 0 where
   pub coefficients : length gamma ≡ hash_depth
   pub few : length at ≤ hash_depth
   pub rounds_limit : rounds ≤ most_rounds
 
--- So many numbers may be drawn from a pedigree on: they aren't too many, and the ranks are enough.
+-- This many numbers can be drawn from the pedigree on: the limit allows them, and the ranks stay below 2^32.
 pub record IsCount (at : List ℕ) (count : ℕ) : Type 0 where
   pub some : 1 ≤ count
   pub few : count ≤ most_count
   pub ranks : last_rank at + count ≤ 2 ^ 32
 
--- Seeds aren't too many, and a script under each of them is a plan.
+-- The seeds are neither none nor too many, and each of them makes a plan of any script.
 pub record IsBatch (seeds : List ℕ) (limits : Limits) (rounds : ℕ) : Type 0 where
   pub some : 1 ≤ length seeds
   pub few : length seeds ≤ most_seeds
@@ -50,7 +50,7 @@ IsLawful (Stream gamma at count rounds below) = IsHash gamma at rounds × IsCoun
 IsLawful (Span settings) = AreLawful settings
 IsLawful (Batch seeds limits show rounds workers) = IsBatch seeds limits rounds × IsWorkers workers
 
--- whether a command is a batch
+-- whether the command is a batch
 abbrev pub is_batch : Command → Bool
 is_batch (Run settings workers) = false
 is_batch (Serial settings) = false

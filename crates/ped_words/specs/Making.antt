@@ -1,4 +1,4 @@
--- Which command the values of the options make, by which defaults, and what is judged after the last word.
+-- Which command the values of the options make, with which defaults, and what is judged after the last word.
 use Rattle.std.specs.Prelude.{ℕ, ◌+◌, ◌^◌, Bool, true, ◌&&◌, not, nat_le, is_some, if◌then◌else◌, Option, Some, None, Result, Ok, Err, List, [], ◌∷◌, length, position, unwrap_or, option_and_then}
 use Rattle.std.specs.Option.{option_map, option_or}
 use Rattle.dotmix.specs.GammaState.{is_too_big, padded}
@@ -24,11 +24,11 @@ use Rattle.ped_words.specs.declared.table.OptionName.TheVariants as name
 use Rattle.ped_words.specs.declared.table.Subcommand.{Subcommand}
 use Rattle.ped_words.specs.declared.table.Subcommand.TheVariants as subcommand
 
--- how long pedigrees may be where no depth is given
+-- the depth where none is given
 abbrev pub default_depth : ℕ
 default_depth = 256
 
--- how many coefficients there are where a command takes no depth
+-- the number of coefficients of a command that takes no depth
 abbrev pub hash_depth : ℕ
 hash_depth = 512
 
@@ -51,12 +51,12 @@ workers_of values = unwrap_or (number_value values name.Workers) 4
 abbrev pub rounds_of : OptionValues → ℕ
 rounds_of values = unwrap_or (number_value values name.Rounds) 4
 
--- a list with zeros after it, or else the coefficients of a seed
+-- the given list, followed by zeros, else the coefficients of the seed
 abbrev pub gamma_from : Option (List ℕ) → ℕ → ℕ → List ℕ
 gamma_from None seed depth = coefficients seed depth
 gamma_from (Some given) seed depth = padded given depth
 
--- those of the list or the seed that is given
+-- the coefficients that the options give
 abbrev pub command_gamma : OptionValues → ℕ → List ℕ
 command_gamma values depth = gamma_from (list values name.Gamma) (unwrap_or (number_value values name.Seed) default_seed) depth
 
@@ -68,7 +68,7 @@ settings_of values = record {
   rounds = rounds_of values;
 }
 
--- There is none where an option is missing that the command needs.
+-- the command of these values; none where an option is missing that the command needs
 abbrev pub command_of : Subcommand → OptionValues → Option Command
 command_of subcommand.Run values = Some (command.Run (settings_of values) (workers_of values))
 command_of subcommand.Serial values = Some (command.Serial (settings_of values))
@@ -84,25 +84,25 @@ command_of subcommand.Span values = Some (command.Span (settings_of values))
 command_of subcommand.Batch values =
     option_map (λ s. command.Batch s (limits_of values) (unwrap_or (show values) Plain) (rounds_of values) (workers_of values)) (list values name.Seeds)
 
--- It holds of what is there.
+-- whether it holds for the value, if there is one
 abbrev pub holds_for : {X : Type 0} → (X → Bool) → Option X → Bool
 holds_for test None = true
 holds_for test (Some x) = test x
 
--- a list that is short enough, of residues
+-- the list is short enough, and its numbers are below the modulus
 abbrev pub is_gamma : List ℕ → ℕ → Bool
 is_gamma given depth = nat_le (length given) depth && not (is_some (position is_too_big given))
 
 abbrev pub gamma_fits : OptionValues → ℕ → Bool
 gamma_fits values depth = holds_for (λ given. is_gamma given depth) (list values name.Gamma)
 
--- how many coefficients the command has
+-- how many coefficients the command takes
 abbrev pub depth_for : Subcommand → OptionValues → ℕ
 depth_for subcommand.Hash values = hash_depth
 depth_for subcommand.Stream values = hash_depth
 depth_for _ values = depth_of values
 
--- what it is for the word at this index that its list makes no coefficients
+-- the error at the list's word, where the list gives no coefficients
 abbrev pub gamma_error : GammaError → ℕ → WordError
 gamma_error TooMany at = breaks rule.OutOfRange at
 gamma_error (TooBig i) at = breaks rule.OutOfRange at
@@ -116,27 +116,28 @@ is_size Loop n = nat_le 1 n && nat_le n 4096
 abbrev pub size_fits : OptionValues → Bool
 size_fits values = holds_for (λ s. holds_for (λ n. is_size s n) (number_value values name.Size)) (shape values)
 
--- The ranks from the pedigree's last one on are enough for the count.
+-- The ranks stay below 2^32 for all numbers of the count.
 abbrev pub count_fits : OptionValues → Bool
 count_fits values = holds_for (λ j. holds_for (λ n. nat_le (last_rank j + n) (2 ^ 32)) (number_value values name.Count)) (pedigree values)
 
--- What only all words together show, in the order in which it is judged: of each of these options, whether its value is in range.
+-- What is judged after the last word, in this order: whether the values of these options are in range, which depends on
+-- other options too.
 abbrev pub late_rules : Subcommand → OptionValues → List (OptionName × Bool)
 late_rules subcommand values = (name.Gamma, gamma_fits values (depth_for subcommand values)) ∷ (name.Size, size_fits values) ∷ (name.Count, count_fits values) ∷ []
 
--- out of range at the word that gives this option, unless its value fits
-abbrev pub unfit : OptionValues → OptionName → Bool → Option WordError
-unfit values n fits = if fits then None else option_map (λ i. breaks rule.OutOfRange i) (value_index values n)
+-- `out of range` at the option's value, unless it fits
+abbrev pub range_error : OptionValues → OptionName → Bool → Option WordError
+range_error values n fits = if fits then None else option_map (λ i. breaks rule.OutOfRange i) (value_index values n)
 
--- the first of these rules that is broken, of the options that the command has
+-- the first of these errors, for options that the command has
 abbrev pub first_late : Subcommand → OptionValues → List (OptionName × Bool) → Option WordError
 first_late subcommand values [] = None
-first_late subcommand values (late ∷ others) = option_or (if takes_option subcommand late.0 then unfit values late.0 late.1 else None) (first_late subcommand values others)
+first_late subcommand values (late ∷ others) = option_or (if takes_option subcommand late.0 then range_error values late.0 late.1 else None) (first_late subcommand values others)
 
 abbrev pub made_of : Option WordError → ℕ → Option Command → Result Command WordError
 made_of broken words None = Err (breaks rule.MissingOption words)
 made_of broken words (Some c) = unless_error broken (Ok c)
 
--- the command that these values make after so many words, or the first rule that they break there
+-- the command of these values, or the first rule that is broken after the last of `words` words
 abbrev pub made_command : Subcommand → OptionValues → ℕ → Result Command WordError
 made_command subcommand values words = made_of (first_late subcommand values (late_rules subcommand values)) words (command_of subcommand values)

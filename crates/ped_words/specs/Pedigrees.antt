@@ -1,4 +1,4 @@
--- Which words are pedigrees: ranks joined by full stops, judged from left to right.
+-- Which words are pedigrees: ranks joined by full stops. They are judged from left to right.
 use Rattle.std.specs.Prelude.{◌≡◌, ℕ, ◌-◌, ◌^◌, ◌≤◌, ◌==◌, nat_lt, if◌then◌else◌, Option, Some, None, Result, Ok, Err, List, [], ◌∷◌, length, map, slice_index}
 use Rattle.std.specs.Char.{is_ascii_digit}
 use Rattle.std.specs.List.{slice_split, take_while}
@@ -7,11 +7,11 @@ use Rattle.ped_words.specs.Numbers.{is_number, number_in_word}
 use Rattle.ped_words.specs.declared.rule.Rule.{Rule}
 use Rattle.ped_words.specs.declared.rule.Rule.TheVariants.{BadValue, OutOfRange}
 
--- what stands between the full stops of a word
+-- the parts of a word between its full stops
 abbrev pub ranks_in : List ℕ → List (List ℕ)
 ranks_in word = slice_split (λ c. c == 46) word
 
--- The digits that come first are judged first: they are a number, and it is a rank. Then nothing else stands after them.
+-- The leading digits are judged first: they must be a number, and in the range of ranks. Then nothing may follow them.
 abbrev pub rank_rule : List ℕ → Option Rule
 rank_rule part =
     let digits = take_while is_ascii_digit part in
@@ -19,16 +19,16 @@ rank_rule part =
     then (if nat_lt (number_in_word digits) (2 ^ 32) then (if length digits == length part then None else Some BadValue) else Some OutOfRange)
     else Some BadValue
 
--- the rule that the first of these ranks breaks which breaks one, where there is room for so many
+-- the first rule that one of these ranks breaks, where there may be `room` of them
 abbrev pub ranks_rule : List (List ℕ) → ℕ → Option Rule
 ranks_rule [] room = None
 ranks_rule (part ∷ parts) room = if room == 0 then Some OutOfRange else option_or (rank_rule part) (ranks_rule parts (room - 1))
 
--- how many ranks a text may have
+-- a pedigree has at most this many ranks
 abbrev pub most_ranks : ℕ
 most_ranks = 512
 
--- the rule that a word breaks where a pedigree's text is due
+-- the rule that a word breaks which must be a pedigree
 unfoldable pub ped_rule : List ℕ → Option Rule
 ped_rule word = ranks_rule (ranks_in word) most_ranks
 
@@ -38,7 +38,7 @@ ped_of word = map number_in_word (ranks_in word)
 abbrev pub last_rank : List ℕ → ℕ
 last_rank j = slice_index j (length j - 1)
 
--- This is the pedigree of a word, or the rule that the word breaks.
+-- The result is the pedigree of the word, or the rule that it breaks.
 abbrev pub IsRead : List ℕ → Result (List ℕ) Rule → Type 0
 IsRead word (Ok j) = (ped_rule word ≡ None) × (j ≡ ped_of word) × (length j ≤ most_ranks)
 IsRead word (Err rule) = ped_rule word ≡ Some rule

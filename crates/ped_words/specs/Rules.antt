@@ -1,4 +1,4 @@
--- The numbers of the rules for words, what they are called, and the rules for the text of a pedigree among them.
+-- The rules for words: their numbers and texts, and which of them the text of a pedigree can break.
 use Rattle.std.specs.Prelude.{◌≡◌, ℕ, nat_eq, List, [], ◌∷◌, Option, Some, None, Result, Ok, Err, if◌then◌else◌, codes}
 use Rattle.std.specs.Option.{option_map}
 use Rattle.ped_path.specs.declared.parse.PedTextError.{PedTextError}
@@ -19,7 +19,7 @@ number_of OutOfRange = 7
 number_of MissingOption = 8
 number_of StrayWord = 9
 
--- the rule among these that has this number, and the last one where none has
+-- the one of these rules that has this number, `StrayWord` where none has
 abbrev pub rule_among : List Rule → ℕ → Rule
 rule_among [] number = StrayWord
 rule_among (rule ∷ rules) number = if nat_eq number (number_of rule) then rule else rule_among rules number
@@ -28,7 +28,7 @@ abbrev pub rule_of : ℕ → Rule
 rule_of =
     rule_among (NoCommand ∷ UnknownCommand ∷ UnknownOption ∷ OptionTwice ∷ MissingValue ∷ BadValue ∷ OutOfRange ∷ MissingOption ∷ [])
 
--- what it is called
+-- the rule's text
 abbrev pub rule_name : Rule → List ℕ
 rule_name NoCommand = codes "no command"
 rule_name UnknownCommand = codes "unknown command"
@@ -43,7 +43,7 @@ rule_name StrayWord = codes "stray word"
 abbrev pub rule_text : ℕ → List ℕ
 rule_text number = rule_name (rule_of number)
 
--- the rule that a text breaks which is no pedigree's
+-- the rule that a text breaks which isn't a pedigree
 abbrev pub text_rule : PedTextError → Option Rule
 text_rule text.Empty = Some BadValue
 text_rule (text.BadByte at) = Some BadValue
@@ -52,29 +52,29 @@ text_rule (text.TooBig at) = Some OutOfRange
 text_rule text.TooLong = Some OutOfRange
 text_rule text.Memory = None
 
--- this rule, broken at the word of this index
+-- the error that this rule is broken at the word with this index
 abbrev pub breaks : Rule → ℕ → WordError
 breaks rule at = Bad (number_of rule) at
 
 abbrev pub broken_at : ℕ → Option Rule → Option WordError
 broken_at at rule = option_map (λ r. breaks r at) rule
 
--- what a word is that breaks no rule
+-- the value of a word that breaks no rule
 abbrev pub when_unbroken : {X : Type 0} → Option Rule → X → Option X
 when_unbroken None x = Some x
 when_unbroken (Some rule) x = None
 
--- what is broken, or else this
+-- the error if there is one, else this
 abbrev pub unless_error : {X : Type 0} → Option WordError → Result X WordError → Result X WordError
 unless_error None r = r
 unless_error (Some e) r = Err e
 
--- The error is what is broken, or there was no memory.
+-- The error is the rule that is broken, or memory ran out.
 abbrev pub IsRefusal : Option WordError → WordError → Type 0
 IsRefusal broken (Bad number at) = broken ≡ Some (Bad number at)
 IsRefusal broken Memory = Unit {0}
 
--- The result is as expected, or there was no memory.
+-- The result is as expected, or memory ran out.
 abbrev pub IsUnlessMemory : {X : Type 0} → Result X WordError → Result X WordError → Type 0
 IsUnlessMemory expected (Ok x) = expected ≡ Ok x
 IsUnlessMemory expected (Err (Bad number at)) = expected ≡ Err (Bad number at)

@@ -1,4 +1,4 @@
--- The commands, which options each one has, and what the value of an option is.
+-- The commands, the options of each, and what the value of an option must be.
 use Rattle.std.specs.Prelude.{ℕ, ◌-◌, ◌^◌, Bool, if◌then◌else◌, ◌==◌, Option, Some, None, List, [], ◌∷◌, codes}
 use Rattle.std.specs.List.{list_any}
 use Rattle.std.specs.Str.{bytes_eq}
@@ -15,7 +15,7 @@ use Rattle.ped_words.specs.declared.table.Subcommand.TheVariants as subcommand
 use Rattle.ped_words.specs.declared.table.OptionName.{OptionName}
 use Rattle.ped_words.specs.declared.table.OptionName.TheVariants as name
 
--- what stands beside a word in a table
+-- the entry for a word in a table
 abbrev pub lookup : {X : Type 0} → List (List ℕ × X) → List ℕ → Option X
 lookup [] word = None
 lookup (row ∷ rows) word = if bytes_eq word row.0 then Some row.1 else lookup rows word
@@ -70,7 +70,7 @@ options subcommand.Stream = name.At ∷ name.Count ∷ name.Seed ∷ name.Gamma 
 options subcommand.Span = name.Seed ∷ name.Gamma ∷ name.Depth ∷ name.Budget ∷ name.Rounds ∷ []
 options subcommand.Batch = name.Seeds ∷ name.Depth ∷ name.Budget ∷ name.Workers ∷ name.Show ∷ name.Rounds ∷ []
 
--- a number for each name, so that names can be compared
+-- a number for each option, by which options are compared
 abbrev pub option_number : OptionName → ℕ
 option_number name.Seed = 0
 option_number name.Gamma = 1
@@ -90,15 +90,15 @@ option_number name.Seeds = 13
 abbrev pub takes_option : Subcommand → OptionName → Bool
 takes_option v n = list_any (λ m. option_number m == option_number n) (options v)
 
--- a stream has at most so many numbers
+-- a stream has at most this many numbers
 abbrev pub most_count : ℕ
 most_count = 1048576
 
--- a batch has at most so many seeds
+-- a batch has at most this many seeds
 abbrev pub most_seeds : ℕ
 most_seeds = 256
 
--- what the value of an option is, and its range
+-- what the value of an option must be
 abbrev pub value_type_of : OptionName → ValueType
 value_type_of name.Seed = value_type.Number 0 (2 ^ 64 - 1)
 value_type_of name.Gamma = value_type.Numbers None

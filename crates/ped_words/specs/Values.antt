@@ -1,4 +1,5 @@
--- The values that the options have. After the command stand pairs of a name and a value: pair k, from 0, is the words 2k + 1 and 2k + 2.
+-- The values of the options. After the command come pairs of a name and a value: pair k, from 0, is the words 2k + 1
+-- and 2k + 2.
 use Rattle.std.specs.Prelude.{ℕ, zero, suc, ◌+◌, ◌*◌, ◌≤◌, Bool, false, ◌||◌, ◌==◌, if◌then◌else◌, is_some, option_and_then, Option, Some, None, List, []}
 use Rattle.std.specs.List.{slice_index_or}
 use Rattle.std.specs.Option.{option_map}
@@ -13,7 +14,7 @@ use Rattle.ped_words.specs.declared.table.ValueType.TheVariants as value_type
 use Rattle.ped_words.specs.declared.table.OptionName.{OptionName}
 use Rattle.ped_words.specs.declared.table.OptionName.TheVariants as name
 
--- of an option that was given the word that is its value, and the index of that word
+-- for each option that was given, the word that is its value, and the index of that word
 abbrev pub OptionValues : Type 0
 OptionValues = OptionName → Option (List ℕ × ℕ)
 
@@ -30,22 +31,22 @@ abbrev pub is_option : Option OptionName → OptionName → Bool
 is_option None n = false
 is_option (Some m) n = option_number m == option_number n
 
--- what the first k pairs give
+-- the values that the first k pairs give; a later pair wins
 abbrev pub option_values : List (List ℕ) → ℕ → OptionValues
 option_values words zero n = None
 option_values words (suc k) n = if is_option (name_of (name_word words k)) n then Some (value_word words k, 2 * k + 2) else option_values words k n
 
--- the index of the word that gives an option
+-- the index of an option's value
 abbrev pub value_index : OptionValues → OptionName → Option ℕ
 value_index values n = option_map (λ w. w.1) (values n)
 
--- Whether an option was given. A seed and coefficients exclude each other, so either counts as the other.
+-- Whether an option was given. `--seed` and `--gamma` exclude each other, so each counts as the other.
 abbrev pub has : OptionValues → OptionName → Bool
 has values name.Seed = is_some (values name.Seed) || is_some (values name.Gamma)
 has values name.Gamma = is_some (values name.Seed) || is_some (values name.Gamma)
 has values n = is_some (values n)
 
--- What a word is as a value of some type. There is none where it breaks the type's rule.
+-- A word read as a value of some type; none where it breaks the type's rule.
 
 abbrev pub number_as : ValueType → List ℕ → Option ℕ
 number_as (value_type.Number least most) word = when_unbroken (number_rule least most word) (number_in_word word)
@@ -58,7 +59,7 @@ list_as _ word = None
 abbrev pub pedigree_in : List ℕ → Option (List ℕ)
 pedigree_in word = when_unbroken (ped_rule word) (ped_of word)
 
--- The value of an option that was given, by what it is.
+-- The values of the options that were given, by type.
 
 abbrev pub value : {X : Type 0} → (List ℕ → Option X) → OptionValues → OptionName → Option X
 value read values n = option_and_then (λ w. read w.0) (values n)

@@ -4,10 +4,11 @@ use ped_gen::Shape;
 use ped_path::Pedigree;
 use serial_meaning::{Limits, Show};
 
-/// What a run depends on beside its script.
+/// All that the result of a run depends on, beside its script.
 #[derive(Drop)]
 pub struct Settings {
-    /// As many coefficients as the depth, by default those of seed 0.
+    /// As many coefficients as `limits.depth`. Where the words give neither a seed nor coefficients, they are those of
+    /// seed 0.
     pub gamma: Gamma,
     pub limits: Limits,
     pub show: Show,
@@ -15,10 +16,10 @@ pub struct Settings {
     pub rounds: u32,
 }
 
-/// The commands with their options.
+/// A command with the values of its options, all of them in range.
 #[derive(Drop)]
 pub enum Command {
-    /// Runs a script on so many workers, from 1 to 64.
+    /// Runs a script on this many workers, from 1 to 64.
     Run {
         settings: Settings,
         workers: u32,
@@ -27,18 +28,18 @@ pub enum Command {
     Serial {
         settings: Settings,
     },
-    /// Simulates a run on so many workers, from 1 to 64, whose choices this number makes.
+    /// Simulates a run on this many workers, from 1 to 64. The number picks the schedule.
     Sim {
         settings: Settings,
         workers: u32,
         number: u64,
     },
-    /// Runs the strand of this pedigree alone. It shows what is plain.
+    /// Runs the strand of this pedigree by itself. `settings.show` is `Plain`, since the words have no option for it.
     Replay {
         settings: Settings,
         at: Pedigree,
     },
-    /// Prints the draw of a pedigree in so many rounds, from 0 to 8. There are 512 coefficients.
+    /// Prints a pedigree's draw, mixed in this many rounds, from 0 to 8. There are 512 coefficients.
     Hash {
         gamma: Gamma,
         at: Pedigree,
@@ -46,19 +47,19 @@ pub enum Command {
     },
     /// Checks a script.
     Check,
-    /// Prints a script in canonical text.
+    /// Prints a script in canonical text. The script need not be valid.
     Fmt,
-    /// Makes a script. The size fits the shape.
+    /// Prints a script of this shape. The size fits the shape.
     Gen {
         shape: Shape,
         size: u64,
     },
-    /// Runs a script on the caller's thread, and prints its work and span. It shows what is plain.
+    /// Runs a script on the caller's thread, and prints its work and span. `settings.show` is `Plain`.
     Span {
         settings: Settings,
     },
-    /// Runs a script under each of these seeds, from 1 to 256 of them, on so many workers, from 1 to 64. A seed may stand twice. The
-    /// coefficients of a run are its seed's, as many as the depth.
+    /// Runs a script under each of these seeds, from 1 to 256 of them, on this many workers, from 1 to 64. A seed may
+    /// occur twice. The coefficients of a run are those of its seed, as many as `limits.depth`.
     Batch {
         seeds: Items<u64>,
         limits: Limits,
@@ -66,8 +67,9 @@ pub enum Command {
         rounds: u32,
         workers: u32,
     },
-    /// Prints the draws of so many consecutive ranks, from 1 to 1048576, from a pedigree's own on. The ranks are below 2^32, the
-    /// coefficients and rounds as for `Hash`. Each number is printed modulo `below`, which isn't 0, where there is one.
+    /// Prints the draws of `count` consecutive ranks, from 1 to 1048576, beginning with that of `at`. All of these
+    /// ranks are below 2^32. Coefficients and rounds are as for `Hash`. Numbers are printed modulo `below`, if it is
+    /// given; it isn't 0.
     Stream {
         gamma: Gamma,
         at: Pedigree,

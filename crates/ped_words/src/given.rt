@@ -1,10 +1,10 @@
-// What the pairs after the command give: of each option the word that is its value.
+// The values that the pairs after the command give to the options.
 
 ghost use Rattle.std.specs.Prelude.{◌≡◌, ◌+◌, ◌*◌, ◌<◌, ◌≤◌, ◌^◌, IfErr, IfOk, IfSome, length, map, string_bytes, unwrap_or};
 ghost use Rattle.std.specs.Option.{option_map};
 ghost use Rattle.ped_words.specs.Pedigrees.{most_ranks};
 ghost use Rattle.ped_words.specs.Table.{value_type_of, name_of};
-ghost use Rattle.ped_words.specs.Given.{HasCount, IsValueIndex, IsPlaced, IsPlacedList, IsSmall, values_in};
+ghost use Rattle.ped_words.specs.Given.{HasCount, IsValueIndex, IsIndexedNumber, IsIndexedList, IsSmall, values_in};
 ghost use Rattle.ped_words.specs.Values.{IsInRange, has, is_option, list_as, number_value, number_as, pedigree, shape, show, word_at};
 
 use crate::number::{number_in, number_list};
@@ -17,7 +17,8 @@ use serial_meaning::Show;
 use std::alloc::{AllocError, Global};
 use std::marker::Model;
 
-// The words of a command line, of which the first pairs are looked at. Each of these pairs has a value.
+// The words of a command line, and how many pairs after the command are taken into account. Each of these pairs is
+// complete.
 #[derive(Drop)]
 pub(crate) struct Given<'a> {
     words: &'a [String],
@@ -53,7 +54,7 @@ fn names_option(word: &str, name: OptionName) -> bool
     }
 }
 
-// The index of the word that gives an option among the first pairs.
+// The index of an option's value among the first `pairs` pairs.
 fn value_index_of(words: &[String], pairs: u32, name: OptionName) -> Option<u32>
     requires within { 2 * pairs < length words.now }
     requires small { 2 * pairs < 2 ^ 32 }
@@ -66,7 +67,7 @@ fn value_index_of(words: &[String], pairs: u32, name: OptionName) -> Option<u32>
     index
 }
 
-// The index of the word that gives an option among the pairs with this one, from that among those before it.
+// The same with pair `pair`, given the index among those before it.
 fn next_index(words: &[String], pair: u32, name: OptionName, before: Option<u32>) -> Option<u32>
     requires within { 2 * pair + 2 < length words.now }
     requires small { 2 * pair + 2 < 2 ^ 32 }
@@ -81,7 +82,7 @@ fn next_index(words: &[String], pair: u32, name: OptionName, before: Option<u32>
 }
 
 impl<'a> Given<'a> {
-    // These words with so many pairs.
+    // These words with their first `pairs` pairs.
     pub(crate) fn new(words: &'a [String], pairs: u32) -> Given<'a>
         requires within { 2 * pairs < length words.now }
         requires small { 2 * pairs < 2 ^ 32 }
@@ -90,14 +91,14 @@ impl<'a> Given<'a> {
         Given { words, pairs }
     }
 
-    // How many words there are.
+    // How many words there are, the command's included.
     pub(crate) fn len(&self) -> usize
         ensures { result ≡ length self.now.words }
     {
         self.words.len()
     }
 
-    // The index of the word that gives an option.
+    // The index of an option's value.
     pub(crate) fn value_index(&self, name: OptionName) -> Option<u32>
         ensures { IsValueIndex self.now.words self.now.pairs name result }
     {
@@ -112,7 +113,7 @@ impl<'a> Given<'a> {
         text_at(self.words, at as usize)
     }
 
-    // Whether an option was given. A seed and coefficients exclude each other, so either counts as the other.
+    // Whether an option was given. `--seed` and `--gamma` exclude each other, so each counts as the other.
     pub(crate) fn has(&self, name: OptionName) -> bool
         ensures { result ≡ has (values_in self.now) name }
     {
@@ -125,9 +126,9 @@ impl<'a> Given<'a> {
         }
     }
 
-    // The number that an option gives, and the index of its word.
-    pub(crate) fn placed(&self, name: OptionName) -> Option<(u64, u32)>
-        ensures { IsPlaced (values_in self.now) name result }
+    // The number that is an option's value, and the index of its word.
+    pub(crate) fn indexed_number(&self, name: OptionName) -> Option<(u64, u32)>
+        ensures { IsIndexedNumber (values_in self.now) name result }
     {
         let Some(at) = self.value_index(name) else {
             return None;
@@ -138,18 +139,18 @@ impl<'a> Given<'a> {
         }
     }
 
-    // The number that an option gives.
+    // The number that is an option's value.
     pub(crate) fn number(&self, name: OptionName) -> Option<u64>
         ensures value { result ≡ number_value (values_in self.now) name }
         ensures range { IfSome result (IsInRange (value_type_of name)) }
     {
-        match self.placed(name) {
+        match self.indexed_number(name) {
             Some((number, _)) => Some(number),
             None => None,
         }
     }
 
-    // The number below 2^32 that an option gives, or this one where it isn't given.
+    // The value of an option whose numbers are below 2^32, or the default.
     pub(crate) fn small_number(&self, name: OptionName, default: u32) -> u32
         requires small { IsSmall (value_type_of name) }
         requires within { IsInRange (value_type_of name) default }
@@ -162,14 +163,14 @@ impl<'a> Given<'a> {
         }
     }
 
-    // The list that an option gives, with the index of its word.
+    // The list that is an option's value, and the index of its word.
     pub(crate) fn list(
         &self,
         alloc: Global,
         name: OptionName,
     ) -> Result<Option<(Vec<u64>, u32)>, AllocError>
-        ensures value { IfOk result (λ placed. IsPlacedList (values_in self.now) name (option_map (λ p. (p.0.items, p.1)) placed)) }
-        ensures count { IfOk result (λ placed. IfSome placed (λ p. HasCount (value_type_of name) (length p.0.items))) }
+        ensures value { IfOk result (λ indexed. IsIndexedList (values_in self.now) name (option_map (λ p. (p.0.items, p.1)) indexed)) }
+        ensures count { IfOk result (λ indexed. IfSome indexed (λ p. HasCount (value_type_of name) (length p.0.items))) }
     {
         let Some(at) = self.value_index(name) else {
             return Ok(None);
@@ -180,7 +181,7 @@ impl<'a> Given<'a> {
         }
     }
 
-    // The pedigree that is given.
+    // The value of `--at`.
     pub(crate) fn pedigree(&self, alloc: Global) -> Result<Option<Pedigree>, WordError>
         ensures value { IfOk result (λ j. j ≡ pedigree (values_in self.now)) }
         ensures few { IfOk result (λ j. IfSome j (λ ranks. length ranks ≤ most_ranks)) }
@@ -195,7 +196,7 @@ impl<'a> Given<'a> {
         }
     }
 
-    // What is to be shown.
+    // The value of `--show`.
     pub(crate) fn show(&self) -> Option<Show>
         ensures { result ≡ show (values_in self.now) }
     {
@@ -205,7 +206,7 @@ impl<'a> Given<'a> {
         }
     }
 
-    // The shape that is given.
+    // The value of `--shape`.
     pub(crate) fn shape(&self) -> Option<Shape>
         ensures { result ≡ shape (values_in self.now) }
     {
@@ -216,7 +217,7 @@ impl<'a> Given<'a> {
     }
 }
 
-// The number that a word is, as a value of this type.
+// The word read as a number of this type.
 fn number_as(value_type: ValueType, word: &str) -> Option<u64>
     ensures value { result ≡ number_as value_type word.now }
     ensures range { IfSome result (IsInRange value_type) }
@@ -230,7 +231,7 @@ fn number_as(value_type: ValueType, word: &str) -> Option<u64>
     }
 }
 
-// The numbers that a word is, as a value of this type.
+// The word read as a list of this type.
 #[tactic(auto, using(crate::proofs::NumberLemmas::counted))]
 fn list_as(alloc: Global, value_type: ValueType, word: &str) -> Result<Option<Vec<u64>>, AllocError>
     ensures value { IfOk result (λ list. option_map (λ l. l.items) list ≡ list_as value_type word.now) }

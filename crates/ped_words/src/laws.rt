@@ -2,7 +2,8 @@
 
 ghost use Rattle.ped_words.specs.Laws.{OrdersGiveOneCommand};
 
-/// Words that give a command give the same command in each order of their option pairs.
+/// The order of the option pairs doesn't matter: words that are a command are the same command in each order of their
+/// pairs.
 pub fn orders_give_one_command()
     ensures { OrdersGiveOneCommand }
 {}

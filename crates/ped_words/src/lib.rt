@@ -1,7 +1,7 @@
-//! The words of a command line: which command they are, or the first rule that they break.
+//! Reads the words of a command line: they are a command, or break a rule, of which the first one is returned.
 //!
-//! The first word is the command. After it stand pairs of a word `--NAME` and a value, in any order. Words are judged from left to
-//! right, beginning with the command, and what only all words together can show is judged after the last one.
+//! The first word names the command. Pairs of a word `--NAME` and a value follow, in any order. Words are judged from
+//! left to right; what depends on several of them is judged after the last one.
 #![tactic(auto)]
 
 mod command;

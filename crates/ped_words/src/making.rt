@@ -1,8 +1,8 @@
-// The command that the given values make, and what is judged after the last word.
+// Makes the command of the given values, and judges what depends on several words.
 
 ghost use Rattle.std.specs.Prelude.{◌≡◌, ◌<◌, ◌^◌, IfErr, IfOk, None, length, true};
 ghost use Rattle.ped_words.specs.Commands.{AreLawful, IsLawful, IsWorkers};
-ghost use Rattle.ped_words.specs.Making.{budget_of, depth_of, gamma_error, gamma_fits, command_gamma, limits_of, made_command, rounds_of, settings_of, unfit, workers_of};
+ghost use Rattle.ped_words.specs.Making.{budget_of, depth_of, gamma_error, gamma_fits, command_gamma, limits_of, made_command, rounds_of, settings_of, range_error, workers_of};
 ghost use Rattle.ped_words.specs.Rules.{IsRefusal, IsUnlessMemory, breaks};
 ghost use Rattle.ped_words.specs.Table.{value_type_of};
 ghost use Rattle.ped_words.specs.Given.{values_in};
@@ -17,10 +17,10 @@ use dotmix::{Gamma, GammaError};
 use serial_meaning::{Limits, Show};
 use std::alloc::Global;
 
-// How long pedigrees may be where no depth is given.
+// The depth where none is given.
 const DEFAULT_DEPTH: u32 = 256;
 
-// How many coefficients there are where a command takes no depth.
+// The number of coefficients of a command that takes no depth.
 const HASH_DEPTH: u32 = 512;
 
 // The seed where neither a seed nor coefficients are given.
@@ -32,11 +32,11 @@ const DEFAULT_WORKERS: u32 = 4;
 
 const DEFAULT_ROUNDS: u32 = 4;
 
-// How many ranks there are on a path.
+// Ranks are below this.
 const RANKS: u64 = 1 << 32;
 
 impl<'a> Given<'a> {
-    // The command that all pairs give.
+    // The command of all pairs, or the first rule that is broken only by several words together.
     pub(crate) fn command(
         &self,
         alloc: Global,
@@ -68,8 +68,8 @@ impl<'a> Given<'a> {
         }
     }
 
-    // An option is missing.
-    fn lacks(&self) -> WordError
+    // An option that the command needs is missing.
+    fn missing_option(&self) -> WordError
         requires { length self.now.words < 2 ^ 32 }
         ensures { result ≡ breaks Rule.MissingOption (length self.now.words) }
     {
@@ -83,7 +83,7 @@ impl<'a> Given<'a> {
         ensures lawful { IfOk result IsLawful }
     {
         let Some(number) = self.number(OptionName::Number) else {
-            return Err(self.lacks());
+            return Err(self.missing_option());
         };
         Ok(Command::Sim {
             settings: self.settings(alloc)?,
@@ -99,7 +99,7 @@ impl<'a> Given<'a> {
         ensures lawful { IfOk result IsLawful }
     {
         let Some(at) = self.pedigree(alloc)? else {
-            return Err(self.lacks());
+            return Err(self.missing_option());
         };
         let settings = self.settings(alloc)?;
         Ok(Command::Replay { settings, at })
@@ -112,7 +112,7 @@ impl<'a> Given<'a> {
         ensures lawful { IfOk result IsLawful }
     {
         let Some(at) = self.pedigree(alloc)? else {
-            return Err(self.lacks());
+            return Err(self.missing_option());
         };
         Ok(Command::Hash {
             gamma: self.coefficients(alloc, HASH_DEPTH)?,
@@ -127,8 +127,9 @@ impl<'a> Given<'a> {
         ensures value { IsUnlessMemory (made_command Subcommand.Gen (values_in self.now) (length self.now.words)) result }
         ensures lawful { IfOk result IsLawful }
     {
-        let (Some(shape), Some((size, at))) = (self.shape(), self.placed(OptionName::Size)) else {
-            return Err(self.lacks());
+        let (Some(shape), Some((size, at))) = (self.shape(), self.indexed_number(OptionName::Size))
+        else {
+            return Err(self.missing_option());
         };
         if !shape.fits(size) {
             return Err(Rule::OutOfRange.at(at));
@@ -136,17 +137,17 @@ impl<'a> Given<'a> {
         Ok(Command::Gen { shape, size })
     }
 
-    // The command `stream`, which needs a pedigree and a count that its ranks are enough for.
+    // The command `stream`, which needs a pedigree and a count with which the ranks stay below 2^32.
     fn stream_command(&self, alloc: Global) -> Result<Command, WordError>
         requires { length self.now.words < 2 ^ 32 }
         ensures value { IsUnlessMemory (made_command Subcommand.Stream (values_in self.now) (length self.now.words)) result }
         ensures lawful { IfOk result IsLawful }
     {
         let Some(at) = self.pedigree(alloc)? else {
-            return Err(self.lacks());
+            return Err(self.missing_option());
         };
-        let Some((count, count_at)) = self.placed(OptionName::Count) else {
-            return Err(self.lacks());
+        let Some((count, count_at)) = self.indexed_number(OptionName::Count) else {
+            return Err(self.missing_option());
         };
         let gamma = self.coefficients(alloc, HASH_DEPTH)?;
         if at.rank + count > RANKS {
@@ -168,7 +169,7 @@ impl<'a> Given<'a> {
         ensures lawful { IfOk result IsLawful }
     {
         let Some((seeds, _)) = self.list(alloc, OptionName::Seeds)? else {
-            return Err(self.lacks());
+            return Err(self.missing_option());
         };
         Ok(Command::Batch {
             seeds: Items(seeds),
@@ -182,7 +183,7 @@ impl<'a> Given<'a> {
     fn settings(&self, alloc: Global) -> Result<Settings, WordError>
         ensures ok { IfOk result (λ settings. settings ≡ settings_of (values_in self.now)) }
         ensures fits { IfOk result (λ settings. gamma_fits (values_in self.now) (depth_of (values_in self.now)) ≡ true) }
-        ensures err { IfErr result (IsRefusal (unfit (values_in self.now) OptionName.Gamma (gamma_fits (values_in self.now) (depth_of (values_in self.now))))) }
+        ensures err { IfErr result (IsRefusal (range_error (values_in self.now) OptionName.Gamma (gamma_fits (values_in self.now) (depth_of (values_in self.now))))) }
         ensures lawful { IfOk result AreLawful }
     {
         let limits = self.limits();
@@ -233,11 +234,11 @@ impl<'a> Given<'a> {
         self.small_number(OptionName::Rounds, DEFAULT_ROUNDS)
     }
 
-    // The coefficients of this depth, of the list that is given or else of the seed.
+    // This many coefficients: those of the given list, followed by zeros, else those of the seed.
     fn coefficients(&self, alloc: Global, depth: u32) -> Result<Gamma, WordError>
         ensures ok { IfOk result (λ gamma. gamma ≡ command_gamma (values_in self.now) depth) }
         ensures fits { IfOk result (λ gamma. gamma_fits (values_in self.now) depth ≡ true) }
-        ensures err { IfErr result (IsRefusal (unfit (values_in self.now) OptionName.Gamma (gamma_fits (values_in self.now) depth))) }
+        ensures err { IfErr result (IsRefusal (range_error (values_in self.now) OptionName.Gamma (gamma_fits (values_in self.now) depth))) }
         ensures long { IfOk result (λ gamma. length gamma ≡ depth) }
     {
         match self.list(alloc, OptionName::Gamma)? {
@@ -253,7 +254,7 @@ impl<'a> Given<'a> {
     }
 }
 
-// The coefficients in the word at this index make no list of the depth.
+// Why the list at this index gives no coefficients: it is too long, or a number in it is too big.
 fn gamma_error(error: GammaError, at: u32) -> WordError
     ensures { result ≡ gamma_error error at }
 {

@@ -22,7 +22,7 @@ fn all_digits(bytes: &[u8]) -> bool
     bytes.iter().all(|byte| byte.is_ascii_digit())
 }
 
-// The number that a word is. It may be from `least` to `most`.
+// The word read as a number from `least` to `most`.
 pub(crate) fn number_in(word: &str, least: u64, most: u64) -> Result<u64, Rule>
     ensures range { IfOk result (λ n. (least ≤ n) × (n ≤ most)) }
     ensures ok { IfOk result (λ n. (number_rule least most word.now ≡ None) × (n ≡ number_in_word word.now)) }
@@ -37,8 +37,8 @@ pub(crate) fn number_in(word: &str, least: u64, most: u64) -> Result<u64, Rule>
     }
 }
 
-// The numbers of a word, which are joined by commas. There may be at most so many where there is a greatest count. The form of all
-// is judged before the range of any.
+// The word read as numbers joined by commas, at most `most` of them if that is given. The form of all is judged before
+// the range of any.
 pub(crate) fn number_list(
     alloc: Global,
     word: &str,
@@ -80,7 +80,7 @@ fn all_numbers(parts: &[&str]) -> bool
     parts.iter().all(|part| is_number(part))
 }
 
-// The values of these numbers. There is none where one is above every `u64`.
+// The values of these numbers, or `None` where one of them doesn't fit a `u64`.
 fn values(alloc: Global, parts: &[&str]) -> Result<Option<Vec<u64>>, AllocError>
     requires { list_all (λ x. is_number x.now) parts.now ≡ true }
     ensures { IfOk result (λ values. AreValues parts.now (option_map (λ v. v.items) values)) }

@@ -14,11 +14,11 @@ use crate::table::{OptionName, Subcommand};
 use crate::value::judge_value;
 use std::alloc::Global;
 
-/// The command that these words are, or the first rule that they break, with the index of the word that breaks it.
+/// Reads a command, or returns the first rule that the words break, with the index of the word that breaks it.
 ///
-/// The first word is the command. After it stand pairs of a word `--NAME` and a value, in any order, each name at most once. What
-/// only all words together can show is judged after the last one: a missing option, coefficients beyond the depth, a size beyond
-/// the shape, a count beyond the last rank. Words that are a command are refused only for want of memory.
+/// The first word names the command. Pairs of a word `--NAME` and a value follow, in any order, each name at most once.
+/// What depends on several words is judged after the last one: a missing option, coefficients that don't fit the depth,
+/// a size that doesn't fit the shape, a count that passes the last rank. `Memory` may come instead of any answer.
 #[tactic(auto, unfolding(crate::specs::Reading::reading))]
 pub fn read_words(alloc: Global, words: &[String]) -> Result<Command, WordError>
     ensures value { IsUnlessMemory (reading (map string_bytes words.now)) result }
@@ -35,7 +35,8 @@ pub fn read_words(alloc: Global, words: &[String]) -> Result<Command, WordError>
     given.command(alloc, subcommand)
 }
 
-// Judges all pairs. There are few words where no pair breaks a rule, since each option is given once, and the last one has a value.
+// Judges all pairs. Where none breaks a rule there are few words, since each option is given at most once, and each
+// name has its value.
 fn judge_pairs(alloc: Global, subcommand: Subcommand, words: &[String]) -> Result<(), WordError>
     requires { 0 < length words.now }
     ensures broken { OnOk result (first_broken subcommand (map string_bytes words.now) ≡ None) }
@@ -51,7 +52,7 @@ fn judge_pairs(alloc: Global, subcommand: Subcommand, words: &[String]) -> Resul
     Ok(())
 }
 
-// Judges a pair after others that break no rule.
+// Judges one pair, where those before it break no rule.
 fn judge_pair(
     alloc: Global,
     subcommand: Subcommand,
@@ -86,7 +87,7 @@ fn judge_pair(
     )
 }
 
-// The option that this word names, where the name of one is due. It may be the last word.
+// Judges a word that must name an option.
 fn judge_name(
     subcommand: Subcommand,
     given: &Given,

@@ -4,7 +4,7 @@ ghost use Rattle.ped_words.specs.Rules.{number_of, rule_of, rule_text, rule_name
 use ped_path::PedTextError;
 use std::alloc::{AllocError, AllocFailed};
 
-// The rules for words, by what breaks them.
+// The rules for words, named by what breaks them.
 #[derive(Clone, Copy, Debug, PartialEq, Eq)]
 pub(crate) enum Rule {
     NoCommand,
@@ -21,9 +21,11 @@ pub(crate) enum Rule {
 /// Why words are no command.
 #[derive(Clone, Copy, Debug, PartialEq, Eq)]
 pub enum WordError {
-    /// The first rule that is broken, and the index of the word that breaks it, from 0. Words are judged from left to right; at one word 9, 3, 4
-    /// and 5 in this order where a name is due, and 6 before 7 at a value. A value of another form than its option's is 6; one of the right form
-    /// beyond its range is 7 (docs/LANGUAGE.md, "Command words"). 8 is judged after the last word, and then 7 of what only all words show.
+    /// The number of the first rule that is broken, and the index of the word that breaks it, from 0. Words are judged
+    /// from left to right: a word that must name an option by 9, 3, 4 and 5 in this order, a value by 6 and then 7. A
+    /// value that doesn't have its option's form breaks 6, one of the right form but beyond its range breaks 7
+    /// (docs/LANGUAGE.md, "Command words"). 8 is judged after the last word, and then 7 for what depends on several
+    /// words.
     ///
     /// | Number | Rule | Word |
     /// |---|---|---|
@@ -37,7 +39,7 @@ pub enum WordError {
     /// | 8 | missing option | the number of words |
     /// | 9 | stray word | the word |
     Bad { number: u8, at: u32 },
-    /// There was no memory for the call.
+    /// Memory ran out.
     Memory,
 }
 
@@ -58,7 +60,7 @@ impl Rule {
         }
     }
 
-    // The rule of this number. Of a number that none has it is the last.
+    // The rule with this number; 9 where none has it.
     fn of_number(number: u8) -> Rule
         ensures { result ≡ rule_of number }
     {
@@ -91,7 +93,7 @@ impl Rule {
         }
     }
 
-    // This rule is broken at the word of this index.
+    // The error that this rule is broken at the word with this index.
     pub(crate) fn at(self, at: u32) -> WordError
         ensures { result ≡ WordError.Bad (number_of self) at }
     {
@@ -101,7 +103,7 @@ impl Rule {
         }
     }
 
-    // The rule that a text breaks which is no pedigree's. There is none where there was no memory.
+    // The rule that a text breaks which isn't a pedigree. `None` for want of memory, which breaks no rule.
     pub(crate) fn of_text(error: PedTextError) -> Option<Rule>
         ensures { result ≡ text_rule error }
     {
@@ -115,7 +117,7 @@ impl Rule {
     }
 }
 
-/// What a number of `WordError::Bad` says, in words: that of `no command` is 1. A number that no rule has is taken for 9.
+/// The text for a number of `WordError::Bad`, as in its table. A number that no rule has is taken for 9.
 pub fn rule_text(number: u8) -> &'static str
     ensures { result.now ≡ rule_text number }
 {
@@ -132,7 +134,7 @@ impl From<AllocError> for WordError {
     }
 }
 
-/// The value that found no room is dropped.
+/// The value for which there was no memory is dropped.
 impl<T: Drop> From<AllocFailed<T>> for WordError {
     ghost use Rattle.ped_words.specs.declared.rule.WordError.TheVariants as E;
 

@@ -9,10 +9,10 @@ const MOST_BUDGET: u64 = 4_294_967_295;
 
 const MOST_WORKERS: u64 = 64;
 
-// How many numbers a stream has at most.
+// A stream has at most this many numbers.
 const MOST_COUNT: u64 = 1_048_576;
 
-/// How many seeds a batch has at most.
+/// A batch has at most this many seeds.
 pub const MOST_SEEDS: u64 = 256;
 
 // The commands.
@@ -50,12 +50,12 @@ pub(crate) enum OptionName {
     Seeds,
 }
 
-// What the value of an option is.
+// What the value of an option must be.
 #[derive(Clone, Copy, Debug, PartialEq, Eq)]
 pub(crate) enum ValueType {
-    // A number of this range.
+    // A number in this range.
     Number { least: u64, most: u64 },
-    // Numbers joined by commas, at most so many where there is a greatest count.
+    // Numbers joined by commas, at most this many if there is a limit.
     Numbers { most: Option<u64> },
     Pedigree,
     Show,
@@ -63,7 +63,7 @@ pub(crate) enum ValueType {
 }
 
 impl Subcommand {
-    // The command that this word names.
+    // The command with this name.
     pub(crate) fn of_word(word: &str) -> Option<Subcommand>
         ensures { result ≡ subcommand_of word.now }
     {
@@ -83,7 +83,7 @@ impl Subcommand {
         }
     }
 
-    // Whether this command has the option.
+    // Whether the command has this option.
     pub(crate) fn takes_option(self, name: OptionName) -> bool
         ensures { result ≡ takes_option self name }
     {
@@ -128,7 +128,7 @@ impl Subcommand {
 }
 
 impl OptionName {
-    // The option that this word names.
+    // The option with this name.
     pub(crate) fn of_word(word: &str) -> Option<OptionName>
         ensures { result ≡ name_of word.now }
     {
@@ -164,7 +164,7 @@ impl OptionName {
         self.option_number() == other.option_number()
     }
 
-    // What the option's value is, and its range.
+    // What the option's value must be.
     pub(crate) fn value_type(self) -> ValueType
         ensures { result ≡ value_type_of self }
     {

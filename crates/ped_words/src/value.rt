@@ -1,4 +1,4 @@
-// Values of options: what each one is, and which rule a word breaks that is none.
+// Reads the values of options, or finds the rule that a word breaks.
 
 ghost use Rattle.std.specs.Prelude.{◌≡◌, ◌<◌, ◌≤◌, if◌then◌else◌, None, Some, All, IfErr, IfOk, OnOk, length};
 ghost use Rattle.ped_path.specs.Path.{IsRank};
@@ -15,7 +15,7 @@ use ped_path::{Pedigree, parse_pedigree};
 use serial_meaning::Show;
 use std::alloc::Global;
 
-// Judges the word at this index as a value of this type.
+// Judges the word at index `at` as a value of this type.
 pub(crate) fn judge_value(
     alloc: Global,
     value_type: ValueType,
@@ -31,7 +31,7 @@ pub(crate) fn judge_value(
     }
 }
 
-// The rule that a word breaks as a value of this type.
+// The rule that the word breaks as a value of this type.
 fn broken_rule(alloc: Global, value_type: ValueType, word: &str) -> Result<Option<Rule>, WordError>
     ensures rule { IfOk result (λ rule. rule ≡ type_rule value_type word.now) }
     ensures memory { IfErr result (λ e. e ≡ WordError.Memory) }
@@ -45,25 +45,25 @@ fn broken_rule(alloc: Global, value_type: ValueType, word: &str) -> Result<Optio
     }
 }
 
-// What is broken by a word that should name something.
+// The rule that is broken by a word that should be one of a few names.
 fn unnamed(names: bool) -> Option<Rule>
     ensures { result ≡ (if names then None else Some Rule.BadValue) }
 {
     if names { None } else { Some(Rule::BadValue) }
 }
 
-// How many ranks a pedigree has, each of them below 2^32.
+// How many ranks a pedigree has. The contract also says that each is below 2^32.
 fn rank_count(pedigree: &Pedigree) -> u64
     ensures count { result ≡ length pedigree.now }
     ensures some { 0 < length pedigree.now }
     ensures ranks { All IsRank pedigree.now }
 {
-    // Read for the proof: a pedigree has a last rank, and each is below 2^32.
+    // For the proof: a pedigree has a last rank, and each is below 2^32.
     let _rank = pedigree.rank;
     pedigree.len()
 }
 
-// The pedigree of this text, or the rule that the text breaks.
+// The word read as a pedigree, or the rule that it breaks.
 pub(crate) fn pedigree_in(alloc: Global, word: &str) -> Result<Result<Pedigree, Rule>, WordError>
     ensures read { IfOk result (IsRead word.now) }
     ensures memory { IfErr result (λ e. e ≡ WordError.Memory) }

@@ -1,8 +1,8 @@
--- What the program answers before the top call.
+-- How the program answers without a top call.
 use Rattle.std.specs.Prelude.{◌≡◌, ℕ, List}
 use Rattle.engine.specs.Promise.{WroteLine, Watched}
 use Rattle.engine.specs.declared.status.Status.{Status}
 
--- The answer came with a line on the error output.
+-- The status is `wanted`, and this line was written to the error output.
 abbrev pub WritesRefusal : Status → List ℕ → Watched → Status → Type 0
 WritesRefusal wanted line err status = (status ≡ wanted) × WroteLine err line

@@ -1,4 +1,4 @@
--- Which words ask for a text of the help, and for which.
+-- Which words ask for help, and for which text.
 use Rattle.std.specs.Prelude.{ℕ, Bool, false, if◌then◌else◌, Option, Some, None, List, [], ◌∷◌, codes}
 use Rattle.std.specs.Str.{bytes_eq}
 use Rattle.pedrun.specs.declared.help.Topic.{Topic}
@@ -19,7 +19,7 @@ topic_of_command word =
     else if bytes_eq word (codes "batch") then Some Batch
     else None
 
--- the words after a command ask for its help: they are `--help` alone
+-- the words after a command are `--help` alone, which asks for its help
 abbrev pub asks_help : List (List ℕ) → Bool
 asks_help (word ∷ []) = bytes_eq word (codes "--help")
 asks_help words = false

@@ -1,8 +1,8 @@
--- What a person gets after a line on words.
+-- The lines that follow a line on faulty words.
 use Rattle.std.specs.Prelude.{ℕ, Option, Some, None, List, ◌++◌, codes, decimal, length, map, min, take}
 use Rattle.script_excerpt.specs.Excerpts.{shown}
 
--- what is shown of a word: 72 bytes at most
+-- the part of a word that is shown: 72 bytes at most
 abbrev pub shown_word : List ℕ → List ℕ
 shown_word word = map shown (take (min (length word) 72) word)
 
@@ -10,7 +10,7 @@ shown_word word = map shown (take (min (length word) 72) word)
 abbrev pub word_line : ℕ → List ℕ → List ℕ
 word_line at word = codes "word " ++ decimal at ++ codes " is " ++ shown_word word ++ codes "\n"
 
--- how to ask for the help of a command, or of the program
+-- how to ask for a command's help, or for the program's
 abbrev pub try_line : Option (List ℕ) → List ℕ
 try_line (Some command) = codes "try: pedrun " ++ command ++ codes " --help\n"
 try_line None = codes "try: pedrun --help\n"

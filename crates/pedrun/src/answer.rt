@@ -1,4 +1,4 @@
-// What the program answers to its words, over any streams.
+// Answers the program's words, over any streams.
 
 ghost use Rattle.std.specs.Prelude.{map, string_bytes};
 ghost use Rattle.engine.specs.Clauses.{change};
@@ -13,7 +13,7 @@ use std::alloc::Global;
 use std::sync::Wait;
 use std::thread::Threads;
 
-/// Answers the words after the program's name: by the text of the help that they ask for, or by a top call.
+/// Answers the words after the program's name: with the help text that they ask for, or by a top call.
 pub fn answer<R: Threads + Wait + Sync, S: Source, K: Sink, E: Sink>(
     rt: &R,
     alloc: Global,

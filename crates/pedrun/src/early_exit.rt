@@ -1,4 +1,4 @@
-// What the program answers before the top call: a text of the help, or a line on arguments that can't be had.
+// Answers without a top call: a help text, or the line for arguments that can't be read.
 
 ghost use Rattle.std.specs.Prelude.{◌≡◌, IsFalse, codes};
 ghost use Rattle.engine.specs.Promise.{has_line, watched};
@@ -7,22 +7,22 @@ ghost use Rattle.pedrun.specs.EarlyExit.{WritesRefusal};
 
 use engine::Status;
 use engine::call::put_text;
-use engine::call_end::{CallEnd, tell, write_error_line};
+use engine::call_end::{CallEnd, write_end, write_error_line};
 use ped_io::Sink;
 use std::io::ErrorKind;
 
-/// Writes a text of the help. The answer is `Done`, or `Write` where a write of it failed, with a line on `err`.
+/// Writes a help text. The status is `Done`; where a write of the text failed it is `Write`, with a line on `err`.
 pub fn write_help<K: Sink, E: Sink>(text: &str, out: &mut K, err: &mut E) -> Status
     ensures shown { Shows text.now (watched K.written K.faults out.old out.new) (watched E.written E.faults err.old err.new) result }
     ensures no_line { IsFalse (has_line result) → err.new ≡ err.old }
 {
     let end = put_text(text.as_bytes(), CallEnd::Done, out);
-    tell(&end, err);
+    write_end(&end, err);
     end.status()
 }
 
-/// Tells why the arguments couldn't be had, by the kind of the error: they are a faulty command line where one isn't UTF-8, and there was
-/// no memory for them else.
+/// Writes why the arguments couldn't be read. `InvalidData` says that one of them isn't UTF-8, which is a faulty
+/// command line; any other error counts as want of memory.
 pub fn refuse<E: Sink>(kind: ErrorKind, err: &mut E) -> Status
     ensures words { kind ≡ ErrorKind.InvalidData → WritesRefusal Status.Words (codes "words: not UTF-8\n") (watched E.written E.faults err.old err.new) result }
     ensures memory { (kind ≡ ErrorKind.InvalidData → ⊥) → WritesRefusal Status.Memory (codes "out of memory\n") (watched E.written E.faults err.old err.new) result }

@@ -1,18 +1,18 @@
-// The line of a fault in an output.
+// Finds the line of a fault in an output.
 
 use std::alloc::{AllocError, Global};
 use std::mem;
 
-// How much of a line is kept at most: a pedigree has 512 ranks of ten digits.
+// The longest line that is kept: enough for a pedigree of 512 ranks of ten digits.
 const MOST_KEPT: usize = 8192;
 
-/// Finds in the bytes of an output, as they come, the first line of a fault, and the seed of a batch above it.
+/// Watches the bytes of an output for the first line of a fault, and for the seed line of a batch above it.
 #[derive(Drop)]
 pub struct FaultLine {
     alloc: Global,
-    // The line so far, where it may be one of these.
+    // The current line so far, while it may be one of these.
     line: Vec<u8>,
-    // Whether the line is none of them.
+    // Whether the current line can't be one of them.
     is_other: bool,
     seed: Vec<u8>,
     fault: Vec<u8>,
@@ -29,7 +29,7 @@ impl FaultLine {
         }
     }
 
-    // Ends the line.
+    // The current line has ended.
     fn end_line(&mut self) {
         let line = mem::replace(&mut self.line, Vec::new(self.alloc));
         self.is_other = false;
@@ -43,7 +43,7 @@ impl FaultLine {
         }
     }
 
-    // One more byte.
+    // Takes one more byte.
     fn add_byte(&mut self, byte: u8) -> Result<(), AllocError> {
         if byte == b'\n' {
             self.end_line();
@@ -58,14 +58,14 @@ impl FaultLine {
         Ok(())
     }
 
-    /// Some more bytes. Without memory for it, a line may be missed.
+    /// Takes more bytes. Where memory runs out, a line may be missed.
     pub fn add(&mut self, bytes: &[u8]) {
         for &byte in bytes {
             let _ = self.add_byte(byte);
         }
     }
 
-    /// The pedigree in the fault's line and what the fault is, if there was one.
+    /// The fault's pedigree and kind as in its line, if there was one.
     pub fn fault(&self) -> Option<(&str, &str)> {
         str::from_utf8(&self.fault)
             .ok()?
@@ -73,7 +73,7 @@ impl FaultLine {
             .split_once(": ")
     }
 
-    /// The seed in the last line of one before it.
+    /// The seed in the last seed line before the fault, if there was one.
     pub fn seed(&self) -> Option<&str> {
         str::from_utf8(&self.seed).ok()?.strip_prefix("seed ")
     }

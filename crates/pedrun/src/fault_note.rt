@@ -1,4 +1,4 @@
-// What a person gets where a run ended by a fault: where the fault came from, and the call that replays its strand.
+// The note on a run that ended by a fault: where the fault came from, and the call that replays its strand.
 
 use crate::fault_line::FaultLine;
 use crate::replay_call::{call_line, replay_words};
@@ -10,7 +10,7 @@ use std::sync::Wait;
 use std::thread::Threads;
 use std::time::Clock;
 
-// The lines on a place.
+// The lines that show the place of the fault.
 fn place_lines(
     alloc: Global,
     text: &[u8],
@@ -31,8 +31,9 @@ fn place_lines(
     }
 }
 
-/// The lines after a call that ended by a fault: the line and column of the statement at which the strand's instance stood, that line with a
-/// caret and the function, or that this takes longer; and the call that replays the strand. None where the output has no line of a fault.
+/// The note after a call that ended by a fault: the statement that met the fault, with line, column, a caret and the
+/// function's name, or that finding it takes longer; and the call that replays the strand. `None` where the output has
+/// no line of a fault.
 pub fn fault_note<R: Threads + Wait + Clock>(
     rt: &R,
     alloc: Global,
@@ -53,7 +54,7 @@ pub fn fault_note<R: Threads + Wait + Clock>(
         text.to_vec(alloc)?,
     )? {
         Search::Place(place) => place_lines(alloc, text, &place, kind)?,
-        Search::Late => b"the place takes longer: try replay\n".to_vec(alloc)?,
+        Search::TimedOut => b"the place takes longer: try replay\n".to_vec(alloc)?,
         Search::Strand | Search::Nothing => Vec::new(alloc),
     };
     lines.extend_from_slice(&last)?;

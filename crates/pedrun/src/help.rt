@@ -1,11 +1,11 @@
-// Which words ask for help, and for which.
+// Recognizes words that ask for help.
 
 ghost use Rattle.std.specs.Prelude.{◌≡◌, map, string_bytes};
 ghost use Rattle.pedrun.specs.Help.{asks_help, topic_of, topic_of_command};
 
 use crate::text;
 
-/// What there is a help text on.
+/// The help texts there are.
 #[derive(Clone, Copy, Debug, PartialEq, Eq)]
 pub enum Topic {
     /// The program as a whole.
@@ -26,7 +26,7 @@ pub enum Topic {
     Batch,
 }
 
-// Whether the words after a command ask for its help.
+// Whether the words after a command are `--help` alone.
 fn asks_help(words: &[String]) -> bool
     ensures { result ≡ asks_help (map string_bytes words.now) }
 {
@@ -37,7 +37,7 @@ fn asks_help(words: &[String]) -> bool
 }
 
 impl Topic {
-    /// The topic of a command's word. `None` where the word is no command.
+    /// The topic of the command with this name. `None` where there is no such command.
     pub fn of_command(word: &str) -> Option<Topic>
         ensures { result ≡ topic_of_command word.now }
     {
@@ -57,8 +57,8 @@ impl Topic {
         }
     }
 
-    /// What the words ask for: help where `--help` is the first, or the only one after a command, and the version where `--version` is the
-    /// first. `None` where they ask for nothing of this.
+    /// What the words ask for: help where `--help` is the first word, or the only one after a command, and the version
+    /// where `--version` is the first. `None` for any other words.
     pub fn of_words(words: &[String]) -> Option<Topic>
         ensures { result ≡ topic_of (map string_bytes words.now) }
     {
@@ -71,7 +71,7 @@ impl Topic {
         }
     }
 
-    /// The text, of whole lines.
+    /// The text. It ends with a line feed.
     pub fn text(self) -> &'static str {
         match self {
             Topic::Program => text::PROGRAM,

@@ -1,4 +1,4 @@
-// What a person gets after a line on words.
+// The lines that follow a line on faulty words.
 
 ghost use Rattle.std.specs.Prelude.{◌≡◌, ◌++◌, IfOk, OnOk, Some, None};
 ghost use Rattle.pedrun.specs.Hints.{shown_word, try_line, word_line};
@@ -9,13 +9,13 @@ use ped_words::{MOST_SEEDS, is_number};
 use script_excerpt::add_shown;
 use std::alloc::{AllocError, Global};
 
-// What the further lines on an option begin with, in a text of the help.
+// What the further lines on an option begin with in a help text.
 const CONTINUED: &str = "                   ";
 
-// How many bytes of a word are shown at most.
+// At most this many bytes of a word are shown.
 const MOST_SHOWN: usize = 72;
 
-// Adds as much of a word as is shown.
+// Adds the part of a word that is shown.
 fn add_word(line: &mut Vec<u8>, word: &str) -> Result<(), AllocError>
     ensures { OnOk result (line.new.items ≡ line.old.items ++ shown_word word.now) }
 {
@@ -33,7 +33,7 @@ fn word_line(alloc: Global, at: usize, word: &str) -> Result<Vec<u8>, AllocError
     Ok(line)
 }
 
-// Whether an option takes a number, which is of the right form, at this index of its list.
+// Whether an option's list may have this number at this index. The number has the right form.
 fn takes_number(option: &str, index: usize, number: &str) -> bool {
     match number.parse::<u64>() {
         Ok(value) => match option {
@@ -45,8 +45,8 @@ fn takes_number(option: &str, index: usize, number: &str) -> bool {
     }
 }
 
-// The first number of a list that its option doesn't take, with how many there are up to it: one of another form, or else one that
-// is too large or one too many.
+// The first number at fault in an option's list, and its position from 1: one of the wrong form, else one that is too
+// large or one too many.
 fn faulty_number<'a>(
     alloc: Global,
     option: &str,
@@ -66,8 +66,8 @@ fn faulty_number<'a>(
     Ok(None)
 }
 
-// The line that shows, of the word with this index, the number at fault. None where the word is no list, or each of its numbers is of the
-// right form and not too large.
+// The line that shows the number at fault in the list at this index. `None` where the word isn't a list, or no number
+// in it is at fault.
 fn number_line(
     alloc: Global,
     at: usize,
@@ -90,7 +90,7 @@ fn number_line(
     Ok(Some(line))
 }
 
-// Whether a line of a help text begins what it says on an option.
+// Whether a line of a help text is the first one on an option.
 fn begins_option(line: &str, option: &str) -> bool {
     match line.strip_prefix("  ") {
         Some(rest) => match rest.strip_prefix(option) {
@@ -101,7 +101,7 @@ fn begins_option(line: &str, option: &str) -> bool {
     }
 }
 
-// Adds the lines of a help text on an option: what it takes, and in which range.
+// Adds the lines of a help text on an option: its values and their range.
 fn add_option(lines: &mut Vec<u8>, text: &str, option: &str) -> Result<(), AllocError> {
     let mut is_inside = false;
     for line in text.lines() {
@@ -114,7 +114,7 @@ fn add_option(lines: &mut Vec<u8>, text: &str, option: &str) -> Result<(), Alloc
     Ok(())
 }
 
-// The line on a script's name among the words: a script comes by standard input.
+// The line on a word that is the name of a script's file: a script comes by standard input.
 fn script_line(alloc: Global, command: &str, word: &str) -> Result<Option<Vec<u8>>, AllocError> {
     if !word.ends_with(".ped") {
         return Ok(None);
@@ -127,7 +127,7 @@ fn script_line(alloc: Global, command: &str, word: &str) -> Result<Option<Vec<u8
     Ok(Some(line))
 }
 
-// The option whose value the word at this index is, behind the command and pairs.
+// The option whose value is at this index; empty where no value can be there.
 fn option_before(words: &[String], at: usize) -> &str {
     if at < 2 || at % 2 != 0 {
         return "";
@@ -135,7 +135,7 @@ fn option_before(words: &[String], at: usize) -> &str {
     words.get(at - 1).map_or("", String::as_str)
 }
 
-// What is shown of the word at which the fault is.
+// The lines on the faulty word.
 fn faulty_word(
     alloc: Global,
     words: &[String],
@@ -163,7 +163,7 @@ fn faulty_word(
     Ok(lines)
 }
 
-// The line that says how to ask for a command's help.
+// The line on how to ask for a command's help.
 fn try_command(alloc: Global, command: &str) -> Result<Vec<u8>, AllocError>
     ensures { IfOk result (λ line. line.items ≡ try_line (Some command.now)) }
 {
@@ -173,24 +173,24 @@ fn try_command(alloc: Global, command: &str) -> Result<Vec<u8>, AllocError>
     Ok(line)
 }
 
-// The line that says how to ask for the program's help.
+// The line on how to ask for the program's help.
 fn try_program(alloc: Global) -> Result<Vec<u8>, AllocError>
     ensures { IfOk result (λ line. line.items ≡ try_line None) }
 {
     b"try: pedrun --help\n".to_vec(alloc)
 }
 
-// The line of a command's help that says how it is used.
+// The usage line of a help text.
 fn usage(text: &str) -> &str {
     text.lines()
         .find(|line| line.starts_with("Usage: "))
         .unwrap_or("")
 }
 
-/// The lines after one on words. Where the fault is at a word, that word is shown, of a list the number at fault. How a script is read
-/// follows where the word is the name of one, and what the option takes where it is a value. Where the fault stands after the last word,
-/// which is a missing option, the command's usage is shown. Then comes how to ask for help: on the command, where there is one, else
-/// on the program.
+/// The lines after one on faulty words. They show the word at fault, of a list the number at fault. If the word is the
+/// name of a script's file, they say how a script is read; if it is an option's value, what the option takes. For a
+/// missing option they show the command's usage. The last line says how to ask for help: on the command, if there is
+/// one, else on the program.
 pub fn hints(alloc: Global, words: &[String], at: Option<usize>) -> Result<Vec<u8>, AllocError> {
     let command = words.first().map_or("", String::as_str);
     let topic = Topic::of_command(command);

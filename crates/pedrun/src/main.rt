@@ -1,7 +1,8 @@
-//! The program `pedrun`: its words, the help, the standard streams and the exit status. All else is the library `engine`.
+//! The program `pedrun`: help texts, standard streams, exit status, and what a person at a terminal gets. All else is
+//! the crate `engine`.
 //!
-//! What it answers over its streams is the clause of `answer`, on a terminal of `terminal::answer_on_terminal`. `main` makes the streams and
-//! takes the words, and ends by the code of the status.
+//! The contracts of `answer` and, on a terminal, of `terminal::answer_on_terminal` say what it does to its streams.
+//! `main` only makes the streams, reads the words and ends with the status.
 #![tactic(auto)]
 
 mod answer;
@@ -40,7 +41,7 @@ fn words(rt: &(impl Env + AllocGlobal)) -> io::Result<Vec<String>> {
     Ok(words)
 }
 
-// Whether the terminal knows the codes by which a line is written over.
+// Whether the terminal knows the control codes by which a line is overwritten.
 fn can_rewrite(rt: &(impl Env + AllocGlobal)) -> bool {
     match env::var(rt, "TERM") {
         Ok(term) => !term.is_empty() && term.as_str() != "dumb",

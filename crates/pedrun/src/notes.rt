@@ -1,4 +1,4 @@
-// What a person gets where a call said nothing, or named no strand.
+// Notes on a replay whose strand did nothing, or isn't there.
 
 use crate::replay_call::{call_line, replay_words};
 use crate::search::{Search, Target, search_in_thread};
@@ -18,7 +18,7 @@ pub fn value_of<'a>(words: &'a [String], option: &str) -> Option<&'a str> {
     None
 }
 
-// That this holds under the seed by which a strand was looked for.
+// Says something that holds under the call's seed, in case another seed was meant.
 fn seed_note(alloc: Global, words: &[String], what: &str) -> Result<Vec<u8>, AllocError> {
     let note = match (value_of(words, "--seed"), value_of(words, "--gamma")) {
         (Some(seed), _) => {
@@ -34,15 +34,15 @@ fn seed_note(alloc: Global, words: &[String], what: &str) -> Result<Vec<u8>, All
     Ok(note.into_bytes())
 }
 
-/// The note after a call of `replay` whose strand did nothing. None after another call.
-pub fn silence_note(alloc: Global, words: &[String]) -> Result<Option<Vec<u8>>, AllocError> {
+/// The note after a `replay` whose strand did nothing. `None` after another command.
+pub fn empty_strand_note(alloc: Global, words: &[String]) -> Result<Option<Vec<u8>>, AllocError> {
     if !words.first().is_some_and(|word| word.as_str() == "replay") {
         return Ok(None);
     }
     Ok(Some(seed_note(alloc, words, "the strand did nothing")?))
 }
 
-// The fault in the line that says by which one the way to a strand is blocked.
+// The fault that a line `blocked by fault F` names.
 fn blocking_fault(line: &[u8]) -> Option<&str> {
     str::from_utf8(line)
         .ok()?
@@ -50,9 +50,10 @@ fn blocking_fault(line: &[u8]) -> Option<&str> {
         .strip_suffix("\n")
 }
 
-/// The note after a call of `replay` that found no strand, by its line: the call that replays the fault on the way, or the name with one more
-/// rank, where that is a strand's, or under which seed there is none. None where it takes longer to tell.
-pub fn absence_note<R: Threads + Wait + Clock>(
+/// The note after a `replay` that found no strand, given its error line. Where a fault blocks the way, it is the call
+/// that replays that fault; where the name is a strand's with one more rank, that name; else the seed under which there
+/// is no such strand. `None` where finding out takes longer.
+pub fn no_strand_note<R: Threads + Wait + Clock>(
     rt: &R,
     alloc: Global,
     words: &[String],
@@ -71,12 +72,12 @@ pub fn absence_note<R: Threads + Wait + Clock>(
             let note = format!(in alloc; "a strand's name ends by a rank: try {first}\n")?;
             Ok(Some(note.into_bytes()))
         }
-        Search::Late => Ok(None),
+        Search::TimedOut => Ok(None),
         _ => Ok(Some(seed_note(alloc, words, "there is no such strand")?)),
     }
 }
 
-/// How many seeds a batch of these words has, and 0 where they are those of no batch.
+/// How many seeds the words list, if they are those of a batch, else 0.
 pub fn seed_count(words: &[String]) -> u64 {
     if words.first().is_some_and(|word| word.as_str() == "batch") {
         value_of(words, "--seeds").map_or(0, |seeds| seeds.split(',').count() as u64)

@@ -1,4 +1,4 @@
-// How far a run is, as a person sees it.
+// Shows how far a run is.
 
 ghost use Rattle.std.specs.Prelude.{◌<◌};
 
@@ -11,22 +11,23 @@ use std::sync::{Mutex, Wait};
 use std::time::{Clock, Duration};
 use std::{array, eprint};
 
-// When the line is shown first, in milliseconds after the run began.
-const FIRST: u64 = 2000;
+// How long after the beginning of the run the line is first shown, in milliseconds.
+const SHOWN_AFTER: u64 = 2000;
 
-// How long it stands until it is shown anew, in milliseconds.
-const STEP: u64 = 200;
+// How often it is shown anew, in milliseconds.
+const INTERVAL: u64 = 200;
 
-// How many counters there are.
-const PARTS: usize = 64;
+// How many counters the tasks are spread over.
+const COUNTERS: usize = 64;
 
-// How many ranks of a task's path say which of them counts it.
-const RANKS: u64 = 4;
+// How many ranks of a task's path pick its counter.
+const HASHED_RANKS: u64 = 4;
 
-// So many iterations of a loop in a row have one counter.
-const ROW: u64 = 4096;
+// This many consecutive iterations of a loop share a counter.
+const LOOP_BLOCK: u64 = 4096;
 
-// The tasks of a part of the run. It stands on cache lines of its own, so that workers that count at once don't wait for one another.
+// A counter of tasks. Each has cache lines of its own, so that workers that count at the same time don't slow each
+// other down.
 #[derive(Drop)]
 struct Counts {
     begun: AtomicU64,
@@ -42,63 +43,63 @@ impl Counts {
     }
 }
 
-// The counter of a task, by the front of its path, and for a part of a loop by its first iteration: tasks that stand close together are mostly
-// run by one worker.
-fn part_of(origin: &Origin) -> usize
+// The counter of a task, picked by the front of its path, and for a part of a loop by its first iteration too: tasks
+// that are close together are mostly run by one worker.
+fn counter_of(origin: &Origin) -> usize
     ensures { result < 64 }
 {
-    let (path, row) = match origin {
+    let (path, block) = match origin {
         Origin::Instance { path, .. } => (path, 0),
-        Origin::Loop { path, range, .. } => (path, range.lo / ROW),
+        Origin::Loop { path, range, .. } => (path, range.lo / LOOP_BLOCK),
     };
-    let mut hash = row;
-    for i in 0..RANKS {
+    let mut hash = block;
+    for i in 0..HASHED_RANKS {
         let rank = path.rank_at(i).unwrap_or(0);
         hash = hash.wrapping_mul(31).wrapping_add(rank);
     }
-    (hash % PARTS as u64) as usize
+    (hash % COUNTERS as u64) as usize
 }
 
-fn counts_of<'p>(parts: &'p [CachePadded<Counts>; PARTS], origin: &Origin) -> &'p Counts {
-    &parts[part_of(origin)]
+fn counts_of<'p>(counters: &'p [CachePadded<Counts>; COUNTERS], origin: &Origin) -> &'p Counts {
+    &counters[counter_of(origin)]
 }
 
-// The line on the error output.
+// The state of the progress line.
 #[derive(Clone, Copy, Debug, PartialEq, Eq)]
 enum Line {
-    // It isn't shown yet.
+    // Not shown yet.
     Hidden,
     Shown,
-    // It is shown no more.
+    // Never shown again.
     Over,
 }
 
-/// A gate that counts the tasks of a run. `tick` shows the counts, and how long the run takes so far, in a line on the error output that
-/// is written over again and again, from two seconds after `begin` on.
+/// A gate that counts the tasks of a run. From two seconds after `begin` on, `tick` shows the counts and the time in a
+/// line on the error output, which it overwrites again and again.
 #[derive(Drop)]
 pub struct Progress<'a, R> {
     rt: &'a R,
-    // When `begin` was called, in milliseconds of the clock, and 0 until then.
+    // When `begin` was called, in milliseconds of the clock; 0 until then.
     start: AtomicU64,
-    // How many seeds a batch has, and 0 where it is no batch.
+    // How many seeds a batch has; 0 where the call isn't a batch.
     seeds: u64,
-    parts: [CachePadded<Counts>; PARTS],
-    // How many of the tasks that have ended were the mains of a run or of a batch.
+    counters: [CachePadded<Counts>; COUNTERS],
+    // How many mains have ended.
     mains: AtomicU64,
     line: Mutex<Line>,
-    // Not 0 once the line is to be shown no more.
+    // Not 0 once the line is never to be shown again.
     is_over: AtomicU64,
 }
 
 impl<'a, R: Wait + Clock + Eprint> Progress<'a, R> {
-    /// The progress of a batch under so many seeds, or of another call where there is none. Where the terminal can't write over a line, none
-    /// is shown.
+    /// The progress of a batch under this many seeds, or with 0 of another call. Where the terminal can't overwrite a
+    /// line, none is shown.
     pub fn new(rt: &'a R, can_rewrite: bool, seeds: u64) -> Progress<'a, R> {
         Progress {
             rt,
             start: AtomicU64::new(0),
             seeds,
-            parts: array::from_fn(|_| Counts::new()),
+            counters: array::from_fn(|_| Counts::new()),
             mains: AtomicU64::new(0),
             line: Mutex::new(if can_rewrite {
                 Line::Hidden
@@ -109,13 +110,13 @@ impl<'a, R: Wait + Clock + Eprint> Progress<'a, R> {
         }
     }
 
-    // The milliseconds of the clock, and 0 where it can't be read.
+    // The clock in milliseconds; 0 where it can't be read.
     fn now(&self) -> u64 {
         let now = self.rt.monotonic().unwrap_or(Duration::ZERO);
         u64::try_from(now.as_millis()).unwrap_or(0)
     }
 
-    /// The script was read, and the run begins.
+    /// Starts the time. To be called when the script has been read.
     pub fn begin(&self) {
         self.start.store(self.now(), Ordering::SeqCst);
     }
@@ -128,7 +129,7 @@ impl<'a, R: Wait + Clock + Eprint> Progress<'a, R> {
         }
     }
 
-    // Shows the line. A failed write leaves it as it is.
+    // Shows the line. Failed writes are ignored.
     fn show(&self, seconds: u64) {
         let mut line = self.line.lock(self.rt);
         if *line == Line::Over {
@@ -137,9 +138,9 @@ impl<'a, R: Wait + Clock + Eprint> Progress<'a, R> {
         *line = Line::Shown;
         let mut begun = 0u64;
         let mut ended = 0u64;
-        for part in &self.parts {
-            begun = begun.saturating_add(part.begun.load(Ordering::SeqCst));
-            ended = ended.saturating_add(part.ended.load(Ordering::SeqCst));
+        for counts in &self.counters {
+            begun = begun.saturating_add(counts.begun.load(Ordering::SeqCst));
+            ended = ended.saturating_add(counts.ended.load(Ordering::SeqCst));
         }
         if self.seeds > 0 {
             let mains = self.mains.load(Ordering::SeqCst);
@@ -154,28 +155,28 @@ impl<'a, R: Wait + Clock + Eprint> Progress<'a, R> {
         }
     }
 
-    /// Shows the line from time to time until `end` is called.
+    /// Shows the line from time to time, and returns when `end` is called.
     pub fn tick(&self) {
         for _ in self.rt.forever() {
             self.is_over
-                .park_timeout(self.rt, 0, Duration::from_millis(STEP));
+                .park_timeout(self.rt, 0, Duration::from_millis(INTERVAL));
             if self.is_over.load(Ordering::SeqCst) != 0 {
                 return;
             }
             let elapsed = self.elapsed();
-            if elapsed >= FIRST {
+            if elapsed >= SHOWN_AFTER {
                 self.show(elapsed / 1000);
             }
         }
     }
 
-    /// Removes the line, if it is shown, and shows it no more.
+    /// Removes the line if it is shown, and keeps it from being shown again.
     pub fn end(&self) {
         self.is_over.store(1, Ordering::SeqCst);
         self.is_over.wake_all();
         let mut line = self.line.lock(self.rt);
         if *line == Line::Shown {
-            // A failed write changes nothing here either.
+            // A failed write is ignored here too.
             let _ = eprint!(self.rt; "\r\x1b[K");
         }
         *line = Line::Over;
@@ -184,12 +185,12 @@ impl<'a, R: Wait + Clock + Eprint> Progress<'a, R> {
 
 impl<'a, R: Wait + Clock + Eprint> Gate for Progress<'a, R> {
     fn enter(&self, origin: &Origin) {
-        let counts = counts_of(&self.parts, origin);
+        let counts = counts_of(&self.counters, origin);
         counts.begun.fetch_add(1, Ordering::SeqCst);
     }
 
     fn leave(&self, origin: &Origin) {
-        let counts = counts_of(&self.parts, origin);
+        let counts = counts_of(&self.counters, origin);
         counts.ended.fetch_add(1, Ordering::SeqCst);
         if let Origin::Instance { path, .. } = origin {
             if path.len() == 0 {

@@ -1,4 +1,4 @@
-// A source and a sink that keep of what went through them what a person is told of.
+// A source and a sink that keep what the notes to a person need.
 
 use crate::fault_line::FaultLine;
 use crate::progress::Progress;
@@ -9,15 +9,15 @@ use std::io::Eprint;
 use std::sync::Wait;
 use std::time::Clock;
 
-/// A source that keeps the bytes that it gave, up to where there was no memory for more. Where a person is to type them, its first read
-/// says so on the error output. The progress begins with its end.
+/// A source that keeps the bytes that it gave, as far as memory allows. Where a person must type them, its first read
+/// says so on the error output. Its end starts the progress.
 #[derive(Drop)]
 pub struct RecordedSource<'a, R, S> {
     rt: &'a R,
     inner: S,
     bytes: Vec<u8>,
-    // Whether a person is to type the bytes, and wasn't told yet.
-    is_untold: bool,
+    // Whether a person must type the bytes and hasn't been told so yet.
+    must_prompt: bool,
     progress: Option<&'a Progress<'a, R>>,
 }
 
@@ -27,17 +27,17 @@ impl<'a, R: Wait + Clock + Eprint, S: Source> RecordedSource<'a, R, S> {
             rt,
             inner,
             bytes: Vec::new(alloc),
-            is_untold: is_typed,
+            must_prompt: is_typed,
             progress: None,
         }
     }
 
-    /// Says of which progress the run begins when all is read.
-    pub fn tell(&mut self, progress: &'a Progress<'a, R>) {
+    /// Sets the progress that is started when all is read.
+    pub fn set_progress(&mut self, progress: &'a Progress<'a, R>) {
         self.progress = Some(progress);
     }
 
-    /// The bytes that were given.
+    /// The bytes that were read.
     pub fn bytes(&self) -> &[u8] {
         &self.bytes
     }
@@ -49,14 +49,14 @@ impl<'a, R: Wait + Clock + Eprint, S: Source> Source for RecordedSource<'a, R, S
     ghost faults = { λ s. S.faults s.inner };
 
     fn read(&mut self, buf: &mut [u8]) -> Result<usize, Failed> {
-        if self.is_untold {
-            self.is_untold = false;
-            // A note to a person: a failed write of it changes nothing.
+        if self.must_prompt {
+            self.must_prompt = false;
+            // A note to a person: a failed write is ignored.
             let _ = eprintln!(self.rt; "reading a script from the terminal; Ctrl-D ends it");
         }
         let read = self.inner.read(buf);
         if let Ok(count) = read {
-            // Without memory for them, these bytes aren't kept.
+            // Where memory runs out, these bytes aren't kept.
             let _ = self.bytes.extend_from_slice(&buf[..count]);
             if count == 0 {
                 if let Some(progress) = self.progress {
@@ -68,21 +68,21 @@ impl<'a, R: Wait + Clock + Eprint, S: Source> Source for RecordedSource<'a, R, S
     }
 }
 
-/// Room for the one line of a call on the error output, in bytes, also where it names a pedigree of 512 ranks of ten digits.
+/// The longest error line of a call, in bytes: enough for one that names a pedigree of 512 ranks of ten digits.
 pub const ERROR_LINE: usize = 8192;
 
-// What is known of the bytes that a sink took.
+// What is kept of the bytes that a sink took.
 #[derive(Drop)]
 struct Taken {
     first: Vec<u8>,
-    // How many of the first bytes are kept at most.
+    // How many of the first bytes are kept.
     most: usize,
     fault: FaultLine,
     is_empty: bool,
 }
 
 impl Taken {
-    // Without memory for what is to be kept of these bytes, none of them is.
+    // Where memory runs out, none of these bytes is kept.
     fn add(&mut self, bytes: &[u8]) {
         self.is_empty = self.is_empty && bytes.is_empty();
         self.fault.add(bytes);
@@ -93,8 +93,8 @@ impl Taken {
     }
 }
 
-/// A sink on a terminal, which keeps whether it took a byte, the first bytes, and the first line of a fault. It removes the progress line
-/// first.
+/// A sink on a terminal. It keeps whether it took a byte, the first bytes, and the first line of a fault. Its first
+/// write removes the progress line.
 #[derive(Drop)]
 pub struct RecordedSink<'a, R, K> {
     inner: K,
@@ -103,7 +103,7 @@ pub struct RecordedSink<'a, R, K> {
 }
 
 impl<'a, R: Wait + Clock + Eprint, K: Sink> RecordedSink<'a, R, K> {
-    /// A sink that took nothing yet, and keeps `most` bytes of what it takes first.
+    /// A sink that has taken nothing yet, and keeps the first `most` bytes.
     pub fn new(
         alloc: Global,
         inner: K,
@@ -122,17 +122,17 @@ impl<'a, R: Wait + Clock + Eprint, K: Sink> RecordedSink<'a, R, K> {
         }
     }
 
-    /// The first bytes, so many as are kept.
+    /// The first bytes, as many as are kept.
     pub fn bytes(&self) -> &[u8] {
         &self.taken.first
     }
 
-    /// The first line of a fault among the bytes.
+    /// What it found of a fault's line.
     pub fn fault(&self) -> &FaultLine {
         &self.taken.fault
     }
 
-    /// Whether a byte was taken.
+    /// Whether it took a byte.
     pub fn wrote(&self) -> bool {
         !self.taken.is_empty
     }

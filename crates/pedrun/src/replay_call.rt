@@ -1,8 +1,8 @@
-// The call that replays a strand.
+// Makes the call that replays a strand.
 
 use std::alloc::{AllocError, Global};
 
-// Whether a call of `replay` takes this option of another command, too.
+// Whether `replay` has this option of another command, too.
 fn is_kept(option: &str) -> bool {
     matches!(
         option,
@@ -22,7 +22,8 @@ fn add_option(
     Ok(())
 }
 
-/// The words that replay the strand of this pedigree in the run of the given words, or in that of a batch under this seed.
+/// The words that replay the strand of this pedigree in the run that `words` ask for, or in the run of a batch under
+/// this seed.
 pub fn replay_words(
     alloc: Global,
     words: &[String],
@@ -48,7 +49,7 @@ pub fn replay_words(
     Ok(call)
 }
 
-/// The line that shows such words.
+/// The line `try: pedrun WORDS`.
 pub fn call_line(alloc: Global, call: &[String]) -> Result<Vec<u8>, AllocError> {
     let mut line = b"try: pedrun".to_vec(alloc)?;
     for word in call {

@@ -1,6 +1,6 @@
-// A search in the run of a script, as a replay goes down it.
+// Looks for a strand, or for the place of its fault, within a time limit.
 
-use engine::{FaultPlace, Status, fault_place, is_run, pedrun_plain};
+use engine::{FaultPlace, Status, fault_place, pedrun_plain, runs_on_workers};
 use ped_io::{MemSink, MemSource};
 use std::alloc::{AllocError, Global};
 use std::sync::atomic::{AtomicU64, Ordering};
@@ -9,13 +9,13 @@ use std::thread;
 use std::thread::Threads;
 use std::time::{Clock, Duration};
 
-// How long it may take, in milliseconds.
-const MOST: u64 = 5000;
+// How long a search may take, in milliseconds.
+const TIME_LIMIT: u64 = 5000;
 
-// How much of a text is read at once, in bytes.
-const STEP: u32 = 65536;
+// How many bytes of the script are read at once.
+const READ_SIZE: u32 = 65536;
 
-/// What is looked for, by the words of a `replay` call.
+/// What is looked for. The words of a `replay` call name the strand.
 #[derive(Clone, Copy, Debug, PartialEq, Eq)]
 pub enum Target {
     /// Where the fault of the strand came from.
@@ -24,39 +24,39 @@ pub enum Target {
     Strand,
 }
 
-/// What a search came to.
+/// The result of a search.
 #[derive(Drop)]
 pub enum Search {
     /// The fault came from here.
     Place(FaultPlace),
-    /// There is the strand.
+    /// There is such a strand.
     Strand,
-    /// It takes longer than the time for it.
-    Late,
-    /// There is none, or there was no memory or no thread to look for it.
+    /// It takes longer than the limit.
+    TimedOut,
+    /// There is none, or there was no memory or thread for the search.
     Nothing,
 }
 
-// Whether a `replay` call of these words finds its strand in this text.
+// Whether the `replay` call with these words finds its strand in this text.
 fn is_strand(alloc: Global, call: &[String], text: Vec<u8>) -> bool {
-    if is_run(call) {
+    if runs_on_workers(call) {
         return false;
     }
-    let mut script = MemSource::new(text, STEP, Vec::new(alloc));
+    let mut script = MemSource::new(text, READ_SIZE, Vec::new(alloc));
     let Ok(mut out) = MemSink::new(alloc, 1, 0, Vec::new(alloc)) else {
         return false;
     };
     let Ok(mut err) = MemSink::new(alloc, 1, 0, Vec::new(alloc)) else {
         return false;
     };
-    // The output takes no byte of what the strand did.
+    // The sink has no room, so a strand that writes ends by `Write`.
     matches!(
         pedrun_plain(alloc, call, &mut script, &mut out, &mut err),
         Status::Done | Status::Faulted | Status::Write
     )
 }
 
-// Looks for it, however long that takes.
+// Searches, however long it takes.
 fn find(alloc: Global, target: Target, call: &[String], text: Vec<u8>) -> Search {
     match target {
         Target::FaultPlace => match fault_place(alloc, call, &text) {
@@ -73,7 +73,7 @@ fn find(alloc: Global, target: Target, call: &[String], text: Vec<u8>) -> Search
     }
 }
 
-// The milliseconds of the clock. A clock that can't be read stands at the end of all time.
+// The clock in milliseconds, or the greatest number where it can't be read.
 fn millis<R: Clock>(rt: &R) -> u64 {
     match rt.monotonic() {
         Ok(now) => u64::try_from(now.as_millis()).unwrap_or(u64::MAX),
@@ -81,7 +81,7 @@ fn millis<R: Clock>(rt: &R) -> u64 {
     }
 }
 
-// Waits until the word isn't 0, for so long at most.
+// Waits until the word isn't 0, but at most `most` milliseconds. Returns whether it isn't 0.
 fn wait_for<R: Wait + Clock>(rt: &R, word: &AtomicU64, most: u64) -> bool {
     let end = millis(rt).saturating_add(most);
     for _ in rt.forever() {
@@ -97,7 +97,8 @@ fn wait_for<R: Wait + Clock>(rt: &R, word: &AtomicU64, most: u64) -> bool {
     false
 }
 
-/// Looks for it in a thread of its own, which is left where it takes more than five seconds: the process ends with its call.
+/// Searches in a thread of its own. A search that takes more than five seconds is left running: the process ends soon
+/// after.
 pub fn search_in_thread<R: Threads + Wait + Clock>(
     rt: &R,
     alloc: Global,
@@ -116,8 +117,8 @@ pub fn search_in_thread<R: Threads + Wait + Clock>(
     let Ok(searching) = searching else {
         return Ok(Search::Nothing);
     };
-    if !wait_for(rt, &seen, MOST) {
-        return Ok(Search::Late);
+    if !wait_for(rt, &seen, TIME_LIMIT) {
+        return Ok(Search::TimedOut);
     }
     Ok(searching.join(rt))
 }

@@ -1,4 +1,4 @@
-// The program's streams.
+// The streams of a call.
 
 use crate::progress::Progress;
 use crate::recorded::{ERROR_LINE, RecordedSink, RecordedSource};
@@ -19,7 +19,7 @@ pub struct Streams<S, K, E> {
 /// The standard streams.
 pub type Standard = Streams<StdSource<Stdin>, StdSink<Stdout>, StdSink<Stderr>>;
 
-/// The standard streams of the process. Their types tell them apart.
+/// The standard streams of the process.
 pub fn standard(rt: &HostRuntime) -> Standard {
     Streams {
         script: StdSource::new(rt.stdin()),
@@ -35,7 +35,7 @@ pub type Recorded<'a, R, S, K, E> = Streams<
     RecordedSink<'a, R, E>,
 >;
 
-/// The same streams, which keep of what goes through them what a person is told of. `is_typed` says that a person is to type the script.
+/// The same streams, made to keep what the notes to a person need. `is_typed` says that a person must type the script.
 pub fn recorded<'a, R: Wait + Clock + Eprint, S: Source, K: Sink, E: Sink>(
     rt: &'a R,
     alloc: Global,
@@ -44,7 +44,7 @@ pub fn recorded<'a, R: Wait + Clock + Eprint, S: Source, K: Sink, E: Sink>(
     progress: &'a Progress<'a, R>,
 ) -> Recorded<'a, R, S, K, E> {
     let mut script = RecordedSource::new(rt, alloc, streams.script, is_typed);
-    script.tell(progress);
+    script.set_progress(progress);
     Streams {
         script,
         out: RecordedSink::new(alloc, streams.out, progress, 0),

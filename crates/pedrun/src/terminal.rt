@@ -1,4 +1,4 @@
-// The call on a terminal. A person who sits at the error output gets more than a program does, which gets the line alone.
+// Calls on a terminal. Where a person reads the error output, more lines follow the one that a program gets.
 
 ghost use Rattle.std.specs.Prelude.{map, string_bytes};
 ghost use Rattle.ped_words.specs.Reading.{reading};
@@ -11,7 +11,7 @@ use crate::fault_line::FaultLine;
 use crate::fault_note::fault_note;
 use crate::help::Topic;
 use crate::hints::hints;
-use crate::notes::{absence_note, silence_note};
+use crate::notes::{empty_strand_note, no_strand_note};
 use crate::progress::Progress;
 use crate::recorded::{RecordedSink, RecordedSource};
 use crate::streams::Recorded;
@@ -25,7 +25,7 @@ use std::sync::Wait;
 use std::thread::Threads;
 use std::time::Clock;
 
-// What the line of a script's fault tells: the fault, and the byte where it stands.
+// The message and the offset in a line `script: TEXT at byte O`.
 fn fault_in_line(line: &[u8]) -> Option<(&str, usize)> {
     let line = str::from_utf8(line).ok()?;
     let (message, at) = line
@@ -35,15 +35,15 @@ fn fault_in_line(line: &[u8]) -> Option<(&str, usize)> {
     Some((message, at.parse().ok()?))
 }
 
-// At which word the line on words says that the fault is, if at one.
+// The index in a line `words: TEXT at word I`. Other lines on words have none.
 fn word_in_line(line: &[u8]) -> Option<usize> {
     let line = str::from_utf8(line).ok()?;
     let (_, at) = line.strip_suffix("\n")?.rsplit_once(" at word ")?;
     at.parse().ok()
 }
 
-// The lines on the place of the fault that the call's line tells. None where it tells none, there is no memory for them, or was none for the
-// line or the text.
+// The lines that show the place of a script's fault, as the call's line gives it. `None` where there is no such fault,
+// and where memory ran out for them, for the line or for the text.
 fn place_lines(alloc: Global, status: Status, line: &[u8], text: &[u8]) -> Option<Vec<u8>> {
     if status != Status::Script {
         return None;
@@ -55,7 +55,7 @@ fn place_lines(alloc: Global, status: Status, line: &[u8], text: &[u8]) -> Optio
     excerpt(alloc, text, at, message).ok()
 }
 
-// The lines on the words that the call's line refuses, if there are some.
+// The lines on faulty words, given the call's line.
 fn word_lines(alloc: Global, status: Status, words: &[String], line: &[u8]) -> Option<Vec<u8>> {
     if status != Status::Words || words.is_empty() {
         return None;
@@ -63,7 +63,7 @@ fn word_lines(alloc: Global, status: Status, words: &[String], line: &[u8]) -> O
     hints(alloc, words, word_in_line(line)).ok()
 }
 
-// The lines on the fault by which a run ended, if it did: where it came from, and the call that replays its strand.
+// The lines on the fault that ended a run, if one did: where it came from, and the call that replays its strand.
 fn fault_lines<R: Threads + Wait + Sync + Clock>(
     rt: &R,
     alloc: Global,
@@ -82,16 +82,21 @@ fn fault_lines<R: Threads + Wait + Sync + Clock>(
     fault_note(rt, alloc, words, script, fault).ok().flatten()
 }
 
-// The lines on a strand that was replayed and did nothing.
-fn silence_lines(alloc: Global, status: Status, words: &[String], wrote: bool) -> Option<Vec<u8>> {
+// The lines on a replayed strand that did nothing.
+fn empty_strand_lines(
+    alloc: Global,
+    status: Status,
+    words: &[String],
+    wrote: bool,
+) -> Option<Vec<u8>> {
     if status != Status::Done || wrote {
         return None;
     }
-    silence_note(alloc, words).ok().flatten()
+    empty_strand_note(alloc, words).ok().flatten()
 }
 
-// The lines on a strand that isn't there, or that a fault keeps one from.
-fn absence_lines<R: Threads + Wait + Clock>(
+// The lines on a strand that isn't there, or that a fault blocks the way to.
+fn no_strand_lines<R: Threads + Wait + Clock>(
     rt: &R,
     alloc: Global,
     status: Status,
@@ -102,10 +107,12 @@ fn absence_lines<R: Threads + Wait + Clock>(
     if status != Status::NoStrand {
         return None;
     }
-    absence_note(rt, alloc, words, script, line).ok().flatten()
+    no_strand_note(rt, alloc, words, script, line)
+        .ok()
+        .flatten()
 }
 
-// The text of the help where no word was given.
+// The help text, where no word was given.
 fn help_lines(words: &[String]) -> &'static [u8] {
     if words.is_empty() {
         text::PROGRAM.as_bytes()
@@ -114,14 +121,14 @@ fn help_lines(words: &[String]) -> &'static [u8] {
     }
 }
 
-// Writes lines for a person. A failed write of them changes nothing.
+// Writes lines for a person. A failed write is ignored.
 fn show<E: Sink>(err: &mut E, lines: &[u8])
     ensures { WroteSome (watched E.written E.faults err.old err.new) }
 {
     let _ = write_all(err, lines);
 }
 
-// The same, if there are some.
+// The same, if there are any.
 fn show_some<E: Sink>(err: &mut E, lines: Option<Vec<u8>>)
     ensures { WroteSome (watched E.written E.faults err.old err.new) }
 {
@@ -129,9 +136,9 @@ fn show_some<E: Sink>(err: &mut E, lines: Option<Vec<u8>>)
     show(err, lines);
 }
 
-// Does what `engine::pedrun` does, and shows on the error output what helps a person: the progress of a long run, the place of a script's
-// fault after its line, the word after a line on words with how to ask for help, where the fault came from by which a run ended, what it may
-// mean that a replayed strand did nothing or isn't there, and the help where no word was given.
+// Does what `engine::pedrun` does, and writes to the error output what helps a person: the progress of a long run, the
+// place of a script's fault, the faulty word and how to ask for help, where the fault came from that ended a run, what
+// it may mean that a replayed strand did nothing or isn't there, and the help where no word was given.
 fn pedrun_on_terminal<'a, R: Threads + Wait + Sync + Clock + Eprint, S: Source, K: Sink, E: Sink>(
     rt: &R,
     alloc: Global,
@@ -153,15 +160,15 @@ fn pedrun_on_terminal<'a, R: Threads + Wait + Sync + Clock + Eprint, S: Source, 
     show_some(err, lines);
     let lines = fault_lines(rt, alloc, status, words, script.bytes(), out.fault());
     show_some(err, lines);
-    let lines = silence_lines(alloc, status, words, out.wrote());
+    let lines = empty_strand_lines(alloc, status, words, out.wrote());
     show_some(err, lines);
-    let lines = absence_lines(rt, alloc, status, words, script.bytes(), err.bytes());
+    let lines = no_strand_lines(rt, alloc, status, words, script.bytes(), err.bytes());
     show_some(err, lines);
     show(err, help_lines(words));
     status
 }
 
-/// Answers the words as elsewhere, and shows on the error output what helps a person, after the call's line.
+/// Answers the words as `answer` does, and writes to the error output what helps a person, after the call's line.
 pub fn answer_on_terminal<
     'a,
     R: Threads + Wait + Sync + Clock + Eprint,

@@ -1,4 +1,4 @@
-// The texts of the help.
+// The help texts.
 
 /// Name and version.
 pub const VERSION: &str = "pedrun 1.0.0\n";

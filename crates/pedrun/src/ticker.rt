@@ -1,4 +1,4 @@
-// The answer on a terminal with its progress on the error output.
+// Shows the progress of a call on a terminal.
 
 use crate::progress::Progress;
 use crate::streams::Recorded;
@@ -12,7 +12,8 @@ use std::thread;
 use std::thread::Threads;
 use std::time::Clock;
 
-/// Does what `answer_on_terminal` does, and shows its progress from a thread of its own. Where none can be made, no progress is shown.
+/// Does what `answer_on_terminal` does, and shows the progress from a thread of its own. Where the system refuses that
+/// thread, no progress is shown.
 pub fn answer_with_progress<
     'a,
     R: Threads + Wait + Sync + Clock + Eprint,

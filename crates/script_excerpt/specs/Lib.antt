@@ -1,4 +1,4 @@
--- A fault's position as a person reads it, the word that fits there, and what surrounds it.
+-- What is shown of a fault: its position as editors count, the word that fits there, and what surrounds it.
 pub mod Excerpts
 pub mod Followers
 pub mod Places

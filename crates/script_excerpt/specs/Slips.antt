@@ -1,4 +1,4 @@
--- What surrounds an offset of a text, for recognizing a habit of another language.
+-- What surrounds an offset of a text, by which habits of other languages are recognized.
 use Rattle.std.specs.Prelude.{◌≡◌, ◌≤◌, ◌-◌, ◌&&◌, ◌||◌, ◌==◌, ℕ, List, Bool, [], ◌∷◌, drop, false, length, nat_eq, not, take, true}
 use Rattle.std.specs.List.{IsAfterLastMatch, ends_with, starts_with}
 use Rattle.script_tokens.specs.Word.{is_name_byte}
@@ -32,14 +32,14 @@ begins_in_name (byte ∷ _) = is_name_byte byte
 abbrev pub ends_in_name : List ℕ → Bool
 ends_in_name bytes = begins_in_name (drop (length bytes - 1) bytes)
 
--- no name reaches from the first bytes into the others
+-- there is no name of which one part ends the first bytes and another begins the rest
 abbrev pub is_split : List ℕ → List ℕ → Bool
 is_split front rest = not (ends_in_name front && begins_in_name rest)
 
--- the bytes end with this word
-abbrev pub ends_by : List ℕ → List ℕ → Bool
-ends_by front word = ends_with nat_eq front word && is_split (take (length front - length word) front) word
+-- the bytes end with this word, and not with a longer name that ends so
+abbrev pub ends_with_word : List ℕ → List ℕ → Bool
+ends_with_word front word = ends_with nat_eq front word && is_split (take (length front - length word) front) word
 
--- the bytes begin with this word
-abbrev pub begins_by : List ℕ → List ℕ → Bool
-begins_by rest word = starts_with nat_eq rest word && is_split word (drop (length word) rest)
+-- the bytes begin with this word, and not with a longer name that begins so
+abbrev pub begins_with_word : List ℕ → List ℕ → Bool
+begins_with_word rest word = starts_with nat_eq rest word && is_split word (drop (length word) rest)

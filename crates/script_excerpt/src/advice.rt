@@ -1,4 +1,4 @@
-// Which word fits at a fault of a text.
+// The one word that is missing where a parser stops.
 
 ghost use Rattle.std.specs.Prelude.{◌≡◌, ◌≤◌, ◌+◌, IfOk, IfSome, IsFalse, IsTrue, length, string_bytes, true, false};
 ghost use Rattle.script_excerpt.specs.Followers.{GoesOn, with_word};
@@ -7,7 +7,7 @@ use crate::bytes::extended;
 use script_text::{MAX_BYTES, SyntaxError, Version, parse};
 use std::alloc::{AllocError, Global};
 
-// The longest text that is tried: each word takes a parse of the text.
+// A longer text gets no advice: each word that is tried costs a parse.
 const LONGEST_ADVISED: usize = 65536;
 
 // The words to try, `scope` in version 2 only.
@@ -17,7 +17,7 @@ static WORDS: [&str; 41] = [
     "+", "-", "*", "/", "%", "==", "!=", "<", "<=", ">", ">=", "->", "..", "scope",
 ];
 
-// Whether the word is to be tried in a text of this version.
+// Whether a text of this version may have the word.
 fn is_word(version: Version, word: &str) -> bool {
     version == Version::Two || word != "scope"
 }
@@ -35,7 +35,7 @@ fn with_word(alloc: Global, text: &[u8], at: usize, word: &str) -> Result<Vec<u8
     extended(mended, &text[at..])
 }
 
-// Whether with this word inserted the text is a script, or is read past its token at `at`.
+// Whether the text with this word inserted is a script, or a parser gets past the token at `at`.
 fn would_do(alloc: Global, text: &[u8], at: usize, word: &str) -> Result<bool, AllocError>
     requires within { at ≤ length text.now }
     requires text { length text.now ≤ 65536 }
@@ -55,8 +55,9 @@ fn would_do(alloc: Global, text: &[u8], at: usize, word: &str) -> Result<bool, A
     }
 }
 
-/// The only word that fits before the token at `at`, where a parser stops: with it the text is a script, or its first fault is
-/// behind that token. `None` where no word fits, or more than one, the text is a script already, or it has more than 65536 bytes.
+/// The only word that fits before the token at byte `at`, at which a parser stops. A word fits if with it the text is a
+/// script, or its first fault comes after that token. `None` where no word fits or several do, where the text is a
+/// script already, and where it has more than 65536 bytes. It parses the text once for each word that it tries.
 pub fn follower(alloc: Global, text: &[u8], at: usize) -> Result<Option<&'static str>, AllocError>
     requires { at ≤ length text.now }
     ensures { IfOk result (λ found. IfSome found (λ word. GoesOn text.now at word.now)) }

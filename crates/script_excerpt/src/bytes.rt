@@ -1,10 +1,10 @@
-// Bytes that grow.
+// Appending to bytes.
 
 ghost use Rattle.std.specs.Prelude.{◌≡◌, ◌++◌, IfOk};
 
 use std::alloc::AllocError;
 
-// The bytes with more behind them. Where memory runs out they are dropped.
+// Appends to the bytes. Where memory runs out they are dropped.
 pub(crate) fn extended(bytes: Vec<u8>, more: &[u8]) -> Result<Vec<u8>, AllocError>
     ensures { IfOk result (λ longer. longer.items ≡ bytes.items ++ more.now) }
 {

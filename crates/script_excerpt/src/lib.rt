@@ -1,5 +1,5 @@
-//! A fault of a script's text as a person wants to see it: line and column, the line itself, and a caret under the byte, with the
-//! word that fits there where only one does, and how a habit of another language is written here.
+//! Shows a person where a script is at fault: line and column, the line itself, and a caret under the byte. After that
+//! comes the word that is missing there, where only one fits, or how to write here what another language writes so.
 #![tactic(auto)]
 
 mod advice;

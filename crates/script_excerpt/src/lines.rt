@@ -6,13 +6,13 @@ ghost use Rattle.script_excerpt.specs.Excerpts.{IsAdvice, IsEnd, IsExcerpt, IsPl
 use crate::advice::follower;
 use crate::bytes::extended;
 use crate::position::{Position, line_start, position_of};
-use crate::slips::{begins_by, reason};
+use crate::slips::{begins_with_word, reason};
 use std::alloc::{AllocError, Global};
 
-// The most bytes of the line that are shown before the caret, and from it on.
+// How much of the line is shown at most: so many bytes before the caret, and so many from it on.
 const MOST_SHOWN: usize = 72;
 
-// Which part of the line of byte `at` is shown: from where up to where.
+// The part of byte `at`'s line that is shown: its first byte, and the one after its last.
 fn window(text: &[u8], at: usize) -> (usize, usize)
     requires { at ≤ length text.now }
     ensures { IsWindow text.now at result.0 result.1 }
@@ -24,7 +24,7 @@ fn window(text: &[u8], at: usize) -> (usize, usize)
     (line_start(text, at).max(at.saturating_sub(MOST_SHOWN)), end)
 }
 
-// A byte as a terminal gets it; others might be taken for a command.
+// The byte as it goes to a terminal. Control bytes would be obeyed as commands.
 fn shown(byte: u8) -> u8
     ensures { result ≡ shown byte }
 {
@@ -34,7 +34,7 @@ fn shown(byte: u8) -> u8
     }
 }
 
-// What takes the same room on a terminal.
+// A blank as wide as the byte.
 fn blank_for(byte: u8) -> u8
     ensures { result ≡ blank_for byte }
 {
@@ -44,7 +44,8 @@ fn blank_for(byte: u8) -> u8
     }
 }
 
-/// Appends the bytes for a terminal: one that isn't printable as `?`.
+/// Appends the bytes for a terminal: tabs and printable ASCII unchanged, any other byte as `?`. Where memory runs out,
+/// some of them have been appended.
 pub fn add_shown(lines: &mut Vec<u8>, bytes: &[u8]) -> Result<(), AllocError>
     ensures { OnOk result (lines.new.items ≡ lines.old.items ++ map shown bytes.now) }
 {
@@ -54,8 +55,8 @@ pub fn add_shown(lines: &mut Vec<u8>, bytes: &[u8]) -> Result<(), AllocError>
     Ok(())
 }
 
-// Appends blanks for the bytes.
-fn add_room(lines: &mut Vec<u8>, bytes: &[u8]) -> Result<(), AllocError>
+// Appends blanks as wide as the bytes.
+fn add_blanks(lines: &mut Vec<u8>, bytes: &[u8]) -> Result<(), AllocError>
     ensures { OnOk result (lines.new.items ≡ lines.old.items ++ map blank_for bytes.now) }
 {
     for &byte in bytes {
@@ -64,7 +65,7 @@ fn add_room(lines: &mut Vec<u8>, bytes: &[u8]) -> Result<(), AllocError>
     Ok(())
 }
 
-// The line that names a position.
+// The line with the line number and the column.
 fn place_line(alloc: Global, place: Position) -> Result<Vec<u8>, AllocError>
     ensures { IfOk result (λ line. line.items ≡ place_line place.line place.column) }
 {
@@ -72,7 +73,7 @@ fn place_line(alloc: Global, place: Position) -> Result<Vec<u8>, AllocError>
     Ok(line.into_bytes())
 }
 
-// Some lines, then the text from one byte to another, and below it blanks up to byte `at`.
+// Appends the text between two bytes, and below it blanks up to byte `at`, where the caret goes.
 fn with_text_lines(
     lines: Vec<u8>,
     text: &[u8],
@@ -87,19 +88,19 @@ fn with_text_lines(
     let (line, before) = (&text[..to], &text[..at]);
     add_shown(&mut lines, &line[from..])?;
     let mut lines = extended(lines, b"\n")?;
-    add_room(&mut lines, &before[from..])?;
+    add_blanks(&mut lines, &before[from..])?;
     Ok(lines)
 }
 
-// Whether the words `version 2`, with which a text of version 2 begins, are at byte `at` and the line goes on after them, so that
-// the text is of version 1.
+// Whether the text begins with `version 2` but that line goes on, which makes it a text of version 1, and the fault is
+// there.
 fn is_at_version(text: &[u8], at: usize) -> bool
     ensures { result ≡ is_at_version text.now at }
 {
     at == 0 && text.starts_with(b"version 2") && !text.starts_with(b"version 2\n")
 }
 
-// Whether a `return` is at `at`, and the word that fits before it closes its block.
+// Whether a `return` is at `at`, and the word that fits would close the block that it stands in.
 fn is_misplaced_return(text: &[u8], at: usize, word: &str) -> bool
     requires { at ≤ length text.now }
     ensures { result ≡ is_misplaced_return text.now at word.now }
@@ -107,7 +108,7 @@ fn is_misplaced_return(text: &[u8], at: usize, word: &str) -> bool
     word == "}" && text[at..].starts_with(b"return")
 }
 
-// Whether the word that fits makes a function of a version line at `at`.
+// Whether a version line is at `at`, and the word that fits would make a function of it.
 fn is_misplaced_version(text: &[u8], at: usize, word: &str) -> bool
     requires { at ≤ length text.now }
     ensures { result ≡ is_misplaced_version text.now at word.now }
@@ -115,7 +116,7 @@ fn is_misplaced_version(text: &[u8], at: usize, word: &str) -> bool
     word == "fn" && text[at..].starts_with(b"version ") && !text[at..].starts_with(b"version (")
 }
 
-// Whether the word raises a rank, or begins another function.
+// Whether the word raises a rank or begins another function, so that the script would draw other numbers.
 fn changes_draws(word: &str) -> bool
     ensures { result ≡ changes_draws word.now }
 {
@@ -128,16 +129,17 @@ fn changes_draws(word: &str) -> bool
         || word == "fn"
 }
 
-// Whether what is at `at` is the first letter of the word, alone.
+// Whether the first letter of the word stands at `at`, alone.
 fn is_begun(text: &[u8], at: usize, word: &str) -> bool
     requires { at ≤ length text.now }
     ensures { result ≡ is_begun text.now at word.now }
 {
     let word = word.as_bytes();
-    begins_by(&text[at..], &word[..word.len().min(1)])
+    begins_with_word(&text[at..], &word[..word.len().min(1)])
 }
 
-// Whether the script would draw otherwise with the word, and the word wasn't begun at `at`.
+// Whether the word is too much to suggest: the script would draw other numbers with it, and nothing shows that it was
+// meant.
 fn is_unfit(text: &[u8], at: usize, word: &str) -> bool
     requires { at ≤ length text.now }
     ensures { result ≡ is_unfit text.now at word.now }
@@ -145,7 +147,7 @@ fn is_unfit(text: &[u8], at: usize, word: &str) -> bool
     changes_draws(word) && !is_begun(text, at, word)
 }
 
-// The advice to put this word there.
+// The advice for a word that fits at `at`: to put it there, mostly.
 fn word_advice(alloc: Global, text: &[u8], at: usize, word: &str) -> Result<Vec<u8>, AllocError>
     requires { at ≤ length text.now }
     ensures { IfOk result (λ advice. advice.items ≡ word_advice text.now at word.now) }
@@ -164,7 +166,7 @@ fn word_advice(alloc: Global, text: &[u8], at: usize, word: &str) -> Result<Vec<
     extended(advice, b" would do")
 }
 
-// The advice next to the message: about the version line, or else about the word that fits, where only one does.
+// The advice after the message: about the version line, else about the only word that fits. Empty where there is none.
 fn advice(alloc: Global, text: &[u8], at: usize) -> Result<Vec<u8>, AllocError>
     requires { at ≤ length text.now }
     ensures { IfOk result (λ advice. IsAdvice text.now at advice.items) }
@@ -178,7 +180,7 @@ fn advice(alloc: Global, text: &[u8], at: usize) -> Result<Vec<u8>, AllocError>
     }
 }
 
-// The caret with a message and an advice.
+// The caret, the message and the advice.
 fn caret_line(alloc: Global, message: &str, advice: &[u8]) -> Result<Vec<u8>, AllocError>
     ensures { IfOk result (λ line. line.items ≡ caret_line message.now advice.now) }
 {
@@ -188,7 +190,7 @@ fn caret_line(alloc: Global, message: &str, advice: &[u8]) -> Result<Vec<u8>, Al
     extended(line, b"\n")
 }
 
-// Some lines, and one more.
+// Appends one more line.
 fn with_line(lines: Vec<u8>, line: &str) -> Result<Vec<u8>, AllocError>
     ensures { IfOk result (λ longer. longer.items ≡ lines.items ++ line.now ++ codes "\n") }
 {
@@ -196,7 +198,7 @@ fn with_line(lines: Vec<u8>, line: &str) -> Result<Vec<u8>, AllocError>
     extended(lines, b"\n")
 }
 
-// The lines from the caret's on, with a remark about a habit, or else about a word that fits.
+// The lines from the caret's on: with a known habit of another language the reason, else the advice.
 fn end_lines(alloc: Global, text: &[u8], at: usize, message: &str) -> Result<Vec<u8>, AllocError>
     requires { at ≤ length text.now }
     ensures { IfOk result (λ end. IsEnd text.now at message.now end.items) }
@@ -213,15 +215,16 @@ fn end_lines(alloc: Global, text: &[u8], at: usize, message: &str) -> Result<Vec
     }
 }
 
-/// Three lines about a fault at byte `at` of a text: its line and column, that line, and a caret under the byte with the message
-/// and the word that fits there, where only one does (`follower`). Where that word would close the block of a `return`, or make a
-/// function of a version line, the message says instead where such a one belongs, and for a line `version 2` that goes on after the
-/// 2 only that.
+/// Three lines about a fault at byte `at` of a text: line and column, the line itself, and a caret under the byte with
+/// the message and the only word that fits there, if there is one (`follower`). Where that word would close the block
+/// around a `return`, or make a function of a version line, the message says instead where these belong. Of a line that
+/// begins with `version 2` and goes on it says that it must end there.
 ///
-/// Where it is a habit of another language (`reason`), a fourth line says how it is written here, and no word is named. Words with which
-/// a script draws otherwise, such as `sync`, `scope` and `fn`, are named only where their first letter is there alone.
+/// Where the fault is a habit of another language (`reason`), no word is named, and a fourth line says how it is
+/// written here. A word that changes what the script draws, such as `sync`, `scope` or `fn`, is named only where its
+/// first letter stands there alone.
 ///
-/// Of a long line the 72 bytes before the byte and 72 from it on are shown. A byte that isn't printable is shown as `?`.
+/// Of a long line 72 bytes before the byte and 72 from it on are shown, a byte that isn't printable ASCII as `?`.
 pub fn excerpt(alloc: Global, text: &[u8], at: usize, message: &str) -> Result<Vec<u8>, AllocError>
     requires { at ≤ length text.now }
     ensures { IfOk result (λ lines. IsExcerpt text.now at message.now lines.items) }
@@ -234,8 +237,8 @@ pub fn excerpt(alloc: Global, text: &[u8], at: usize, message: &str) -> Result<V
     extended(lines, &end)
 }
 
-/// Three lines on byte `at` of a text, as those of `excerpt`: its line and column, that line, and a caret under the byte with the message. No
-/// advice follows.
+/// The same three lines with the message alone: no advice and no reason. For a byte where the script is no fault of
+/// syntax or check.
 pub fn place_excerpt(
     alloc: Global,
     text: &[u8],

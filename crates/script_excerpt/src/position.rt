@@ -3,14 +3,14 @@
 ghost use Rattle.std.specs.Prelude.{◌≡◌, ◌≤◌, length};
 ghost use Rattle.script_excerpt.specs.Places.{IsColumn, IsLineStart, line_of};
 
-/// A position as editors count: lines and columns from 1 on, a column for each byte.
+/// A position as editors count: lines and columns from 1, a column for each byte.
 #[derive(Clone, Copy, Debug, PartialEq, Eq)]
 pub struct Position {
     pub line: usize,
     pub column: usize,
 }
 
-/// Where the line of byte `at` begins.
+/// The offset at which the line of byte `at` begins.
 pub fn line_start(text: &[u8], at: usize) -> usize
     requires { at ≤ length text.now }
     ensures { IsLineStart text.now at result }
@@ -22,7 +22,7 @@ pub fn line_start(text: &[u8], at: usize) -> usize
     start
 }
 
-// The number of the line of byte `at`.
+// The line number of byte `at`, from 1.
 fn line_number(text: &[u8], at: usize) -> usize
     requires { at ≤ length text.now }
     ensures { result ≡ line_of text.now at }
@@ -37,7 +37,7 @@ fn line_number(text: &[u8], at: usize) -> usize
     line
 }
 
-/// The position of byte `at` of a text, or of its end. A line ends with its line feed.
+/// The position of byte `at` of a text; `at` may be its end. A line feed belongs to the line that it ends.
 pub fn position_of(text: &[u8], at: usize) -> Position
     requires { at ≤ length text.now }
     ensures line { result.line ≡ line_of text.now at }

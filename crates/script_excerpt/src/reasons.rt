@@ -1,28 +1,30 @@
-// Tables of habits of other languages, by what surrounds the offset at which a text stops, with how it is written here.
+// Tables of habits of other languages: the words around the offset at which the parser stops, and how it is written
+// here.
 
 // At a name that follows a number without a gap.
 pub(crate) const NUMBERS: &str =
     "a number is digits alone: 1000000, and no 1e6, 1_000_000 or 0xf4240";
 
-// At a `return` in the middle, or behind its statement.
+// At a `return` before the end of its function, or right after its statement.
 pub(crate) const RETURNS: &str =
     "return stands once, at the end of its function: let r = 0; if x { r = 1; } return r;";
 
-// Where a name is due, and something else is there.
+// Where a name must stand, and something else does.
 pub(crate) const NAMES: &str =
     "a name begins with a letter or _, and is no word of the language (id, in, into, new, older, same, ..)";
 
-// At a blank that is none of this language.
+// At a blank that isn't one of this language's.
 pub(crate) const BLANKS: &str = "this blank comes from a word processor: type it anew";
 
-// At a block that follows neither of these words.
+// At a block of its own.
 pub(crate) const BLOCKS: &str = "a block stands after if, else or while";
 
-// At a second name of one parameter.
+// At a second name for one parameter, which would be its type elsewhere.
 pub(crate) const PARAMETERS: &str =
     "parameters are names with commas between them, and no type is written: fn f(a, b)";
 
-// At an unexpected token: the word before it, the word that begins there, and the remark. An empty word fits anything.
+// At an unexpected token: the word before it, the word that begins there, and the reason. An empty word fits anything.
+// The first row that fits counts.
 pub(crate) static TOKENS: [(&str, &str, &str); 102] = [
     (
         "/",
@@ -300,7 +302,7 @@ pub(crate) static TOKENS: [(&str, &str, &str); 102] = [
     ),
 ];
 
-// The same where a name is between the two words.
+// The same, where a name stands between the two words.
 pub(crate) static TOKENS_AFTER_NAMES: [(&str, &str, &str); 6] = [
     ("if", "=", "equality is =="),
     ("while", "=", "equality is =="),
@@ -322,7 +324,7 @@ pub(crate) static TOKENS_AFTER_NAMES: [(&str, &str, &str); 6] = [
     ("let", ";", "a variable begins with a value: let x = 0;"),
 ];
 
-// At other faults: the message, the word that begins there, and the remark.
+// At other faults: the message, the word that begins there, and the reason.
 pub(crate) static OTHERS: [(&str, &str, &str); 25] = [
     ("unknown variable", "true", "true is 1, and false is 0"),
     ("unknown variable", "True", "true is 1, and false is 0"),

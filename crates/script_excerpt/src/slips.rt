@@ -1,7 +1,7 @@
-// Which habit of another language a fault of a text is.
+// Recognizes habits of other languages by what stands around the offset at which a parser stops.
 
 ghost use Rattle.std.specs.Prelude.{◌≡◌, ◌<◌, ◌≤◌, IfSome, length};
-ghost use Rattle.script_excerpt.specs.Slips.{IsFront, IsNameStart, IsTrimmed, IsWithoutName, begins_by, begins_in_name, ends_by, ends_in_name, is_blank, is_split};
+ghost use Rattle.script_excerpt.specs.Slips.{IsFront, IsNameStart, IsTrimmed, IsWithoutName, begins_with_word, begins_in_name, ends_with_word, ends_in_name, is_blank, is_split};
 ghost use Rattle.script_tokens.specs.Word.{is_name_byte as name_byte};
 
 use crate::position::line_start;
@@ -34,23 +34,23 @@ fn ends_in_name(bytes: &[u8]) -> bool
     begins_in_name(&bytes[bytes.len().saturating_sub(1)..])
 }
 
-// Whether no name reaches from the first bytes into the others.
+// Whether there is no name of which one part ends the first bytes and another begins the rest.
 fn is_split(front: &[u8], rest: &[u8]) -> bool
     ensures { result ≡ is_split front.now rest.now }
 {
     !(ends_in_name(front) && begins_in_name(rest))
 }
 
-// Whether the bytes end with this word.
-fn ends_by(front: &[u8], word: &[u8]) -> bool
-    ensures { result ≡ ends_by front.now word.now }
+// Whether the bytes end with this word, and not with a longer name that ends so.
+fn ends_with_word(front: &[u8], word: &[u8]) -> bool
+    ensures { result ≡ ends_with_word front.now word.now }
 {
     front.ends_with(word) && is_split(&front[..front.len() - word.len()], word)
 }
 
-// Whether the bytes begin with this word.
-pub(crate) fn begins_by(rest: &[u8], word: &[u8]) -> bool
-    ensures { result ≡ begins_by rest.now word.now }
+// Whether the bytes begin with this word, and not with a longer name that begins so.
+pub(crate) fn begins_with_word(rest: &[u8], word: &[u8]) -> bool
+    ensures { result ≡ begins_with_word rest.now word.now }
 {
     rest.starts_with(word) && is_split(word, &rest[word.len()..])
 }
@@ -86,7 +86,7 @@ fn front(text: &[u8], at: usize) -> &[u8]
     &before[..trimmed(before)]
 }
 
-// Where the comment begins that the bytes end in, if they do. A `#` is nothing else.
+// Where the comment begins in which the bytes end, if they end in one. A `#` always begins one.
 fn comment_start(bytes: &[u8]) -> Option<usize>
     ensures { IfSome result (λ start. start < length bytes.now) }
 {
@@ -109,7 +109,7 @@ fn code_before(text: &[u8], at: usize) -> &[u8]
     &text[..end]
 }
 
-// What is before the name at the end of the bytes, if there is one.
+// What is before the name at the end of the bytes, without the blanks between; `None` where they don't end with a name.
 fn without_name(bytes: &[u8]) -> Option<&[u8]>
     ensures { IfSome result (λ rest. IsWithoutName bytes.now rest.now) }
 {
@@ -120,14 +120,14 @@ fn without_name(bytes: &[u8]) -> Option<&[u8]>
     Some(&before[..trimmed(before)])
 }
 
-// The remark of the first row that fits what is before and behind an offset.
-fn said(
+// The reason in the first row whose words stand before and behind the offset.
+fn first_reason(
     rows: &[(&'static str, &'static str, &'static str)],
     front: &[u8],
     rest: &[u8],
 ) -> Option<&'static str> {
     for &(before, word, reason) in rows {
-        if ends_by(front, before.as_bytes()) && begins_by(rest, word.as_bytes()) {
+        if ends_with_word(front, before.as_bytes()) && begins_with_word(rest, word.as_bytes()) {
             return Some(reason);
         }
     }
@@ -143,7 +143,7 @@ fn without_blanks(bytes: &[u8]) -> &[u8] {
     &bytes[from..]
 }
 
-// The statement that the bytes end with, which has no block.
+// The statement that the bytes end with, if it is one that ends with a semicolon.
 fn statement(front: &[u8]) -> Option<&[u8]> {
     let (&last, before) = front.split_last()?;
     if last != b';' {
@@ -156,7 +156,7 @@ fn statement(front: &[u8]) -> Option<&[u8]> {
     Some(without_blanks(&before[from..]))
 }
 
-// Whether the bytes end inside the parentheses behind a function's own name.
+// Whether the bytes end inside the parentheses after `fn` and a name.
 fn ends_in_parameters(front: &[u8]) -> bool {
     let mut from = front.len();
     while 0 < from && is_parameter_byte(front[from - 1]) {
@@ -167,7 +167,7 @@ fn ends_in_parameters(front: &[u8]) -> bool {
     }
     let before = &front[..from - 1];
     match without_name(&before[..trimmed(before)]) {
-        Some(before) => ends_by(before, b"fn"),
+        Some(before) => ends_with_word(before, b"fn"),
         None => false,
     }
 }
@@ -176,33 +176,33 @@ fn is_parameter_byte(byte: u8) -> bool {
     is_name_byte(byte) || is_blank(byte) || byte == b','
 }
 
-// The remark at a word in a list of parameters: it is no name, or follows one.
+// The reason at a word among a function's parameters: it is no name, or it follows one without a comma.
 fn parameter_reason(front: &[u8], rest: &[u8]) -> Option<&'static str> {
     if !begins_in_name(rest) || !ends_in_parameters(front) {
         return None;
     }
-    if ends_in_name(front) && !ends_by(front, b"id") {
+    if ends_in_name(front) && !ends_with_word(front, b"id") {
         return Some(PARAMETERS);
     }
     Some(NAMES)
 }
 
-// Whether the bytes end where a statement or a function does, or with the begin of a block.
+// Whether a statement may begin after the bytes.
 fn ends_a_statement(front: &[u8]) -> bool {
     matches!(front.last(), Some(b';' | b'{' | b'}'))
 }
 
-// Whether a `return` is in the middle: the parser stops at it, or behind its statement.
+// Whether a `return` isn't at the end of its function: the parser stops at it, or right after its statement.
 fn is_return_early(front: &[u8], rest: &[u8]) -> bool {
-    if begins_by(rest, b"return") {
+    if begins_with_word(rest, b"return") {
         return ends_a_statement(front);
     }
-    let follows_return = statement(front).is_some_and(|it| begins_by(it, b"return"));
-    follows_return && !begins_by(rest, b"}") && !begins_by(rest, b"fn")
+    let follows_return = statement(front).is_some_and(|it| begins_with_word(it, b"return"));
+    follows_return && !begins_with_word(rest, b"}") && !begins_with_word(rest, b"fn")
 }
 
-// Whether a name follows a number without a gap.
-fn goes_on(text: &[u8], at: usize) -> bool
+// Whether a name follows a digit without a gap.
+fn follows_digit(text: &[u8], at: usize) -> bool
     requires { at ≤ length text.now }
 {
     match text[..at].last() {
@@ -211,12 +211,12 @@ fn goes_on(text: &[u8], at: usize) -> bool
     }
 }
 
-// The remark at an unexpected token.
+// The reason at an unexpected token.
 fn token_reason(text: &[u8], at: usize) -> Option<&'static str>
     requires { at ≤ length text.now }
 {
     let (front, rest) = (code_before(text, at), &text[at..]);
-    if goes_on(text, at) {
+    if follows_digit(text, at) {
         return Some(NUMBERS);
     }
     if is_return_early(front, rest) {
@@ -225,14 +225,14 @@ fn token_reason(text: &[u8], at: usize) -> Option<&'static str>
     if let Some(reason) = parameter_reason(front, rest) {
         return Some(reason);
     }
-    match said(&TOKENS, front, rest) {
+    match first_reason(&TOKENS, front, rest) {
         Some(reason) => Some(reason),
-        None => said(&TOKENS_AFTER_NAMES, without_name(front)?, rest),
+        None => first_reason(&TOKENS_AFTER_NAMES, without_name(front)?, rest),
     }
 }
 
-/// How it is written here what is at byte `at` of a text, where a known habit of another language made the parser stop there with
-/// this message.
+/// How to write here what stands at byte `at` of a text, where the parser stopped with this message because of a known
+/// habit of another language. `None` where no such habit is recognized.
 pub fn reason(text: &[u8], at: usize, message: &str) -> Option<&'static str>
     requires { at ≤ length text.now }
 {
@@ -240,7 +240,7 @@ pub fn reason(text: &[u8], at: usize, message: &str) -> Option<&'static str>
         return token_reason(text, at);
     }
     for &(fault, word, reason) in &OTHERS {
-        if fault == message && begins_by(&text[at..], word.as_bytes()) {
+        if fault == message && begins_with_word(&text[at..], word.as_bytes()) {
             return Some(reason);
         }
     }
