@@ -219,45 +219,45 @@ class Instance:
         self.plan, self.node = plan, Node(path)
         self.path, self.rank, self.steps, self.calls = path, 0, plan.budget, 0
         # for each child since the last wait its frame and what takes its value, and the faults of all children before that
-        self.handed, self.faults = [], []
+        self.waited_for, self.faults = [], []
         self.begin_strand()
 
-    def run(self, name, args, handed=()):
-        """Its stops. `handed` are children from before it, which it waits for too. It ends with its value or its faults in its node."""
-        self.handed = list(handed)
+    def run(self, name, args, children=()):
+        """Its stops. `children` are those from before it, which it waits for too. It ends with its value or its faults in its node."""
+        self.waited_for = list(children)
         try:
             self.node.value = yield from self.function(name, args)
         except OwnFault as fault:
-            self.node.own_fault = (self.here(), str(fault))
+            self.node.own_fault = (self.pedigree(), str(fault))
             self.faults.append(self.node.own_fault)
         except ChildFault as fault:
             self.node.child_fault = fault.args[0]
-        if self.handed and self.node.is_faulty():
+        if self.waited_for and self.node.is_faulty():
             yield from self.wait()
         self.node.fault, self.node.steps = min(self.faults, default=None), self.plan.budget - self.steps
 
     def wait(self):
         nodes = yield None
-        for (frame, take), node in zip(self.handed, nodes, strict=True):
+        for (frame, take), node in zip(self.waited_for, nodes, strict=True):
             if node.fault:
                 frame.faults.append(node.fault)
                 self.faults.append(node.fault)
             else:
                 take(node.value)
-        self.handed = []
+        self.waited_for = []
 
-    def here(self):
+    def pedigree(self):
         return (*self.path, self.rank)
 
     def begin_strand(self):
-        self.node.strands.add(self.here())
+        self.node.strands.add(self.pedigree())
 
-    def rise(self):
+    def raise_rank(self):
         self.rank += 1
         self.begin_strand()
 
     def show(self, kind, value=None):
-        self.node.items.append(Event(kind, self.here(), self.node.path, value))
+        self.node.items.append(Event(kind, self.pedigree(), self.node.path, value))
 
     def pay(self, n=1):
         if n > self.steps:
@@ -287,7 +287,7 @@ class Instance:
             frame.spawned = False
             if frame.faults:
                 raise ChildFault(min(frame.faults))
-        self.rise()
+        self.raise_rank()
 
     # What a statement does. One that may come to a stop gives its stops.
 
@@ -310,15 +310,15 @@ class Instance:
         return evaluated(frame.variables, e)
 
     def right_draw(self, _):
-        number = dotmix(self.plan.coefficients, self.here(), self.plan.rounds)
+        number = dotmix(self.plan.coefficients, self.pedigree(), self.plan.rounds)
         self.show("draw", number)
-        self.rise()
+        self.raise_rank()
         return wrapped(number)
 
     def right_new(self, _):
-        made = self.here()
+        made = self.pedigree()
         self.show("new")
-        self.rise()
+        self.raise_rank()
         return made
 
     def put(self, frame, name, value):
@@ -338,10 +338,10 @@ class Instance:
         args = [evaluated(frame.variables, e) for e in args]
         self.need_depth(2)
         self.show("spawn")
-        self.handed.append((frame, lambda value: self.put(frame, target, value)))
+        self.waited_for.append((frame, lambda value: self.put(frame, target, value)))
         frame.spawned = True
-        child = Call(name, args, self.here())
-        self.rise()
+        child = Call(name, args, self.pedigree())
+        self.raise_rank()
         yield child
 
     def do_array(self, frame, name, length):
@@ -369,12 +369,12 @@ class Instance:
     def do_scope(self, frame, body):
         self.need_depth(2)
         outside = self.path, self.rank
-        self.path, self.rank = self.here(), 0
+        self.path, self.rank = self.pedigree(), 0
         self.begin_strand()
         yield from self.block(frame, body)
         yield from self.sync(frame)
         self.path, self.rank = outside
-        self.rise()
+        self.raise_rank()
 
     def do_pfor(self, frame, low, high, target, name, rest):
         low, high = evaluated(frame.variables, low), evaluated(frame.variables, high)
@@ -387,10 +387,10 @@ class Instance:
             self.need_depth(3)
         self.show("loop")
         if count > 0:
-            yield from self.loop(Loop(name, low, rest, self.here(), 0, count), frame.variables[target] if target is not None else [])
+            yield from self.loop(Loop(name, low, rest, self.pedigree(), 0, count), frame.variables[target] if target is not None else [])
         else:
-            self.node.items.append(Node(self.here(), is_loop=True))
-        self.rise()
+            self.node.items.append(Node(self.pedigree(), is_loop=True))
+        self.raise_rank()
 
     def loop(self, loop, target):
         def take(values):
@@ -398,7 +398,7 @@ class Instance:
                 target[: len(values)] = values
 
         inside = Frame()
-        self.handed.append((inside, take))
+        self.waited_for.append((inside, take))
         yield loop
         yield from self.wait()
         if inside.faults:
