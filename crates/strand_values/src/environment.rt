@@ -12,6 +12,7 @@ ghost use Rattle.strand_values.specs.Environments.{EnvironmentView, FindsExpress
 ghost use Rattle.strand_values.specs.Gives.{Calculates, integer_result, holding};
 
 use crate::entry::Entry;
+use crate::environment_pool::EnvironmentPool;
 use crate::evaluation_error::EvaluationError;
 use crate::memory::Memory;
 use crate::plain;
@@ -49,11 +50,17 @@ impl Model for Environment {
 
 impl Environment {
     // The environment of a function with variables of these names, none of which is there yet.
-    fn vacant(alloc: Global, names: &Items<NameText>) -> Result<Environment, Memory>
+    #[inline(always)]
+    fn vacant(
+        alloc: Global,
+        names: &Items<NameText>,
+        pool: &mut EnvironmentPool,
+    ) -> Result<Environment, Memory>
         ensures { IfOk result (λ env. env ≡ record { names = names.now; variables = [] }) }
     {
         let count = names.as_slice().len();
-        let mut entries = Vec::with_capacity(alloc, count)?;
+        let mut entries = pool.list(alloc);
+        entries.try_reserve_exact(count)?;
         for _ in 0..count {
             entries.push_reserved(Entry::Vacant);
         }
@@ -72,11 +79,12 @@ impl Environment {
         names: &Items<NameText>,
         params: &[Param],
         args: &[Value],
+        pool: &mut EnvironmentPool,
     ) -> Result<Environment, Memory>
         requires { stand_from 0 names.now params.now ≡ true }
         ensures { IfOk result (λ env. env ≡ record { names = names.now; variables = bound params.now args.now }) }
     {
-        let mut env = Environment::vacant(alloc, names)?;
+        let mut env = Environment::vacant(alloc, names, pool)?;
         for i in 0..params.len().min(args.len()) {
             env.put(i, Entry::of(args[i].share()?));
         }
@@ -91,12 +99,13 @@ impl Environment {
         names: &Items<NameText>,
         params: &[Param],
         args: &[Expr],
+        pool: &mut EnvironmentPool,
     ) -> Result<Environment, EvaluationError>
         requires params { stand_from 0 names.now params.now ≡ true }
         requires args { FindsArguments slots.now self.now args.now }
         ensures { Calculates result (called_with names.now params.now args.now self.now.variables) }
     {
-        let mut env = Environment::vacant(alloc, names)?;
+        let mut env = Environment::vacant(alloc, names, pool)?;
         for i in 0..args.len() {
             let value = value::evaluate(self, slots, &args[i])?;
             if i < params.len() {
@@ -104,6 +113,20 @@ impl Environment {
             }
         }
         Ok(env)
+    }
+
+    /// Drops the variables. Their list goes to the pool.
+    #[inline(always)]
+    pub fn discard(self, pool: &mut EnvironmentPool)
+        ensures { pool.new ≡ pool.old }
+    {
+        let Environment {
+            entries,
+            names,
+            filled,
+        } = self;
+        drop((names, filled));
+        pool.keep(entries);
     }
 
     /// The value of an expression, or the fault that is met first from left to right. An id shares its memory.
@@ -162,7 +185,22 @@ impl Environment {
         requires { FindsArguments slots.now self.now args.now }
         ensures { Calculates result (values_of args.now self.now.variables) }
     {
-        value::values(alloc, self, slots, args)
+        value::values(self, slots, args, Items(Vec::new(alloc)))
+    }
+
+    /// The same, in this empty list.
+    #[inline(always)]
+    pub fn values_in(
+        &self,
+        slots: &[u16],
+        args: &[Expr],
+        room: Items<Value>,
+    ) -> Result<Items<Value>, EvaluationError>
+        requires args { FindsArguments slots.now self.now args.now }
+        requires room { room ≡ [] }
+        ensures { Calculates result (values_of args.now self.now.variables) }
+    {
+        value::values(self, slots, args, room)
     }
 
     /// Assigns the value of an expression to a scalar, or returns the fault that is met first. A new variable comes

@@ -7,6 +7,7 @@
 mod arithmetic;
 mod entry;
 mod environment;
+mod environment_pool;
 mod evaluation_error;
 pub mod laws;
 mod memory;
@@ -18,6 +19,7 @@ mod variables;
 
 pub use arithmetic::{count_of, iteration_count};
 pub use environment::Environment;
+pub use environment_pool::EnvironmentPool;
 pub use evaluation_error::EvaluationError;
 pub use memory::Memory;
 pub use scalar::{is_true, number};

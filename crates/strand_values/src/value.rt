@@ -1,7 +1,7 @@
 // The value of an expression. Each kind of node has a function of its own; where only the number is needed, no `Value`
 // is made.
 
-ghost use Rattle.std.specs.Prelude.{◌≡◌, map, true, IsTrue};
+ghost use Rattle.std.specs.Prelude.{◌≡◌, [], map, true, IsTrue};
 ghost use Rattle.serial_meaning.specs.Values.{Env, value_of, values_of, sums, products, sum_part, product_part};
 ghost use Rattle.serial_meaning.specs.declared.value.Value.TheVariants.{Int};
 ghost use Rattle.script_check.specs.Slots.{all_true, every_in_factor, every_in_summand, has_slot};
@@ -240,15 +240,17 @@ fn multiply(
 // The values of arguments, from left to right.
 #[inline(always)]
 pub(crate) fn values(
-    alloc: Global,
     env: &Environment,
     slots: &[u16],
     args: &[Expr],
+    room: Items<Value>,
 ) -> Result<Items<Value>, EvaluationError>
-    requires { FindsArguments slots.now env.now args.now }
+    requires args { FindsArguments slots.now env.now args.now }
+    requires room { room ≡ [] }
     ensures { Calculates result (values_of args.now env.now.variables) }
 {
-    let mut values = Vec::with_capacity(alloc, args.len())?;
+    let mut values = room.0;
+    values.try_reserve_exact(args.len())?;
     for e in args {
         values.push(evaluate(env, slots, e)?)?;
     }

@@ -8,7 +8,7 @@ use script_grammar::{Expr, Name, NameText};
 use serial_meaning::Value;
 use std::alloc::Global;
 use std::test::Fail;
-use strand_values::{Environment, EvaluationError, Target};
+use strand_values::{Environment, EnvironmentPool, EvaluationError, Target};
 
 // The names of its variables, each in its slot. Some differ in their lengths alone, and some in their last bytes.
 pub(super) static NAMES: [&str; 14] = [
@@ -61,7 +61,13 @@ impl Frame {
         }
         let names = Items(names);
         Ok(Frame {
-            environment: Environment::bound(alloc, &names, &[], &[])?,
+            environment: Environment::bound(
+                alloc,
+                &names,
+                &[],
+                &[],
+                &mut EnvironmentPool::new(alloc),
+            )?,
             names,
             slots: Items(slots),
         })
