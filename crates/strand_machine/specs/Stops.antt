@@ -117,12 +117,12 @@ pub record IsCutOn (answers : List AnswerView) (t next : TaskView) : Type 0 wher
   pub joins : next.joins ≡ t.joins
 
 -- the task once it went on with its children's answers
-abbrev pub view_on : TaskView → TaskView
-view_on t = record t { task = with_evaluations t }
+abbrev pub resumed_view : TaskView → TaskView
+resumed_view t = record t { task = with_evaluations t }
 
 -- A task that took these answers of its children: it goes on with them, or it ends by one that is a cut.
-pub record WentOn (answers : List AnswerView) (t next : TaskView) : Type 0 where
-  pub whole : any_cut answers ≡ false → next ≡ view_on t
+pub record IsResumedWith (answers : List AnswerView) (t next : TaskView) : Type 0 where
+  pub whole : any_cut answers ≡ false → next ≡ resumed_view t
   pub cut : any_cut answers ≡ true → IsCutOn answers t next × (next.loads ≡ t.loads)
 
 -- the task, not ended, once its looks have loaded these numbers
@@ -132,7 +132,7 @@ looked loads t = record t { loads = loads; cut = None }
 -- The wait is over, and the task took these answers of its children; or it is as it was, and a look has loaded a number that isn't 0.
 abbrev pub IsResumed : {K : Type 0} → TaskView → Resumed K → Type 0
 IsResumed t (resumed.On next) =
-    (answers : List AnswerView) × AreAnswersOf t.task.plan t.task.trace.unmerged answers × WentOn answers (looked next.loads t) next × HasPassed t.loads next.loads
+    (answers : List AnswerView) × AreAnswersOf t.task.plan t.task.trace.unmerged answers × IsResumedWith answers (looked next.loads t) next × HasPassed t.loads next.loads
 IsResumed t (resumed.NotYet same) = (same.task ≡ t.task) × (same.children ≡ t.children) × HasStopped t.loads same.loads × (same.cut ≡ t.cut) × (same.joins ≡ t.joins)
 
 abbrev pub answer_tags : List AnswerView → List AnswerTag

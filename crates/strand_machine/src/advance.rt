@@ -14,9 +14,11 @@ use crate::replace::set_remaining;
 use crate::step::run_in_place;
 use crate::stop::{Passed, Paused, Stop};
 use crate::task::Task;
+use crate::task_pool::TaskPool;
 use crate::task_state::TaskState;
 use meet_block::Give;
 use serial_meaning::{Answer, Keep, Outcome};
+use spare_memory::emptied;
 use std::alloc::Global;
 
 // Records a task's end: the fault in its trace, or else this outcome.
@@ -70,29 +72,32 @@ impl<K: Keep> Task<K> {
 
     /// The answer of a task that has an outcome, and the give for it.
     #[inline(always)]
-    pub fn into_answer(self) -> (Answer<K>, Give<Answer<K>>)
+    pub fn into_answer(self, pool: &mut TaskPool<K>) -> (Answer<K>, Give<Answer<K>>)
         requires { has_outcome self.cut ≡ true }
         ensures { Advances {K = K} self (stop.Done result.0 result.1) }
     {
         let Task { parts } = self;
-        let Parts { state, remaining } = Box::into_inner(parts);
+        let (parts, room) = emptied(parts);
+        pool.keep_box(room);
+        let Parts { state, remaining } = parts;
         let Remaining::Ends(ended) = remaining else {
             unreachable!()
         };
         let TaskState { links, trace, .. } = state;
-        let (prefix, _) = trace.prefix();
+        let (prefix, after) = trace.into_prefix();
+        pool.keep_children(after);
         links.answer(prefix, ended)
     }
 
     /// Runs to the next stop: a child that is begun, a wait, or the end. A task that waits stops at its wait again. On `Memory` it is
     /// dropped.
     #[inline(always)]
-    pub fn run(self, alloc: Global) -> Result<Paused<K>, Memory>
+    pub fn run(self, alloc: Global, pool: &mut TaskPool<K>) -> Result<Paused<K>, Memory>
         requires { self.cut ≡ None }
         ensures { IfOk result (Pauses self) }
     {
         let Task { mut parts } = self;
-        let passed = run_in_place(&mut parts, alloc)?;
+        let passed = run_in_place(&mut parts, alloc, pool)?;
         Ok(paused(parts, passed))
     }
 
@@ -102,22 +107,22 @@ impl<K: Keep> Task<K> {
         ensures { IfOk result (Advances self) }
     {
         if self.has_outcome() {
-            return Ok(stop_done(self));
+            return Ok(stop_done(self, alloc));
         }
-        let paused = self.run(alloc)?;
+        let paused = self.run(alloc, &mut TaskPool::new(alloc))?;
         match paused {
             Paused::Spawn { child, rest } => Ok(Stop::Spawn { child, rest }),
             Paused::Wait { rest } => Ok(Stop::Wait { rest }),
-            Paused::Ended { rest } => Ok(stop_done(rest)),
+            Paused::Ended { rest } => Ok(stop_done(rest, alloc)),
         }
     }
 }
 
 // The end of a task that has an outcome.
-fn stop_done<K: Keep>(task: Task<K>) -> Stop<K>
+fn stop_done<K: Keep>(task: Task<K>, alloc: Global) -> Stop<K>
     requires { has_outcome task.cut ≡ true }
     ensures { Advances task result }
 {
-    let (answer, give) = task.into_answer();
+    let (answer, give) = task.into_answer(&mut TaskPool::new(alloc));
     Stop::Done { answer, give }
 }

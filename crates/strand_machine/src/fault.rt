@@ -9,6 +9,7 @@ use crate::memory::Memory;
 use crate::parts::Parts;
 use crate::resume::resume_parts;
 use crate::task::Task;
+use crate::task_pool::TaskPool;
 use contract_views::Items;
 use meet_block::Give;
 use serial_meaning::{Answer, Keep, Outcome};
@@ -42,7 +43,7 @@ impl<K: Keep> Task<K> {
         let mut answers = answers;
         answers.0.push(last)?;
         let Task { mut parts } = self;
-        drop(resume_parts(&mut parts, alloc, answers)?);
+        drop(resume_parts(&mut parts, alloc, answers, &mut TaskPool::new(alloc))?);
         let (links, prefix, fault) = Parts::end(parts);
         let Some(fault) = fault else { unreachable!() };
         Ok(links.answer(prefix, Outcome::Fault(fault)))

@@ -18,6 +18,7 @@ use crate::remaining::{Remaining, Stage};
 use crate::replace::set_remaining;
 use crate::stop::Passed;
 use crate::task::Task;
+use crate::task_pool::TaskPool;
 use crate::task_state::TaskState;
 use serial_meaning::{AnswerKey, Fault, Keep, Origin, Outcome, Value};
 use std::alloc::Global;
@@ -56,6 +57,7 @@ fn begin_child<K: Keep>(
     links: &mut Links<K>,
     alloc: Global,
     child: Child,
+    pool: &mut TaskPool<K>,
 ) -> Result<Task<K>, Memory>
     requires known { IsOriginOf links.old.plan child.origin }
     requires trail { IsTrailOf links.old.plan child.origin child.trail }
@@ -80,7 +82,7 @@ fn begin_child<K: Keep>(
         }
     };
     let AnswerKey { plan, origin } = key;
-    Task::begin(alloc, plan, Child { origin, trail }, give)
+    Task::begin(alloc, plan, Child { origin, trail }, give, pool)
 }
 
 // Begins a child whose value goes to this destination.
@@ -89,6 +91,7 @@ fn add_child_task<K: Keep>(
     alloc: Global,
     child: Child,
     destination: Destination,
+    pool: &mut TaskPool<K>,
 ) -> Result<Task<K>, Memory>
     requires known { IsOriginOf state.old.links.plan child.origin }
     requires trail { IsTrailOf state.old.links.plan child.origin child.trail }
@@ -99,7 +102,7 @@ fn add_child_task<K: Keep>(
     match state.trace.add_child(&child.origin, destination) {
         Ok(()) => {
             state.advanced = true;
-            begin_child(&mut state.links, alloc, child)
+            begin_child(&mut state.links, alloc, child, pool)
         }
         Err(memory) => {
             drop(child);
@@ -116,6 +119,7 @@ pub(crate) fn spawn<K: Keep>(
     child: Child,
     destination: Destination,
     remaining: Remaining,
+    pool: &mut TaskPool<K>,
 ) -> Result<Passed<K>, Memory>
     requires known { IsOriginOf parts.old.state.links.plan child.origin }
     requires trail { IsTrailOf parts.old.state.links.plan child.origin child.trail }
@@ -123,7 +127,7 @@ pub(crate) fn spawn<K: Keep>(
     ensures made { IfOk result (λ passed. IsSpawn parts.old.state child.origin destination remaining (made parts.new passed)) }
     ensures sound { IfOk result (IsSoundMade parts.new) }
 {
-    match add_child_task(&mut parts.state, alloc, child, destination) {
+    match add_child_task(&mut parts.state, alloc, child, destination, pool) {
         Ok(child) => {
             set_remaining(&mut parts.remaining, remaining);
             Ok(Passed::Spawned(child))

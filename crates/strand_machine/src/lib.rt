@@ -21,6 +21,7 @@ mod run;
 mod step;
 mod stop;
 mod task;
+mod task_pool;
 mod task_state;
 mod trace;
 
@@ -32,6 +33,7 @@ pub use placed::{PlacedFault, PlacedStop};
 pub use probe::StrandProbe;
 pub use stop::{Paused, Resumed, Stop};
 pub use task::Task;
+pub use task_pool::TaskPool;
 
 fn is_sent<T: Send>() {}
 

@@ -18,6 +18,7 @@ use crate::memory::Memory;
 use crate::parts::Parts;
 use crate::remaining::{Remaining, Stage};
 use crate::replace::set;
+use crate::task_pool::TaskPool;
 use crate::trace::{AfterChild, Trace};
 use contract_views::Items;
 use serial_meaning::{Answer, Fault, Keep, Out, Outcome, Plan, Value};
@@ -316,6 +317,7 @@ pub(crate) fn merge_answer<K: Keep>(
     alloc: Global,
     after: AfterChild<K>,
     answer: Answer<K>,
+    pool: &mut TaskPool<K>,
 ) -> Result<(), Memory>
     requires unmerged { parts.old.state.trace.unmerged ≡ [] }
     requires of_plan { IsRemainingOfPlan parts.old.state.links.plan parts.old.remaining }
@@ -329,7 +331,8 @@ pub(crate) fn merge_answer<K: Keep>(
         plan: own,
         origin,
     } = answer;
-    drop((own, origin));
+    drop(own);
+    pool.keep_origin(origin);
     let AfterChild {
         destination,
         events,

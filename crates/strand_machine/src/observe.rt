@@ -21,6 +21,7 @@ use crate::run::apply_effects;
 use crate::step::{pass_with, run, to_stop};
 use crate::stop::{Passed, Stop};
 use crate::task::Task;
+use crate::task_pool::TaskPool;
 use ped_path::Pedigree;
 use serial_meaning::{All, Event, Fault, Out};
 use std::alloc::Global;
@@ -143,7 +144,13 @@ fn go_observed(
         }
     }
     match move_result {
-        MoveResult::Went(effects) => apply_effects(parts, alloc, instance, effects),
+        MoveResult::Went(effects) => apply_effects(
+            parts,
+            alloc,
+            instance,
+            effects,
+            &mut TaskPool::new(alloc),
+        ),
         MoveResult::Returned(value) => {
             drop(instance);
             Ok(pass(parts, Remaining::Runs(Stage::Returned(value))))
@@ -172,9 +179,14 @@ fn run_observed(
         Stage::Running(instance) => go_observed(parts, alloc, at, instance, observation),
         Stage::ChildFaulted(fault) => {
             set(&mut observation.child_fault, Some(fault.share()?));
-            run(parts, alloc, Stage::ChildFaulted(fault))
+            run(
+                parts,
+                alloc,
+                Stage::ChildFaulted(fault),
+                &mut TaskPool::new(alloc),
+            )
         }
-        stage => run(parts, alloc, stage),
+        stage => run(parts, alloc, stage, &mut TaskPool::new(alloc)),
     }
 }
 
@@ -193,7 +205,7 @@ fn remaining_observed(
 {
     match remaining {
         Remaining::Runs(stage) => run_observed(parts, alloc, at, stage, observation),
-        remaining => pass_with(parts, alloc, remaining),
+        remaining => pass_with(parts, alloc, remaining, &mut TaskPool::new(alloc)),
     }
 }
 

@@ -4,6 +4,7 @@ ghost use Rattle.strand_machine.specs.Tasks.{HoldsOfTask, view_of};
 use crate::memory::Memory;
 use crate::remaining::Remaining;
 use crate::task::Task;
+use crate::task_pool::TaskPool;
 use crate::task_state::TaskState;
 use serial_meaning::{Fault, Keep, Out};
 use std::alloc::Global;
@@ -19,17 +20,12 @@ pub(crate) struct Parts<K: Keep> {
 impl<K: Keep> Parts<K> {
     /// The task with these parts.
     #[inline(always)]
-    pub fn boxed(alloc: Global, parts: Parts<K>) -> Result<Task<K>, Memory>
+    pub fn boxed(alloc: Global, parts: Parts<K>, pool: &mut TaskPool<K>) -> Result<Task<K>, Memory>
         requires { HoldsOfTask parts.state parts.remaining }
         ensures { IfOk result (λ task. task ≡ view_of parts.state parts.remaining) }
     {
-        match Box::new(alloc, parts) {
-            Ok(parts) => Ok(Task { parts }),
-            Err(failed) => {
-                drop(failed);
-                Err(Memory)
-            }
-        }
+        let parts = pool.boxed(alloc, parts)?;
+        Ok(Task { parts })
     }
 
     /// What `Task::unshare_path` does.

@@ -16,6 +16,7 @@ use crate::run::apply_effects;
 use crate::step::{pass_with, run, to_stop};
 use crate::stop::{Passed, Stop};
 use crate::task::Task;
+use crate::task_pool::TaskPool;
 use serial_meaning::{All, Fault};
 use std::alloc::Global;
 use std::mem;
@@ -81,7 +82,13 @@ fn go_placed(
         }
     }
     match move_result {
-        MoveResult::Went(effects) => apply_effects(parts, alloc, instance, effects),
+        MoveResult::Went(effects) => apply_effects(
+            parts,
+            alloc,
+            instance,
+            effects,
+            &mut TaskPool::new(alloc),
+        ),
         MoveResult::Returned(value) => {
             drop(instance);
             Ok(pass(parts, Remaining::Runs(Stage::Returned(value))))
@@ -107,7 +114,7 @@ fn run_placed(
 {
     match stage {
         Stage::Running(instance) => go_placed(parts, alloc, instance, met),
-        stage => run(parts, alloc, stage),
+        stage => run(parts, alloc, stage, &mut TaskPool::new(alloc)),
     }
 }
 
@@ -125,7 +132,7 @@ fn remaining_placed(
 {
     match remaining {
         Remaining::Runs(stage) => run_placed(parts, alloc, stage, met),
-        remaining => pass_with(parts, alloc, remaining),
+        remaining => pass_with(parts, alloc, remaining, &mut TaskPool::new(alloc)),
     }
 }
 

@@ -20,7 +20,7 @@ use std::alloc::Global;
 use std::mem;
 use strand_family::iteration_args;
 use strand_meaning::laws;
-use strand_moves::Instance;
+use strand_moves::{Instance, InstancePool};
 
 // The state of an instance.
 #[derive(Drop)]
@@ -99,6 +99,7 @@ pub(crate) fn begun_remaining(
     plan: &Plan,
     origin: &Origin,
     trail: Trail,
+    pool: &mut InstancePool,
 ) -> Result<Remaining, Memory>
     requires known { IsOriginOf plan.now origin.now }
     requires trail { IsTrailOf plan.now origin.now trail }
@@ -110,7 +111,7 @@ pub(crate) fn begun_remaining(
     let _depth = plan.limits.depth;
     Ok(match origin {
         Origin::Instance { function, args, .. } => {
-            Remaining::Runs(begun_instance(alloc, plan, *function, args.as_slice(), trail)?)
+            Remaining::Runs(begun_instance(alloc, plan, *function, args.as_slice(), trail, pool)?)
         }
         Origin::Loop { range, .. } => Remaining::Splits(Left {
             range: *range,
@@ -125,6 +126,7 @@ pub(crate) fn begun_last(
     plan: &Plan,
     origin: &Origin,
     trail: Trail,
+    pool: &mut InstancePool,
 ) -> Result<Remaining, Memory>
     requires known { IsOriginOf plan.now origin.now }
     requires trail { IsTrailOf plan.now origin.now trail }
@@ -135,7 +137,7 @@ pub(crate) fn begun_last(
     // Read for the proof: a plan has as many coefficients as its depth.
     let _depth = plan.limits.depth;
     match origin {
-        Origin::Instance { .. } => begun_remaining(alloc, plan, origin, trail),
+        Origin::Instance { .. } => begun_remaining(alloc, plan, origin, trail, pool),
         Origin::Loop {
             function,
             rest,
@@ -146,7 +148,14 @@ pub(crate) fn begun_last(
             let k = range.hi.saturating_sub(1);
             let args = iteration_args(alloc, *first, rest.as_slice(), k)?;
             let trail = trail.child(alloc, &plan.gamma, k)?;
-            Ok(Remaining::Runs(begun_instance(alloc, plan, *function, args.as_slice(), trail)?))
+            Ok(Remaining::Runs(begun_instance(
+                alloc,
+                plan,
+                *function,
+                args.as_slice(),
+                trail,
+                pool,
+            )?))
         }
     }
 }
@@ -159,6 +168,7 @@ fn begun_instance(
     function: u32,
     args: &[Value],
     trail: Trail,
+    pool: &mut InstancePool,
 ) -> Result<Stage, Memory>
     requires fits { FitsGamma plan.now.gamma trail }
     requires within { length trail.path < plan.now.limits.depth }
@@ -168,5 +178,5 @@ fn begun_instance(
     if function as usize >= plan.functions().len() {
         return Ok(Stage::Returned(Value::Int(0)));
     }
-    Ok(Stage::Running(Instance::new(alloc, plan, function, args, trail)?))
+    Ok(Stage::Running(Instance::new(alloc, plan, function, args, trail, pool)?))
 }

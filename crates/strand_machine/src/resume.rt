@@ -7,7 +7,7 @@ ghost use Rattle.strand_machine.specs.Merge.{BecomesStage, BecomesRemaining, End
 ghost use Rattle.strand_machine.specs.AwaitedChildren.{awaited, awaited_children};
 ghost use Rattle.strand_meaning.specs.Cuts.{AreAnswersOf};
 ghost use Rattle.strand_machine.specs.Made.{resumed_as};
-ghost use Rattle.strand_machine.specs.Stops.{IsResumed, WentOn, answer_tags};
+ghost use Rattle.strand_machine.specs.Stops.{IsResumed, IsResumedWith, answer_tags};
 ghost use Rattle.strand_machine.specs.Tasks.{HoldsOfTask, IsSound, view_of, remaining_of};
 ghost use Rattle.strand_machine.specs.declared.remaining.Stage.TheVariants as stage;
 
@@ -18,6 +18,7 @@ use crate::remaining::{Remaining, Stage};
 use crate::replace::{set, set_remaining};
 use crate::stop::Resumed;
 use crate::task::Task;
+use crate::task_pool::TaskPool;
 use crate::trace::AfterChild;
 use contract_views::Items;
 use meet_block::Look;
@@ -94,25 +95,29 @@ fn merge_all<K: Keep>(
     parts: &mut Parts<K>,
     merging: &mut Merging,
     alloc: Global,
-    after: Vec<AfterChild<K>>,
+    children: Vec<AfterChild<K>>,
     answers: Items<Answer<K>>,
+    pool: &mut TaskPool<K>,
 ) -> Result<Items<Answer<K>>, Memory>
-    requires many { length answers ≡ length after.items }
+    requires many { length answers ≡ length children.items }
     requires unmerged { parts.old.state.trace.unmerged ≡ [] }
     requires of_plan { IsRemainingOfPlan parts.old.state.links.plan parts.old.remaining }
-    requires found { RemainingFindsAll parts.old.state.links.plan after.items (remaining_of parts.old.state.links.plan parts.old.remaining) }
-    ensures takes { OnOk result (TakesAnswers (awaited_children (origins (answer_tags answers)) after.items) answers (merge_of parts.old merging.old) (merge_of parts.new merging.new)) }
+    requires found { RemainingFindsAll parts.old.state.links.plan children.items (remaining_of parts.old.state.links.plan parts.old.remaining) }
+    ensures takes { OnOk result (TakesAnswers (awaited_children (origins (answer_tags answers)) children.items) answers (merge_of parts.old merging.old) (merge_of parts.new merging.new)) }
     ensures rest { OnOk result (KeepsRest parts.old parts.new) }
     ensures none { IfOk result (λ left. left ≡ []) }
 {
+    let mut after = children;
+    after.reverse();
     let mut left = answers.0;
     left.reverse();
-    for part in after {
+    while let Some(part) = after.pop() {
         let Some(answer) = left.pop() else {
             unreachable!()
         };
-        merge_answer(parts, merging, alloc, part, answer)?;
+        merge_answer(parts, merging, alloc, part, answer, pool)?;
     }
+    pool.keep_children(after);
     Ok(Items(left))
 }
 
@@ -155,10 +160,11 @@ pub(crate) fn resume_parts<K: Keep>(
     parts: &mut Parts<K>,
     alloc: Global,
     answers: Items<Answer<K>>,
+    pool: &mut TaskPool<K>,
 ) -> Result<Items<Answer<K>>, Memory>
     requires sound { HasTakenAnswers parts.old.state parts.old.remaining }
     requires tags { answer_tags answers ≡ tags parts.old.state.links.plan (awaited parts.old.state.trace.unmerged) }
-    ensures went { OnOk result (WentOn answers (view_of parts.old.state parts.old.remaining) (view_of parts.new.state parts.new.remaining)) }
+    ensures went { OnOk result (IsResumedWith answers (view_of parts.old.state parts.old.remaining) (view_of parts.new.state parts.new.remaining)) }
     ensures answers { OnOk result (AreAnswersOf parts.old.state.links.plan parts.old.state.trace.unmerged answers) }
     ensures none { IfOk result (λ left. left ≡ []) }
     ensures holds { OnOk result (HoldsOfTask parts.new.state parts.new.remaining) }
@@ -168,12 +174,13 @@ pub(crate) fn resume_parts<K: Keep>(
     laws::answers_end();
     // Read for the proof: the plan's table has the slot of each variable that its functions name.
     let _slots = parts.state.links.plan().slots();
-    let after = parts.state.trace.take_children(alloc);
+    let room = pool.children(alloc);
+    let after = parts.state.trace.take_children(room);
     let mut merging = Merging {
         cut: false,
         by_cut: false,
     };
-    let left = merge_all(parts, &mut merging, alloc, after, answers)?;
+    let left = merge_all(parts, &mut merging, alloc, after, answers, pool)?;
     if merging.cut {
         cut_short(parts, &merging);
         return Ok(left);
@@ -188,6 +195,7 @@ fn poll<K: Keep>(
     parts: &mut Parts<K>,
     alloc: Global,
     room: Items<Answer<K>>,
+    pool: &mut TaskPool<K>,
 ) -> Result<(bool, Items<Answer<K>>), Memory>
     requires sound { IsSound parts.old.state parts.old.remaining }
     requires room { room ≡ [] }
@@ -200,7 +208,7 @@ fn poll<K: Keep>(
         Look::Ready => {
             let awaited = parts.state.trace.awaited_count();
             let answers = take_answers(&mut parts.state.links, awaited, room)?;
-            let left = resume_parts(parts, alloc, answers)?;
+            let left = resume_parts(parts, alloc, answers, pool)?;
             Ok((true, left))
         }
     }
@@ -216,7 +224,11 @@ impl<K: Keep> Task<K> {
         requires { self.task.waiting ≡ true }
         ensures { IfOk result (IsResumed self) }
     {
-        let (resumed, left) = self.resume_in(alloc, Items(Vec::new(alloc)))?;
+        let (resumed, left) = self.resume_in(
+            alloc,
+            Items(Vec::new(alloc)),
+            &mut TaskPool::new(alloc),
+        )?;
         drop(left);
         Ok(resumed)
     }
@@ -226,6 +238,7 @@ impl<K: Keep> Task<K> {
         self,
         alloc: Global,
         room: Items<Answer<K>>,
+        pool: &mut TaskPool<K>,
     ) -> Result<(Resumed<K>, Items<Answer<K>>), Memory>
         requires waits { self.task.waiting ≡ true }
         requires room { room ≡ [] }
@@ -233,7 +246,7 @@ impl<K: Keep> Task<K> {
         ensures none { IfOk result (λ resumed. resumed.1 ≡ []) }
     {
         let Task { mut parts } = self;
-        let (ready, left) = poll(&mut parts, alloc, room)?;
+        let (ready, left) = poll(&mut parts, alloc, room, pool)?;
         if ready {
             return Ok((Resumed::On(Task { parts }), left));
         }
@@ -245,9 +258,9 @@ impl<K: Keep> Task<K> {
     pub fn resume_with(self, alloc: Global, answers: Items<Answer<K>>) -> Result<Task<K>, Memory>
         requires waits { self.task.waiting ≡ true }
         requires tags { answer_tags answers ≡ tags self.task.plan (awaited self.task.trace.unmerged) }
-        ensures { IfOk result (WentOn answers self) }
+        ensures { IfOk result (IsResumedWith answers self) }
     {
-        let (task, left) = self.resume_by(alloc, answers)?;
+        let (task, left) = self.resume_by(alloc, answers, &mut TaskPool::new(alloc))?;
         drop(left);
         Ok(task)
     }
@@ -257,14 +270,15 @@ impl<K: Keep> Task<K> {
         self,
         alloc: Global,
         answers: Items<Answer<K>>,
+        pool: &mut TaskPool<K>,
     ) -> Result<(Task<K>, Items<Answer<K>>), Memory>
         requires waits { self.task.waiting ≡ true }
         requires tags { answer_tags answers ≡ tags self.task.plan (awaited self.task.trace.unmerged) }
-        ensures went { IfOk result (λ resumed. WentOn answers self resumed.0) }
+        ensures went { IfOk result (λ resumed. IsResumedWith answers self resumed.0) }
         ensures none { IfOk result (λ resumed. resumed.1 ≡ []) }
     {
         let Task { mut parts } = self;
-        let left = resume_parts(&mut parts, alloc, answers)?;
+        let left = resume_parts(&mut parts, alloc, answers, pool)?;
         Ok((Task { parts }, left))
     }
 }

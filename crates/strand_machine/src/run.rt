@@ -22,13 +22,14 @@ use crate::memory::Memory;
 use crate::parts::Parts;
 use crate::remaining::{Remaining, Stage};
 use crate::stop::Passed;
+use crate::task_pool::TaskPool;
 use crate::trace::Trace;
 use contract_views::Boxed;
 use script_grammar::Stmt;
 use serial_meaning::{Keep, Plan};
 use std::alloc::Global;
 use strand_meaning::laws;
-use strand_moves::{Effects, Instance, LoopedChild, MoveResult, SpawnedChild, Waits};
+use strand_moves::{Effects, Instance, InstancePool, LoopedChild, MoveResult, SpawnedChild, Waits};
 
 // The content of a box.
 fn unboxed<T>(boxed: Boxed<T>) -> T
@@ -45,6 +46,7 @@ fn spawn_next<K: Keep>(
     plan: &Plan,
     next: Option<&Stmt>,
     trace: &mut Trace<K>,
+    pool: &mut InstancePool,
 ) -> Result<Option<SpawnedChild>, strand_moves::Memory>
     requires sound { IsInstance plan.now instance.old }
     requires passed { HasPassedStatement plan.now instance.old (option_copied next) }
@@ -54,13 +56,12 @@ fn spawn_next<K: Keep>(
     ensures sound { IfOk result (λ _. IsInstance plan.now instance.new) }
 {
     match next {
-        Some(statement) => instance.spawn(alloc, plan, statement, trace),
+        Some(statement) => instance.spawn(alloc, plan, statement, trace, pool),
         None => Ok(None),
     }
 }
 
-// The move that is next, where it is a written sync or a parallel loop, whose event joins the trace. Otherwise nothing
-// changes.
+// The move that is next, where it is a sync or a parallel loop, whose event joins the trace. Otherwise nothing changes.
 #[inline(always)]
 fn wait_next<K: Keep>(
     instance: &mut Instance,
@@ -78,7 +79,7 @@ fn wait_next<K: Keep>(
 {
     match next {
         Some(statement) => instance.wait(alloc, plan, statement, trace),
-        None => Ok(None),
+        None => instance.wait_end(alloc, plan, trace),
     }
 }
 
@@ -89,6 +90,7 @@ fn begin_spawned<K: Keep>(
     alloc: Global,
     instance: Instance,
     spawned: SpawnedChild,
+    pool: &mut TaskPool<K>,
 ) -> Result<Passed<K>, Memory>
     requires known { IsOriginOf parts.old.state.links.plan spawned.child.origin }
     requires trail { IsTrailOf parts.old.state.links.plan spawned.child.origin spawned.child.trail }
@@ -104,7 +106,7 @@ fn begin_spawned<K: Keep>(
     } = spawned;
     let destination = Destination::Spawned(height, target);
     let next = Remaining::Runs(Stage::Running(instance));
-    spawn(parts, alloc, child, destination, next)
+    spawn(parts, alloc, child, destination, next, pool)
 }
 
 // Begins the loop for which the instance waits, whose event the trace has.
@@ -113,6 +115,7 @@ fn begin_looped<K: Keep>(
     alloc: Global,
     instance: Instance,
     looped: LoopedChild,
+    pool: &mut TaskPool<K>,
 ) -> Result<Passed<K>, Memory>
     requires known { IsOriginOf parts.old.state.links.plan looped.child.origin }
     requires trail { IsTrailOf parts.old.state.links.plan looped.child.origin looped.child.trail }
@@ -124,7 +127,7 @@ fn begin_looped<K: Keep>(
     let LoopedChild { child, target } = looped;
     let destination = Destination::Looped(target);
     let next = Remaining::Runs(Stage::AtLoop(instance));
-    spawn(parts, alloc, child, destination, next)
+    spawn(parts, alloc, child, destination, next, pool)
 }
 
 // Adds what a move showed to the trace, and begins its child, if any.
@@ -133,6 +136,7 @@ pub(crate) fn apply_effects<K: Keep>(
     alloc: Global,
     instance: Instance,
     effects: Effects,
+    pool: &mut TaskPool<K>,
 ) -> Result<Passed<K>, Memory>
     requires { HasSoundEffects parts.old.state instance effects }
     ensures step { IfOk result (λ passed. step_of (made parts.new passed) ≡ stops_at (child_in (effects_of effects)) (task_after_effects parts.old.state instance effects)) }
@@ -153,11 +157,11 @@ pub(crate) fn apply_effects<K: Keep>(
         }
         Effects::Spawned { event, spawned } => {
             parts.state.trace.emit(alloc, event)?;
-            begin_spawned(parts, alloc, instance, unboxed(spawned))
+            begin_spawned(parts, alloc, instance, unboxed(spawned), pool)
         }
         Effects::Looped { event, looped } => {
             parts.state.trace.emit(alloc, event)?;
-            begin_looped(parts, alloc, instance, unboxed(looped))
+            begin_looped(parts, alloc, instance, unboxed(looped), pool)
         }
     }
 }
@@ -168,6 +172,7 @@ pub(crate) fn go<K: Keep>(
     parts: &mut Parts<K>,
     alloc: Global,
     mut instance: Instance,
+    pool: &mut TaskPool<K>,
 ) -> Result<Passed<K>, Memory>
     requires { IsSound parts.old.state (remaining.Runs (stage.Running instance)) }
     ensures step { IfOk result (λ passed. IsRun (view_of parts.old.state (remaining.Runs (stage.Running instance))) (made parts.new passed)) }
@@ -178,12 +183,24 @@ pub(crate) fn go<K: Keep>(
     loop {
         parts.state.advanced = true;
         let plan = parts.state.links.plan();
-        let next = match instance.straight_run(alloc, plan, &mut parts.state.trace) {
+        let next = match instance.straight_run(
+            alloc,
+            plan,
+            &mut parts.state.trace,
+            &mut pool.instances,
+        ) {
             Ok(next) => next,
             Err(memory) => return Err(memory.into()),
         };
-        match spawn_next(&mut instance, alloc, plan, next, &mut parts.state.trace) {
-            Ok(Some(spawned)) => return begin_spawned(parts, alloc, instance, spawned),
+        match spawn_next(
+            &mut instance,
+            alloc,
+            plan,
+            next,
+            &mut parts.state.trace,
+            &mut pool.instances,
+        ) {
+            Ok(Some(spawned)) => return begin_spawned(parts, alloc, instance, spawned, pool),
             Ok(None) => {}
             Err(memory) => return Err(memory.into()),
         }
@@ -194,7 +211,7 @@ pub(crate) fn go<K: Keep>(
                     return Ok(wait(parts, Remaining::Runs(Stage::AtSync(instance))));
                 }
                 Waits::ForLoop(looped) => {
-                    return begin_looped(parts, alloc, instance, unboxed(looped));
+                    return begin_looped(parts, alloc, instance, unboxed(looped), pool);
                 }
             },
             Ok(None) => {}
@@ -202,9 +219,11 @@ pub(crate) fn go<K: Keep>(
         }
         match instance.make(alloc, plan, next) {
             Ok(MoveResult::Went(Effects::Nothing)) => {}
-            Ok(MoveResult::Went(effects)) => return apply_effects(parts, alloc, instance, effects),
+            Ok(MoveResult::Went(effects)) => return apply_effects(
+                parts, alloc, instance, effects, pool,
+            ),
             Ok(MoveResult::Returned(value)) => {
-                instance.discard();
+                instance.discard(&mut pool.instances);
                 return Ok(returned(parts, value));
             }
             Ok(MoveResult::Faulted(own)) => return Ok(faulted(parts, own)),

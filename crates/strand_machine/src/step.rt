@@ -15,6 +15,7 @@ use crate::remaining::{Left, Remaining, Stage, begun_last};
 use crate::run::go;
 use crate::stop::{Passed, Stop};
 use crate::task::Task;
+use crate::task_pool::TaskPool;
 use crate::task_state::TaskState;
 use serial_meaning::{Keep, Outcome, Value};
 use std::alloc::Global;
@@ -24,7 +25,12 @@ use strand_meaning::laws;
 use strand_moves::Child;
 
 // A loop with these iterations left: their lower half goes to a child, and the last one is begun.
-fn split_loop<K: Keep>(parts: &mut Parts<K>, alloc: Global, left: Left) -> Result<Passed<K>, Memory>
+fn split_loop<K: Keep>(
+    parts: &mut Parts<K>,
+    alloc: Global,
+    left: Left,
+    pool: &mut TaskPool<K>,
+) -> Result<Passed<K>, Memory>
     requires { IsSound parts.old.state (remaining.Splits left) }
     ensures step { IfOk result (λ passed. IsStep (view_of parts.old.state (remaining.Splits left)) (made parts.new passed)) }
     ensures sound { IfOk result (IsSoundMade parts.new) }
@@ -40,14 +46,20 @@ fn split_loop<K: Keep>(parts: &mut Parts<K>, alloc: Global, left: Left) -> Resul
         };
         let range = halves.1;
         let remaining = Remaining::Splits(Left { range, trail });
-        return spawn(parts, alloc, child, Destination::Half, remaining);
+        return spawn(parts, alloc, child, Destination::Half, remaining, pool);
     }
     if range.len() == 0 {
         let values = parts.state.take_values(alloc);
         return Ok(Passed::Ends(Outcome::Values(values)));
     }
     let state = &parts.state;
-    let remaining = begun_last(alloc, state.links.plan(), state.links.origin(), trail)?;
+    let remaining = begun_last(
+        alloc,
+        state.links.plan(),
+        state.links.origin(),
+        trail,
+        &mut pool.instances,
+    )?;
     Ok(pass(parts, remaining))
 }
 
@@ -91,6 +103,7 @@ pub(crate) fn run<K: Keep>(
     parts: &mut Parts<K>,
     alloc: Global,
     stage: Stage,
+    pool: &mut TaskPool<K>,
 ) -> Result<Passed<K>, Memory>
     requires { IsSound parts.old.state (remaining.Runs stage) }
     ensures step { IfOk result (λ passed. StepsOn (view_of parts.old.state (remaining.Runs stage)) (made parts.new passed)) }
@@ -98,7 +111,7 @@ pub(crate) fn run<K: Keep>(
 {
     laws::steps_are_sound();
     match stage {
-        Stage::Running(instance) => go(parts, alloc, instance),
+        Stage::Running(instance) => go(parts, alloc, instance, pool),
         Stage::AtSync(instance) => Ok(wait(parts, Remaining::Runs(Stage::AtSync(instance)))),
         Stage::AtLoop(instance) => Ok(wait(parts, Remaining::Runs(Stage::AtLoop(instance)))),
         Stage::Returned(value) => Ok(returned(parts, value)),
@@ -112,14 +125,15 @@ pub(crate) fn pass_with<K: Keep>(
     parts: &mut Parts<K>,
     alloc: Global,
     remaining: Remaining,
+    pool: &mut TaskPool<K>,
 ) -> Result<Passed<K>, Memory>
     requires { IsSound parts.old.state remaining }
     ensures step { IfOk result (λ passed. StepsOn (view_of parts.old.state remaining) (made parts.new passed)) }
     ensures sound { IfOk result (IsSoundMade parts.new) }
 {
     match remaining {
-        Remaining::Splits(left) => split_loop(parts, alloc, left),
-        Remaining::Runs(stage) => run(parts, alloc, stage),
+        Remaining::Splits(left) => split_loop(parts, alloc, left, pool),
+        Remaining::Runs(stage) => run(parts, alloc, stage, pool),
         Remaining::Finished(value, gone_on) => end_loop(parts, alloc, value, gone_on),
         Remaining::Ends(_) => unreachable!(),
     }
@@ -127,27 +141,35 @@ pub(crate) fn pass_with<K: Keep>(
 
 // The same, by what the parts say is left. It is a call of its own, since the room for what it makes would else be cleared before each move.
 #[inline(never)]
-fn move_other<K: Keep>(parts: &mut Parts<K>, alloc: Global) -> Result<Passed<K>, Memory>
+fn move_other<K: Keep>(
+    parts: &mut Parts<K>,
+    alloc: Global,
+    pool: &mut TaskPool<K>,
+) -> Result<Passed<K>, Memory>
     requires { IsSound parts.old.state parts.old.remaining }
     ensures step { IfOk result (λ passed. StepsOn (view_of parts.old.state parts.old.remaining) (made parts.new passed)) }
     ensures sound { IfOk result (IsSoundMade parts.new) }
 {
     let remaining = mem::replace(&mut parts.remaining, Remaining::nothing());
-    pass_with(parts, alloc, remaining)
+    pass_with(parts, alloc, remaining, pool)
 }
 
 // A move of the task in place, or its stop.
 #[inline(always)]
-fn move_once<K: Keep>(parts: &mut Parts<K>, alloc: Global) -> Result<Passed<K>, Memory>
+fn move_once<K: Keep>(
+    parts: &mut Parts<K>,
+    alloc: Global,
+    pool: &mut TaskPool<K>,
+) -> Result<Passed<K>, Memory>
     requires { IsSound parts.old.state parts.old.remaining }
     ensures step { IfOk result (λ passed. StepsOn (view_of parts.old.state parts.old.remaining) (made parts.new passed)) }
     ensures sound { IfOk result (IsSoundMade parts.new) }
 {
     // most moves are those of an instance
     if let Some(instance) = parts.remaining.take_running() {
-        return go(parts, alloc, instance);
+        return go(parts, alloc, instance, pool);
     }
-    move_other(parts, alloc)
+    move_other(parts, alloc, pool)
 }
 
 // The end of a task: by the fault in its trace, or else by this outcome. Its box is freed.
@@ -172,6 +194,7 @@ fn end<K: Keep>(parts: Box<Parts<K>>, outcome: Outcome) -> Stop<K>
 pub(crate) fn run_in_place<K: Keep>(
     parts: &mut Parts<K>,
     alloc: Global,
+    pool: &mut TaskPool<K>,
 ) -> Result<Passed<K>, Memory>
     requires { IsSound parts.old.state parts.old.remaining }
     ensures stopped { IfOk result IsStopped }
@@ -181,7 +204,7 @@ pub(crate) fn run_in_place<K: Keep>(
     laws::moves_fall();
     laws::stops_are_sound();
     loop {
-        match move_once(parts, alloc)? {
+        match move_once(parts, alloc, pool)? {
             Passed::Continues => {}
             passed => return Ok(passed),
         }

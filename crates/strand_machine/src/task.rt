@@ -9,6 +9,7 @@ use crate::memory::Memory;
 use crate::origin::{share_origin, trail_of};
 use crate::parts::Parts;
 use crate::remaining::begun_remaining;
+use crate::task_pool::TaskPool;
 use crate::task_state::TaskState;
 use meet_block::Give;
 use serial_meaning::{All, Answer, AnswerKey, Fault, Keep, Origin, Out, Outcome, Plan};
@@ -60,7 +61,13 @@ impl<K: Keep> Task<K> {
         ensures joins { IfOk result (λ task. AreJoinNames give.join task.joins) }
     {
         let trail = trail_of(&plan, &origin)?;
-        Task::begin(alloc, plan, Child { origin, trail }, give)
+        Task::begin(
+            alloc,
+            plan,
+            Child { origin, trail },
+            give,
+            &mut TaskPool::new(alloc),
+        )
     }
 
     /// The same for a detached task: nobody looks for its answer, nor for those of the tasks below it, which are taken as they come.
@@ -89,6 +96,7 @@ impl<K: Keep> Task<K> {
         plan: Arc<Plan>,
         child: Child,
         give: Give<Answer<K>>,
+        pool: &mut TaskPool<K>,
     ) -> Result<Task<K>, Memory>
         requires give { give.tag ≡ tag (arc_value plan) child.origin }
         requires known { IsOriginOf (arc_value plan) child.origin }
@@ -101,7 +109,7 @@ impl<K: Keep> Task<K> {
         // Read for the proof: a checked script is valid.
         let _script = plan.checked.script();
         let Child { origin, trail } = child;
-        let remaining = match begun_remaining(alloc, &plan, &origin, trail) {
+        let remaining = match begun_remaining(alloc, &plan, &origin, trail, &mut pool.instances) {
             Ok(remaining) => remaining,
             Err(memory) => {
                 drop((plan, origin, give));
@@ -115,8 +123,8 @@ impl<K: Keep> Task<K> {
                 return Err(memory.into());
             }
         };
-        let state = TaskState::new(alloc, links);
-        Parts::boxed(alloc, Parts { state, remaining })
+        let state = TaskState::new(alloc, links, pool.children(alloc));
+        Parts::boxed(alloc, Parts { state, remaining }, pool)
     }
 
     /// The origin that the task answers.

@@ -1,6 +1,6 @@
 ghost use Rattle.std.specs.Prelude.{◌≡◌, [], false};
 
-use crate::trace::Trace;
+use crate::trace::{AfterChild, Trace};
 use contract_views::Items;
 use serial_meaning::{Keep, Origin, Value};
 use std::alloc::Global;
@@ -24,12 +24,13 @@ impl<K: Keep> TaskState<K> {
 
     // The state of a task that hasn't begun.
     #[inline(always)]
-    pub fn new(alloc: Global, links: Links<K>) -> TaskState<K>
+    pub fn new(alloc: Global, links: Links<K>, room: Vec<AfterChild<K>>) -> TaskState<K>
+        requires { room.items ≡ [] }
         ensures { result ≡ record { links = links; trace = no_trace; values = []; waiting = false; advanced = false } }
     {
         TaskState {
             links,
-            trace: Trace::new(alloc),
+            trace: Trace::new(room),
             values: Items(Vec::new(alloc)),
             waiting: false,
             advanced: false,

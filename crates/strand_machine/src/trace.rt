@@ -45,15 +45,16 @@ impl<K: Keep> Trace<K> {
     ghost use Rattle.strand_machine.specs.AwaitedChildren.{IsParted, awaited, destination_of};
     ghost use Rattle.strand_machine.specs.Tasks.{ended_by};
 
-    // Nothing yet.
-    pub fn new(alloc: Global) -> Trace<K>
+    // Nothing yet. The list of its children will be this one.
+    pub fn new(room: Vec<AfterChild<K>>) -> Trace<K>
+        requires { room.items ≡ [] }
         ensures { result ≡ no_trace }
     {
         Trace {
             prefix: Out::none(),
             fault: None,
             awaited: KnownList::none(),
-            after: Vec::new(alloc),
+            after: room,
         }
     }
 
@@ -153,14 +154,15 @@ impl<K: Keep> Trace<K> {
         self.after.is_empty()
     }
 
-    // Takes the children out, with the events after each.
+    // Takes the children out, with the events after each, and leaves this list for further ones.
     #[inline(always)]
-    pub fn take_children(&mut self, alloc: Global) -> Vec<AfterChild<K>>
+    pub fn take_children(&mut self, room: Vec<AfterChild<K>>) -> Vec<AfterChild<K>>
+        requires { room.items ≡ [] }
         ensures parted { IsParted self.old self.old.prefix self.old.fault result.items }
         ensures rest { self.new ≡ record self.old { unmerged = [] } }
     {
         self.awaited = KnownList::none();
-        mem::replace(&mut self.after, Vec::new(alloc))
+        mem::replace(&mut self.after, room)
     }
 
     // Takes the fault out, if there is one.
@@ -170,6 +172,15 @@ impl<K: Keep> Trace<K> {
         ensures rest { self.new ≡ record self.old { fault = None } }
     {
         self.fault.take()
+    }
+
+    // The events before the first child, and the list of the children.
+    #[inline(always)]
+    pub fn into_prefix(self) -> (Out<K>, Vec<AfterChild<K>>)
+        ensures { result.0 ≡ self.prefix }
+    {
+        let Trace { prefix, after, .. } = self;
+        (prefix, after)
     }
 
     // The events before the first child, and the fault that ends them, if there is one.

@@ -13,7 +13,11 @@ use Rattle.serial_meaning.proofs.event.Event.TheSendSync as event_shared
 use Rattle.serial_meaning.proofs.event.Fault.TheSendSync as fault_shared
 use Rattle.serial_meaning.proofs.value.Value.TheSendSync as value_shared
 use Rattle.serial_meaning.specs.contracts.event.Fault as fault
+use Rattle.spare_memory.proofs.Shares.{empty_box_sends}
+use Rattle.spare_memory.proofs.empty_list.EmptyList.TheSendSync as empty_list_shared
+use Rattle.spare_memory.proofs.pool.Pool.TheSendSync as pool_shared
 use Rattle.strand_values.proofs.Shares.{environment_sends, environment_syncs}
+use Rattle.strand_values.proofs.environment_pool.EnvironmentPool.TheSendSync as environment_pool_shared
 use Rattle.strand_values.specs.contracts.target.Target as target
 use Rattle.strand_values.specs.contracts.target.Target.TheInside as target_inside
 use Rattle.strand_moves.proofs.cursor.Cursor.TheSendSync as cursor_shared
@@ -27,6 +31,7 @@ use Rattle.strand_moves.specs.contracts.frame.Frame as frame
 use Rattle.strand_moves.specs.contracts.frame.Level as level
 use Rattle.strand_moves.specs.contracts.instance.Instance as instance
 use Rattle.strand_moves.specs.contracts.instance_parts.InstanceParts as instance_parts
+use Rattle.strand_moves.specs.contracts.instance_pool.InstancePool as instance_pool
 
 -- to another thread
 
@@ -87,6 +92,15 @@ parts_send = declared_send instance_parts.the_type (trail_shared.the_send, (word
 
 pub instance_sends : IsSend instance.the_row
 instance_sends = declared_send instance.the_type (Box-send instance_parts.the_row parts_send, tt)
+
+pub instance_pool_sends : IsSend instance_pool.the_row
+instance_pool_sends = declared_send instance_pool.the_type (
+  pool_shared.the_send _ (empty_box_sends instance_parts.the_row),
+  (
+    environment_pool_shared.the_send,
+    (pool_shared.the_send _ (empty_list_shared.the_send frame.the_row frame_sends), (pool_shared.the_send _ (empty_list_shared.the_send _ value_shared.the_send), tt)),
+  ),
+)
 
 -- read by several
 

@@ -1,4 +1,5 @@
 pub mod ChildLemmas
+pub mod EndSyncs
 pub mod Items
 pub mod Spawning
 pub mod Waiting

@@ -1,5 +1,5 @@
 -- Syncs and parallel loops, without their event.
-use Rattle.std.specs.Prelude.{◌≡◌, List, Option, Some, None, Result, Ok, Err}
+use Rattle.std.specs.Prelude.{◌≡◌, Bool, true, false, Option, Some, None, Result, Ok, Err}
 use Rattle.script_grammar.specs.declared.tree.Stmt.{Stmt}
 use Rattle.serial_meaning.specs.Plan.{PlanView}
 use Rattle.serial_meaning.specs.declared.event.Event.{Event}
@@ -21,6 +21,11 @@ abbrev pub waits_after : Event → Waits → Effects
 waits_after e waits.Nothing = effect.Emitted e
 waits_after e waits.ForChildren = effect.Synced e
 waits_after e (waits.ForLoop l) = effect.Looped e l
+
+-- what a sync waits for, by whether there was a spawn since the last one
+abbrev pub sync_waits : Bool → Waits
+sync_waits true = waits.ForChildren
+sync_waits false = waits.Nothing
 
 -- a sync or loop that showed this event, as a move
 abbrev pub wait_as_move : Event → Result Waits values.EvaluationError → Result MoveResult values.EvaluationError

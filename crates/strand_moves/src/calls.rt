@@ -26,7 +26,7 @@ use script_grammar::{CallText, Function, Name};
 use serial_meaning::{FaultKind, Plan, Value};
 use std::alloc::Global;
 use std::mem;
-use strand_values::{Environment, EvaluationError, Target};
+use strand_values::{Environment, EnvironmentPool, EvaluationError, Target};
 
 // The most open calls of an instance.
 const MOST_CALLS: usize = 256;
@@ -40,6 +40,7 @@ impl InstanceParts {
         slots: &[u16],
         target: Option<&Name>,
         call: &CallText,
+        pool: &mut EnvironmentPool,
     ) -> Result<(), EvaluationError>
         requires goes_on { self.old.leaving ≡ false }
         requires slots { AreSlots slots.now plan.now }
@@ -57,7 +58,7 @@ impl InstanceParts {
         let Some(function) = function_in(plan, number) else {
             unreachable!()
         };
-        self.enter(alloc, plan, slots, number, function, target, call)
+        self.enter(alloc, plan, slots, number, function, target, call, pool)
     }
 
     // A call of this function.
@@ -70,6 +71,7 @@ impl InstanceParts {
         function: &Function,
         target: Option<&Name>,
         call: &CallText,
+        pool: &mut EnvironmentPool,
     ) -> Result<(), EvaluationError>
         requires goes_on { self.old.leaving ≡ false }
         requires slots { AreSlots slots.now plan.now }
@@ -89,7 +91,10 @@ impl InstanceParts {
         };
         let params = function.params.as_slice();
         let args = call.args.as_slice();
-        let env = self.top.env.called_with(alloc, slots, names, params, args)?;
+        let env = self
+            .top
+            .env
+            .called_with(alloc, slots, names, params, args, pool)?;
         if self.below.len() >= MOST_CALLS {
             return Err(EvaluationError::Fault(FaultKind::Calls));
         }
@@ -180,7 +185,7 @@ impl InstanceParts {
     }
 
     // Whether the text of the innermost frame's function has the word `spawn`.
-    fn has_spawns(&self, plan: &Plan) -> bool
+    pub(crate) fn has_spawns(&self, plan: &Plan) -> bool
         ensures { result ≡ spawns_in (function_at (functions_of plan.now) self.now.top.function) }
     {
         plan.spawns(self.top.function)
@@ -199,7 +204,7 @@ impl InstanceParts {
     }
 
     // Ends the innermost frame: its value goes to the frame below, or is the instance's.
-    pub(crate) fn end(&mut self, plan: &Plan) -> Result<MoveResult, EvaluationError>
+    pub(crate) fn end(&mut self, alloc: Global, plan: &Plan) -> Result<MoveResult, EvaluationError>
         requires named { AreNamed plan.now self.old }
         requires outside { self.old.top.levels.items ≡ [] }
         requires goes_on { self.old.leaving ≡ false }
@@ -214,12 +219,16 @@ impl InstanceParts {
         if self.below.is_empty() {
             return Ok(MoveResult::Returned(self.result(plan)?));
         }
-        silent(self.give_back(plan))
+        silent(self.give_back(plan, &mut EnvironmentPool::new(alloc)))
     }
 
     // Ends the innermost frame: its value goes to the frame below.
     #[inline(always)]
-    pub(crate) fn give_back(&mut self, plan: &Plan) -> Result<(), EvaluationError>
+    pub(crate) fn give_back(
+        &mut self,
+        plan: &Plan,
+        pool: &mut EnvironmentPool,
+    ) -> Result<(), EvaluationError>
         requires named { AreNamed plan.now self.old }
         requires outside { self.old.top.levels.items ≡ [] }
         requires goes_on { self.old.leaving ≡ false }
@@ -240,6 +249,7 @@ impl InstanceParts {
         };
         let callee = mem::replace(&mut self.top, caller);
         self.receive(plan.slots(), callee.target.as_ref(), value);
+        callee.discard(pool);
         Ok(())
     }
 }

@@ -1,6 +1,6 @@
 // Children: spawns, syncs and parallel loops.
 
-ghost use Rattle.std.specs.Prelude.{◌≡◌, ◌<◌, ◌≤◌, ◌^◌, ◌+◌, ◌++◌, ◌∷◌, [], ℕ, Bool, Some, Err, IfOk, IfSome, OnErr, OnOk, false, true, length};
+ghost use Rattle.std.specs.Prelude.{◌≡◌, ◌<◌, ◌≤◌, ◌^◌, ◌+◌, ◌++◌, ◌∷◌, [], ℕ, Bool, None, Some, Err, IfOk, IfSome, OnErr, OnOk, false, true, length};
 ghost use Rattle.std.specs.Option.{option_copied};
 ghost use Rattle.dotmix.specs.Trails.{FitsGamma};
 ghost use Rattle.script_grammar.specs.declared.tree.Act.TheOpen as act;
@@ -24,13 +24,14 @@ ghost use Rattle.strand_values.specs.declared.evaluation_error.EvaluationError.T
 ghost use Rattle.strand_moves.specs.Moves.{IsTrailOf, MovesTrail, HasEffects, spawn_to};
 ghost use Rattle.strand_moves.specs.StraightRuns.{HasPassedStatement};
 ghost use Rattle.strand_moves.specs.Spawns.{DoesAs, HasSpawned, IsBoxedSpawn, SpawnsTrail, spawn_as_move};
-ghost use Rattle.strand_moves.specs.Waits.{HasWaited, ShowsTrailAfter, WaitsTrail, wait_as_move};
+ghost use Rattle.strand_moves.specs.Waits.{HasWaited, ShowsTrailAfter, WaitsTrail, sync_waits, wait_as_move};
 
 use crate::calls::function_in;
 use crate::effects::{Child, Effects, LoopedChild, MoveResult, SpawnedChild, Waits};
 use crate::event_sink::EventSink;
 use crate::frame::target_of;
 use crate::instance_parts::InstanceParts;
+use crate::instance_pool::InstancePool;
 use crate::memory::Memory;
 use crate::narrow::narrowed;
 use contract_views::{Boxed, Items};
@@ -52,7 +53,9 @@ impl InstanceParts {
         slots: &[u16],
         target: Option<&Name>,
         call: &CallText,
+        room: Items<Value>,
     ) -> Result<SpawnedChild, EvaluationError>
+        requires room { room ≡ [] }
         requires strand { IsStrand plan.now self.old }
         requires finds { FindsSpawn plan.now slots.now self.old.top.env (option_copied target) call.now }
         ensures shows { (st : Stmt) → Acts plan.now st (spawn_to (option_copied target.entry) call.now) self.old self.new (spawn_as_move (event.Spawn (present_of self.old ++ self.old.rank ∷ [])) result) }
@@ -63,7 +66,7 @@ impl InstanceParts {
         ensures named { (plan : PlanView) → KeepsNames plan self.old self.new }
     {
         let height = narrowed(self.below.len())?;
-        let args = self.top.env.values(alloc, slots, call.args.as_slice())?;
+        let args = self.top.env.values_in(slots, call.args.as_slice(), room)?;
         if self.trail.path.len() + 1 >= plan.limits.depth as u64 {
             return Err(EvaluationError::Fault(FaultKind::Depth));
         }
@@ -102,7 +105,7 @@ impl InstanceParts {
         ensures named { (plan : PlanView) → KeepsNames plan self.old self.new }
     {
         let event = Event::Spawn(self.pedigree()?);
-        let done = self.spawn(alloc, plan, slots, target, call);
+        let done = self.spawn(alloc, plan, slots, target, call, Items(Vec::new(alloc)));
         spawn_as_move(alloc, event, done)
     }
 
@@ -114,6 +117,7 @@ impl InstanceParts {
         plan: &Plan,
         statement: &Stmt,
         sink: &mut S,
+        pool: &mut InstancePool,
     ) -> Result<Option<SpawnedChild>, Memory>
         requires sound { IsInstance plan.now self.old }
         requires passed { HasPassedStatement plan.now self.old (Some statement.now) }
@@ -130,7 +134,14 @@ impl InstanceParts {
         }
         self.steps -= 1;
         let rank = self.rank;
-        match self.spawn(alloc, plan, plan.slots(), text.0, text.1) {
+        match self.spawn(
+            alloc,
+            plan,
+            plan.slots(),
+            text.0,
+            text.1,
+            pool.values(alloc),
+        ) {
             Ok(spawned) => {
                 sink.emit_at(alloc, &self.trail.path, rank, EventKind::Spawn)?;
                 Ok(Some(spawned))
@@ -197,11 +208,73 @@ impl InstanceParts {
             return Ok(None);
         }
         self.steps -= 1;
+        Ok(Some(self.emit_sync(alloc, sink)?))
+    }
+
+    // Passes a sync. Its event goes to the sink.
+    #[inline(always)]
+    fn emit_sync<S: EventSink>(&mut self, alloc: Global, sink: &mut S) -> Result<Waits, Memory>
+        requires { self.old.rank < 2 ^ 32 }
+        ensures sent { OnOk result (sink.new ≡ S.after (event.Sync (present_of self.old ++ self.old.rank ∷ [])) sink.old) }
+        ensures waits { IfOk result (λ w. w ≡ sync_waits self.old.top.spawned) }
+        ensures passed { OnOk result (self.new ≡ record self.old { rank = self.old.rank + 1; top = record self.old.top { spawned = false } }) }
+    {
         sink.emit_at(alloc, &self.trail.path, self.rank, EventKind::Sync)?;
         if self.pass_sync() {
-            return Ok(Some(Waits::ForChildren));
+            return Ok(Waits::ForChildren);
         }
-        Ok(Some(Waits::Nothing))
+        Ok(Waits::Nothing)
+    }
+
+    // Where the cursor has passed all statements of its block: the sync at the end of a scope, or the step of a return
+    // and the sync that it implies. Its event goes to the sink. Where there is none, or no step is left, nothing changes.
+    #[inline(always)]
+    pub(crate) fn wait_end<S: EventSink>(
+        &mut self,
+        alloc: Global,
+        plan: &Plan,
+        sink: &mut S,
+    ) -> Result<Option<Waits>, Memory>
+        requires sound { IsInstance plan.now self.old }
+        requires passed { HasPassedStatement plan.now self.old None }
+        ensures did { IfOk result (HasWaited S.after plan.now self.old sink.old None self.new sink.new) }
+        ensures child { IfOk result (WaitsTrail plan.now) }
+        ensures path { IfOk result (λ _. path_of self.new ≡ path_of self.old) }
+        ensures sound { IfOk result (λ _. IsInstance plan.now self.new) }
+    {
+        if self.leaving || self.top.returning {
+            return Ok(None);
+        }
+        if self.top.levels.as_slice().is_empty() {
+            return self.return_sent(alloc, plan, sink);
+        }
+        self.leaving = true;
+        Ok(Some(self.emit_sync(alloc, sink)?))
+    }
+
+    // The same of a return.
+    fn return_sent<S: EventSink>(
+        &mut self,
+        alloc: Global,
+        plan: &Plan,
+        sink: &mut S,
+    ) -> Result<Option<Waits>, Memory>
+        requires sound { IsInstance plan.now self.old }
+        requires passed { HasPassedStatement plan.now self.old None }
+        requires goes_on { self.old.leaving ≡ false }
+        requires outside { self.old.top.levels.items ≡ [] }
+        requires first { self.old.top.returning ≡ false }
+        ensures did { IfOk result (HasWaited S.after plan.now self.old sink.old None self.new sink.new) }
+        ensures child { IfOk result (WaitsTrail plan.now) }
+        ensures path { IfOk result (λ _. path_of self.new ≡ path_of self.old) }
+        ensures sound { IfOk result (λ _. IsInstance plan.now self.new) }
+    {
+        if self.steps == 0 || !self.has_spawns(plan) {
+            return Ok(None);
+        }
+        self.steps -= 1;
+        self.top.returning = true;
+        Ok(Some(self.emit_sync(alloc, sink)?))
     }
 
     // The sync or the parallel loop that the cursor has just passed. Its event goes to the sink. Where the statement is

@@ -23,7 +23,7 @@ use crate::memory::Memory;
 use script_grammar::{Act, Expr, Name, Right, Stmt};
 use serial_meaning::{Event, EventKind, Plan};
 use std::alloc::Global;
-use strand_values::EvaluationError;
+use strand_values::{EnvironmentPool, EvaluationError};
 
 // A statement without an event, as a move.
 pub(crate) fn silent(done: Result<(), EvaluationError>) -> Result<MoveResult, EvaluationError>
@@ -115,6 +115,7 @@ impl InstanceParts {
         alloc: Global,
         plan: &'a Plan,
         sink: &mut S,
+        pool: &mut EnvironmentPool,
     ) -> Result<Option<&'a Stmt>, Memory>
         requires { IsInstance plan.now self.old }
         ensures { IfOk result (λ next. ComesToStatement S.after plan.now self.old sink.old self.new sink.new (option_copied next)) }
@@ -130,7 +131,7 @@ impl InstanceParts {
             // whether the next statement stands in a block around this one
             let left = self.top.cursor.next >= block.len();
             let Some(passed) = self.top.cursor.pass_in(text, block) else {
-                if !self.frame_end(alloc, plan, sink)? {
+                if !self.frame_end(alloc, plan, sink, pool)? {
                     return Ok(None);
                 }
                 text = self.top.statements(plan);
@@ -154,7 +155,7 @@ impl InstanceParts {
                 block = passed.1;
                 continue;
             }
-            match self.other_statement(alloc, plan, slots, statement, sink)? {
+            match self.other_statement(alloc, plan, slots, statement, sink, pool)? {
                 Form::Emitting => block = passed.1,
                 Form::Calling => {
                     text = self.top.statements(plan);
@@ -177,6 +178,7 @@ impl InstanceParts {
         slots: &[u16],
         statement: &Stmt,
         sink: &mut S,
+        pool: &mut EnvironmentPool,
     ) -> Result<Form, Memory>
         requires strand { IsStrand plan.now self.old }
         requires goes_on { self.old.leaving ≡ false }
@@ -189,7 +191,7 @@ impl InstanceParts {
         let form = form_of(statement);
         let done = match form {
             Form::Emitting => self.emitting_statement(alloc, plan, slots, statement, sink)?,
-            Form::Calling => self.calling_statement(alloc, plan, slots, statement)?,
+            Form::Calling => self.calling_statement(alloc, plan, slots, statement, pool)?,
             Form::Other => false,
         };
         if done {
@@ -206,6 +208,7 @@ impl InstanceParts {
         alloc: Global,
         plan: &Plan,
         sink: &mut S,
+        pool: &mut EnvironmentPool,
     ) -> Result<bool, Memory>
         requires instance { IsInstance plan.now self.old }
         requires none { statements_left (statements_of plan.now self.old.top) self.old.top.cursor ≡ [] }
@@ -218,7 +221,7 @@ impl InstanceParts {
             if self.below.is_empty() {
                 return Ok(false);
             }
-            return went(self.give_back(plan));
+            return went(self.give_back(plan, pool));
         }
         if self.top.spawned {
             return Ok(false);
@@ -228,7 +231,7 @@ impl InstanceParts {
             return Ok(false);
         };
         if !syncs {
-            self.give_back_if_any(plan)?;
+            self.give_back_if_any(plan, pool)?;
             return Ok(true);
         }
         sink.emit_at(alloc, &self.trail.path, rank, EventKind::Sync)?;
@@ -237,7 +240,7 @@ impl InstanceParts {
 
     // Gives the value of a frame whose return is paid to the frame below, where there is one and no fault is met.
     #[inline(always)]
-    fn give_back_if_any(&mut self, plan: &Plan) -> Result<(), Memory>
+    fn give_back_if_any(&mut self, plan: &Plan, pool: &mut EnvironmentPool) -> Result<(), Memory>
         requires instance { IsInstance plan.now self.old }
         requires goes_on { self.old.leaving ≡ false }
         requires none { statements_left (statements_of plan.now self.old.top) self.old.top.cursor ≡ [] }
@@ -248,7 +251,7 @@ impl InstanceParts {
         if self.below.is_empty() {
             return Ok(());
         }
-        went(self.give_back(plan))?;
+        went(self.give_back(plan, pool))?;
         Ok(())
     }
 
@@ -375,6 +378,7 @@ impl InstanceParts {
         plan: &Plan,
         slots: &[u16],
         statement: &Stmt,
+        pool: &mut EnvironmentPool,
     ) -> Result<bool, Memory>
         requires goes_on { self.old.leaving ≡ false }
         requires slots { AreSlots slots.now plan.now }
@@ -384,9 +388,9 @@ impl InstanceParts {
         ensures named { KeepsNames plan.now self.old self.new }
     {
         match &statement.act {
-            Act::Let(x, r) => self.calling_right(alloc, plan, slots, x, r),
-            Act::Set(x, r) => self.calling_right(alloc, plan, slots, x, r),
-            Act::Call(c) => went(self.call(alloc, plan, slots, None, c)),
+            Act::Let(x, r) => self.calling_right(alloc, plan, slots, x, r, pool),
+            Act::Set(x, r) => self.calling_right(alloc, plan, slots, x, r, pool),
+            Act::Call(c) => went(self.call(alloc, plan, slots, None, c, pool)),
             _ => Ok(false),
         }
     }
@@ -400,6 +404,7 @@ impl InstanceParts {
         slots: &[u16],
         x: &Name,
         r: &Right,
+        pool: &mut EnvironmentPool,
     ) -> Result<bool, Memory>
         requires goes_on { self.old.leaving ≡ false }
         requires slots { AreSlots slots.now plan.now }
@@ -410,7 +415,7 @@ impl InstanceParts {
         ensures named { KeepsNames plan.now self.old self.new }
     {
         match r {
-            Right::Call(_, c) => went(self.call(alloc, plan, slots, Some(x), c)),
+            Right::Call(_, c) => went(self.call(alloc, plan, slots, Some(x), c, pool)),
             _ => Ok(false),
         }
     }

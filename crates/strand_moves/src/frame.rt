@@ -11,7 +11,7 @@ use dotmix::Trail;
 use script_grammar::{Name, Stmt};
 use serial_meaning::{Fault, Plan};
 use std::alloc::Global;
-use strand_values::{Environment, Target};
+use strand_values::{Environment, EnvironmentPool, Target};
 
 // An open scope.
 #[derive(Drop)]
@@ -59,6 +59,23 @@ impl Frame {
             faulted: None,
             target,
         }
+    }
+
+    // Drops a frame that has ended. The list of its variables goes to the pool.
+    #[inline(always)]
+    pub(crate) fn discard(self, pool: &mut EnvironmentPool)
+        ensures { pool.new ≡ pool.old }
+    {
+        let Frame {
+            levels,
+            cursor,
+            env,
+            faulted,
+            ..
+        } = self;
+        drop((levels, cursor));
+        drop(faulted);
+        env.discard(pool);
     }
 
     // The statements that its cursor is in: its function's body, or the block of its innermost open scope.

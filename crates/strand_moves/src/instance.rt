@@ -1,6 +1,6 @@
 // Instances.
 
-ghost use Rattle.std.specs.Prelude.{◌≡◌, ◌<◌, [], ◌∷◌, Some, Ok, Err, IfOk, length};
+ghost use Rattle.std.specs.Prelude.{◌≡◌, ◌<◌, [], ◌∷◌, None, Some, Ok, Err, IfOk, length};
 ghost use Rattle.std.specs.Option.{option_copied};
 ghost use Rattle.dotmix.specs.Trails.{FitsGamma};
 ghost use Rattle.serial_meaning.specs.Plan.{PlanView, functions_of};
@@ -10,8 +10,8 @@ ghost use Rattle.strand_meaning.specs.Task.{frame_with_answer, changed, with_val
 
 use crate::effects::{MoveResult, SpawnedChild, Waits};
 use crate::event_sink::EventSink;
-use crate::frame::Frame;
 use crate::instance_parts::InstanceParts;
+use crate::instance_pool::InstancePool;
 use crate::memory::Memory;
 use dotmix::Trail;
 use script_grammar::Stmt;
@@ -39,6 +39,7 @@ impl Instance {
         function: u32,
         args: &[Value],
         trail: Trail,
+        pool: &mut InstancePool,
     ) -> Result<Instance, Memory>
         requires there { function < length (functions_of plan.now) }
         requires fits { FitsGamma plan.now.gamma trail }
@@ -47,7 +48,7 @@ impl Instance {
         ensures path { IfOk result (λ i. path_of i ≡ trail.path) }
         ensures sound { IfOk result (IsInstance plan.now) }
     {
-        let parts = InstanceParts::new(alloc, plan, function, args, trail)?;
+        let parts = InstanceParts::new(alloc, plan, function, args, trail, pool)?;
         Ok(Instance { parts })
     }
 
@@ -71,17 +72,19 @@ impl Instance {
     }
 
     /// Makes moves in a row that show nothing or an event, which the sink takes. Returns the statement whose move is next, if one is left, for
-    /// `spawn`, `wait` or `make`. After `Memory` the instance must not be used any more.
+    /// `spawn`, `wait` or `make`, and else for `wait_end` or `make`. After `Memory` the instance must not be used any more.
     pub fn straight_run<'a, S: EventSink>(
         &mut self,
         alloc: Global,
         plan: &'a Plan,
         sink: &mut S,
+        pool: &mut InstancePool,
     ) -> Result<Option<&'a Stmt>, Memory>
         requires { IsInstance plan.now self.old }
         ensures { IfOk result (λ next. ComesToStatement S.after plan.now self.old sink.old self.new sink.new (option_copied next)) }
     {
-        self.parts.straight_run(alloc, plan, sink)
+        self.parts
+            .straight_run(alloc, plan, sink, &mut pool.environments)
     }
 
     /// The next move, where it is the spawn of a child. Its event goes to the sink. Otherwise, or where it meets a
@@ -92,6 +95,7 @@ impl Instance {
         plan: &Plan,
         statement: &Stmt,
         sink: &mut S,
+        pool: &mut InstancePool,
     ) -> Result<Option<SpawnedChild>, Memory>
         requires sound { IsInstance plan.now self.old }
         requires passed { HasPassedStatement plan.now self.old (Some statement.now) }
@@ -100,7 +104,8 @@ impl Instance {
         ensures path { IfOk result (λ _. path_of self.new ≡ path_of self.old) }
         ensures sound { IfOk result (λ _. IsInstance plan.now self.new) }
     {
-        self.parts.spawn_statement(alloc, plan, statement, sink)
+        self.parts
+            .spawn_statement(alloc, plan, statement, sink, pool)
     }
 
     /// The next move, where it is a written sync or a parallel loop. Its event goes to the sink. Otherwise, or where it
@@ -122,6 +127,25 @@ impl Instance {
         self.parts.wait_statement(alloc, plan, statement, sink)
     }
 
+    /// The next move where no statement is left, if it is the sync that a return implies or that at the end of a scope.
+    /// Its event goes to the sink. Otherwise, or where it meets a fault, nothing changes.
+    #[inline(always)]
+    pub fn wait_end<S: EventSink>(
+        &mut self,
+        alloc: Global,
+        plan: &Plan,
+        sink: &mut S,
+    ) -> Result<Option<Waits>, Memory>
+        requires sound { IsInstance plan.now self.old }
+        requires passed { HasPassedStatement plan.now self.old None }
+        ensures did { IfOk result (HasWaited S.after plan.now self.old sink.old None self.new sink.new) }
+        ensures child { IfOk result (WaitsTrail plan.now) }
+        ensures path { IfOk result (λ _. path_of self.new ≡ path_of self.old) }
+        ensures sound { IfOk result (λ _. IsInstance plan.now self.new) }
+    {
+        self.parts.wait_end(alloc, plan, sink)
+    }
+
     /// The next move. After `Memory` the instance must not be used any more.
     pub fn make(
         &mut self,
@@ -139,25 +163,12 @@ impl Instance {
         self.parts.make(alloc, plan, next)
     }
 
-    /// Drops an instance that has ended. It is taken apart, since dropping its box would copy its frame twice.
+    /// Drops an instance that has ended. Its memory goes to the pool.
     #[inline(always)]
-    pub fn discard(self) {
-        let InstanceParts {
-            trail,
-            top,
-            below,
-            ..
-        } = Box::into_inner(self.parts);
-        let Frame {
-            levels,
-            cursor,
-            env,
-            faulted,
-            ..
-        } = top;
-        drop((trail, below));
-        drop((levels, cursor));
-        drop((env, faulted));
+    pub fn discard(self, pool: &mut InstancePool)
+        ensures { pool.new ≡ pool.old }
+    {
+        pool.keep(self.parts);
     }
 
     /// Takes the fault of a child of the frame with `height` others below it.

@@ -8,11 +8,13 @@ ghost use Rattle.strand_meaning.specs.Machine.{Stands, function_begun, move};
 
 use crate::effects::MoveResult;
 use crate::frame::Frame;
+use crate::instance_pool::InstancePool;
 use crate::memory::Memory;
 use dotmix::Trail;
 use ped_path::Pedigree;
 use script_grammar::Stmt;
 use serial_meaning::{Fault, FaultKind, Plan, Value};
+use spare_memory::boxed;
 use std::alloc::Global;
 use strand_values::{Environment, EvaluationError};
 
@@ -45,6 +47,7 @@ impl InstanceParts {
         function: u32,
         args: &[Value],
         trail: Trail,
+        pool: &mut InstancePool,
     ) -> Result<Box<InstanceParts>, Memory>
         requires there { function < length (functions_of plan.now) }
         requires fits { FitsGamma plan.now.gamma trail }
@@ -59,22 +62,22 @@ impl InstanceParts {
         };
         // Read for the proof: no two parameters have the same name.
         plan.slots();
-        let env = Environment::bound(alloc, names, f.params.as_slice(), args)?;
+        let env = Environment::bound(
+            alloc,
+            names,
+            f.params.as_slice(),
+            args,
+            &mut pool.environments,
+        )?;
         let parts = InstanceParts {
             trail,
             rank: 0,
             steps: plan.limits.budget as u64,
             leaving: false,
             top: Frame::new(alloc, function, env, None),
-            below: Vec::new(alloc),
+            below: pool.frames(alloc),
         };
-        match Box::new(alloc, parts) {
-            Ok(parts) => Ok(parts),
-            Err(failed) => {
-                drop(failed);
-                Err(Memory)
-            }
-        }
+        Ok(boxed(pool.boxes.take(), alloc, parts)?)
     }
 
     // One move. After `Memory` the instance must not be used any more.
@@ -134,7 +137,7 @@ impl InstanceParts {
     {
         match next {
             Some(statement) => self.statement(alloc, plan, plan.slots(), statement),
-            None => self.end_block(plan),
+            None => self.end_block(alloc, plan),
         }
     }
 

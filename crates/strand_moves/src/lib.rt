@@ -14,6 +14,7 @@ mod fast_path;
 mod frame;
 mod instance;
 mod instance_parts;
+mod instance_pool;
 mod memory;
 mod narrow;
 mod place;
@@ -25,6 +26,7 @@ mod statement;
 pub use effects::{Child, Effects, LoopedChild, MoveResult, SpawnedChild, Waits};
 pub use event_sink::EventSink;
 pub use instance::Instance;
+pub use instance_pool::InstancePool;
 pub use memory::Memory;
 pub use place::Place;
 

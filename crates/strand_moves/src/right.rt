@@ -22,7 +22,7 @@ use crate::memory::Memory;
 use script_grammar::{Expr, Name, Right};
 use serial_meaning::{Event, Plan, Value};
 use std::alloc::Global;
-use strand_values::EvaluationError;
+use strand_values::{EnvironmentPool, EvaluationError};
 
 impl InstanceParts {
     // `let x = R` or `x = R`.
@@ -57,7 +57,14 @@ impl InstanceParts {
                 self.make_object(slots, x)?;
                 Ok(MoveResult::Went(Effects::Emitted(Event::New(at))))
             }
-            Right::Call(_, c) => silent(self.call(alloc, plan, slots, Some(x), c)),
+            Right::Call(_, c) => silent(self.call(
+                alloc,
+                plan,
+                slots,
+                Some(x),
+                c,
+                &mut EnvironmentPool::new(alloc),
+            )),
             Right::Spawn(_, c) => self.spawn_move(alloc, plan, slots, Some(x), c),
         }
     }

@@ -67,7 +67,11 @@ impl InstanceParts {
     }
 
     // Where no statement is left in the innermost block: the end of a scope, or of the frame.
-    pub(crate) fn end_block(&mut self, plan: &Plan) -> Result<MoveResult, EvaluationError>
+    pub(crate) fn end_block(
+        &mut self,
+        alloc: Global,
+        plan: &Plan,
+    ) -> Result<MoveResult, EvaluationError>
         requires instance { IsInstance plan.now self.old }
         requires none { statements_left (statements_of plan.now self.old.top) self.old.top.cursor ≡ [] }
         ensures shows { let m = machine_of plan.now self.old in
@@ -85,7 +89,7 @@ impl InstanceParts {
             return self.join_scope();
         }
         if self.top.returning {
-            return self.end(plan);
+            return self.end(alloc, plan);
         }
         self.return_step(plan)
     }

@@ -24,7 +24,7 @@ use crate::instance_parts::InstanceParts;
 use script_grammar::{Act, Expr, Name, Number, Stmt};
 use serial_meaning::{Event, FaultKind, Plan};
 use std::alloc::Global;
-use strand_values::{EvaluationError, count_of};
+use strand_values::{EnvironmentPool, EvaluationError, count_of};
 
 impl InstanceParts {
     // A statement that the cursor has just passed: its step, and then what it does.
@@ -52,7 +52,14 @@ impl InstanceParts {
             Act::Set(x, r) => self.assign(alloc, plan, slots, x, r),
             Act::Store(x, i, e) => silent(self.store(slots, x, i, e)),
             Act::Spawn(c) => self.spawn_move(alloc, plan, slots, None, c),
-            Act::Call(c) => silent(self.call(alloc, plan, slots, None, c)),
+            Act::Call(c) => silent(self.call(
+                alloc,
+                plan,
+                slots,
+                None,
+                c,
+                &mut EnvironmentPool::new(alloc),
+            )),
             Act::Sync => self.sync_statement(),
             Act::Print(e) => emitted(self.print(slots, e)),
             Act::If(e, _, _) => silent(self.branch(slots, e)),

@@ -31,7 +31,11 @@ use Rattle.strand_machine.specs.contracts.trace.Trace as trace
 use Rattle.strand_machine.specs.contracts.trace.Trace.TheInside as trace_inside
 use Rattle.strand_machine.specs.contracts.remaining.Stage as stage
 use Rattle.strand_machine.specs.contracts.remaining.Remaining as remaining
-use Rattle.strand_moves.proofs.Shares.{instance_sends, maybe_target_sends}
+use Rattle.spare_memory.proofs.Shares.{empty_box_sends}
+use Rattle.spare_memory.proofs.empty_list.EmptyList.TheSendSync as empty_list_shared
+use Rattle.spare_memory.proofs.pool.Pool.TheSendSync as pool_shared
+use Rattle.strand_machine.specs.contracts.task_pool.TaskPool as task_pool
+use Rattle.strand_moves.proofs.Shares.{instance_pool_sends, instance_sends, maybe_target_sends}
 
 place_sends : IsSend destination.the_row
 place_sends = variants_send destination.enum ((search sendable, (maybe_target_sends, tt)), ((maybe_target_sends, tt), (tt, tt)))
@@ -68,6 +72,10 @@ module _ (K : RattleType) (keeps : Ghosts K.Denot) (dict : Dict) where
 
   pub task_sends : IsSend (task.the_row K keeps)
   task_sends = view_send (task_inside.the_row K keeps) _ _ _ _ task_inside_sends
+
+  pub task_pool_sends : IsSend (task_pool.the_row K keeps)
+  task_pool_sends = declared_send (task_pool.the_type K keeps)
+      (instance_pool_sends, (pool_shared.the_send _ (empty_box_sends (parts.the_row K keeps)), (pool_shared.the_send _ (empty_list_shared.the_send (after.the_row K keeps) after_sends), tt)))
 
   pub stop_sends : IsSend (stop.the_row K keeps)
   stop_sends = variants_send (stop.enum K keeps) ((task_sends, (task_sends, tt)), ((task_sends, tt), ((answer_sends K keeps, (give_sends K keeps dict, tt)), tt)))

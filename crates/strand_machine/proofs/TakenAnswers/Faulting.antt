@@ -23,7 +23,7 @@ use Rattle.strand_meaning.specs.Task.{Task}
 use Rattle.strand_machine.specs.Links.{GiveView, task_give, tag, tags}
 use Rattle.strand_machine.specs.Faults.{is_fault, EndsByFault}
 use Rattle.strand_machine.specs.AwaitedChildren.{awaited}
-use Rattle.strand_machine.specs.Stops.{WentOn, answer_tags, any_cut, is_cut, view_on}
+use Rattle.strand_machine.specs.Stops.{IsResumedWith, answer_tags, any_cut, is_cut, resumed_view}
 use Rattle.strand_machine.specs.Tasks.{TaskView, task_of, view_of, IsSound}
 use Rattle.strand_machine.specs.declared.task_state.TaskState.{TaskState}
 use Rattle.strand_machine.specs.declared.remaining.Remaining.{Remaining}
@@ -112,23 +112,23 @@ whole-more : (xs : List AnswerView) (a : AnswerView) → is_fault a.outcome ≡ 
 whole-more [] a f h = fault-whole a.outcome f
 whole-more (x ∷ xs) a f h = or-both (is_cut x.outcome) (any_cut xs) (any_cut (xs ++ a ∷ [])) (whole-more xs a f) h
 
-pub goes-whole : (xs ys given : List AnswerView) (a : AnswerView) (t next : TaskView) → ys ≡ xs ++ a ∷ [] → xs ≡ given → any_cut given ≡ false → is_fault a.outcome ≡ true → WentOn ys t next → next ≡ view_on t
+pub goes-whole : (xs ys given : List AnswerView) (a : AnswerView) (t next : TaskView) → ys ≡ xs ++ a ∷ [] → xs ≡ given → any_cut given ≡ false → is_fault a.outcome ≡ true → IsResumedWith ys t next → next ≡ resumed_view t
 goes-whole xs ys given a t next e same whole f on =
     let none : any_cut ys ≡ false = ap any_cut e ∙ whole-more xs a f (ap any_cut same ∙ whole) in on.whole none
 
 -- once its children's answers are taken, of which the last is a fault, there is one in a task's trace
-pub not-none : (v begun after : TaskView) (ts : List AnswerTag) (t : AnswerTag) → begun ≡ v → after ≡ view_on begun → ts ++ t ∷ [] ≡ tags v.task.plan (awaited v.task.trace.unmerged) →
+pub not-none : (v begun after : TaskView) (ts : List AnswerTag) (t : AnswerTag) → begun ≡ v → after ≡ resumed_view begun → ts ++ t ∷ [] ≡ tags v.task.plan (awaited v.task.trace.unmerged) →
     IsErr (eval t.plan t.origin).ending → after.task.trace.fault ≡ None → ⊥
 not-none v begun after ts t same on tagged err none =
-    let is : after ≡ view_on v = on ∙ ap view_on same in
+    let is : after ≡ resumed_view v = on ∙ ap resumed_view same in
     last-err v.task.plan v.task.trace.unmerged ts t tagged err (record v.task.trace { unmerged = [] }) (ap (λ (w : TaskView). w.task.trace.fault) (sym is) ∙ none)
 
 -- the answer of the task after them is the task's own
-pub ends-by : {K : Type 0} (b : TaskState K) (w : Remaining) (v begun after : TaskView) → begun ≡ v → after ≡ view_on begun → view_of b w ≡ after → IsSound b w → (f : Fault) → b.trace.fault ≡ Some f →
+pub ends-by : {K : Type 0} (b : TaskState K) (w : Remaining) (v begun after : TaskView) → begun ≡ v → after ≡ resumed_view begun → view_of b w ≡ after → IsSound b w → (f : Fault) → b.trace.fault ≡ Some f →
     (out : List Event) (answer : AnswerView) (by : GiveView AnswerTag) → answer ≡ record { plan = b.links.plan; origin = b.links.origin; out = out; outcome = outcome.Fault f } → by ≡ task_give b.links.plan b.links.origin b.links.joins →
     EndsByFault v answer by
 ends-by b w v begun after same on view sound f h out answer by e g =
-    let is : view_of b w ≡ view_on v = view ∙ on ∙ ap view_on same in
+    let is : view_of b w ≡ resumed_view v = view ∙ on ∙ ap resumed_view same in
     let plan : b.links.plan ≡ v.task.plan = ap (λ (x : TaskView). x.task.plan) is in
     let origin : b.links.origin ≡ v.task.origin = ap (λ (x : TaskView). x.task.origin) is in
     record {

@@ -24,7 +24,7 @@ use Rattle.strand_machine.specs.Links.{LinksView, HasPassed, HasStopped, tags, o
 use Rattle.strand_machine.specs.Merge.{BecomesStage, BecomesRemaining, Merge, IsStageOfPlan, IsMergeOf, HasTakenAnswers, IsRemainingOfPlan, with_stage, trace_of, meanings}
 use Rattle.strand_machine.specs.AwaitedChildren.{awaited, awaited_children, destination_of}
 use Rattle.strand_meaning.specs.Cuts.{AreAnswersOf}
-use Rattle.strand_machine.specs.Stops.{WentOn, any_cut, looked, view_on}
+use Rattle.strand_machine.specs.Stops.{IsResumedWith, any_cut, looked, resumed_view}
 use Rattle.strand_moves.specs.Machines.{IsInstance, machine_of, path_of}
 use Rattle.strand_moves.specs.declared.instance.Instance.{Instance}
 use Rattle.strand_machine.specs.Tasks.{TaskView, cut_of, remaining_of, task_of, view_of, AwaitsLast, IsSound, RunsAt, StandsAt, RemainsAt}
@@ -247,11 +247,11 @@ module _ {K : Type 0} (b : TaskState K) (w : Remaining) (os : List Origin) (bs :
       goes-on (task_of b w) (begins b w) after rest refl refl refl taken over
 
   pub goes-on-view : awaited_children os bs ≡ b.trace.unmerged → length os ≡ length bs → ts ≡ tags b.links.plan (awaited b.trace.unmerged) → IsMergeOf (awaited_children (origins ts) bs) (meanings ts) (begins b w) after →
-      BecomesRemaining (resumed_remaining [] []) after.remaining rest → HasTakenAnswers b w → view_of next-state rest ≡ view_on (view_of b w)
+      BecomesRemaining (resumed_remaining [] []) after.remaining rest → HasTakenAnswers b w → view_of next-state rest ≡ resumed_view (view_of b w)
   goes-on-view parts same are h over sound =
       let plan = b.links.plan in
       let uncut : cut_of rest ≡ cut_of w = of_plan-on plan b.links.origin rest (over.of_plan plan _ (h.remaining.of_plan plan _ sound.of_plan)) ∙ sym (of_plan-on plan b.links.origin w sound.of_plan) in
-      ap (λ (t : Task). record (view_of b w) { task = t; cut = cut_of rest }) (task-on parts same are h over) ∙ ap (λ (o : Option Outcome). record (view_on (view_of b w)) { cut = o }) uncut
+      ap (λ (t : Task). record (view_of b w) { task = t; cut = cut_of rest }) (task-on parts same are h over) ∙ ap (λ (o : Option Outcome). record (resumed_view (view_of b w)) { cut = o }) uncut
 
   pub goes-on-sound : awaited_children os bs ≡ b.trace.unmerged → length os ≡ length bs → ts ≡ tags b.links.plan (awaited b.trace.unmerged) → IsMergeOf (awaited_children (origins ts) bs) (meanings ts) (begins b w) after →
       BecomesRemaining (resumed_remaining [] []) after.remaining rest → AnswersKeepTasks → HasTakenAnswers b w → IsSound next-state rest
@@ -308,8 +308,8 @@ taken-view b w g k ready loads e d t view =
     ∙ ap (λ (v : TaskView). record v { loads = g.loads }) view
 
 pub resumed-on : {K : Type 0} (b : TaskState K) (w : Remaining) (g k : LinksView) (ready : Bool) (loads : List ℕ) → g ≡ record b.links { ready = ready; loads = loads } → k ≡ record g { taken = k.taken } →
-    (t next : TaskView) → view_of b w ≡ t → t.cut ≡ None → (answers : List AnswerView) → AreAnswersOf k.plan b.trace.unmerged answers → WentOn answers (view_of (record b { links = k }) w) next → HasPassed b.links.loads g.loads →
-    (xs : List AnswerView) × AreAnswersOf t.task.plan t.task.trace.unmerged xs × WentOn xs (looked next.loads t) next × HasPassed t.loads next.loads
+    (t next : TaskView) → view_of b w ≡ t → t.cut ≡ None → (answers : List AnswerView) → AreAnswersOf k.plan b.trace.unmerged answers → IsResumedWith answers (view_of (record b { links = k }) w) next → HasPassed b.links.loads g.loads →
+    (xs : List AnswerView) × AreAnswersOf t.task.plan t.task.trace.unmerged xs × IsResumedWith xs (looked next.loads t) next × HasPassed t.loads next.loads
 resumed-on b w g k ready loads e d t next view goes answers are went-on passed = (answers, frame_with_answer, looks, read)
   where
     plan : k.plan ≡ t.task.plan
@@ -318,8 +318,8 @@ resumed-on b w g k ready loads e d t next view goes answers are went-on passed =
     frame_with_answer : AreAnswersOf t.task.plan t.task.trace.unmerged answers
     frame_with_answer = subst (λ (v : TaskView). AreAnswersOf t.task.plan v.task.trace.unmerged answers) view (subst (λ (p : PlanView). AreAnswersOf p b.trace.unmerged answers) plan are)
 
-    there : WentOn answers (record t { loads = g.loads }) next
-    there = subst (λ (v : TaskView). WentOn answers v next) (taken-view b w g k ready loads e d t view) went-on
+    there : IsResumedWith answers (record t { loads = g.loads }) next
+    there = subst (λ (v : TaskView). IsResumedWith answers v next) (taken-view b w g k ready loads e d t view) went-on
 
     by_cut : (cut : Bool) → any_cut answers ≡ cut → next.loads ≡ g.loads
     by_cut false none = ap (λ (v : TaskView). v.loads) (there.whole none)
@@ -328,8 +328,8 @@ resumed-on b w g k ready loads e d t next view goes answers are went-on passed =
     same : next.loads ≡ g.loads
     same = by_cut (any_cut answers) refl
 
-    looks : WentOn answers (looked next.loads t) next
-    looks = subst (λ (v : TaskView). WentOn answers v next) (ap (λ (l : List ℕ). record t { loads = l }) (sym same) ∙ ap (λ (o : Option Outcome). record t { loads = next.loads; cut = o }) goes) there
+    looks : IsResumedWith answers (looked next.loads t) next
+    looks = subst (λ (v : TaskView). IsResumedWith answers v next) (ap (λ (l : List ℕ). record t { loads = l }) (sym same) ∙ ap (λ (o : Option Outcome). record t { loads = next.loads; cut = o }) goes) there
 
     read : HasPassed t.loads next.loads
     read = subst (λ (l : List ℕ). HasPassed t.loads l) (sym same) (subst (λ (l : List ℕ). HasPassed l g.loads) (ap (λ (v : TaskView). v.loads) view) passed)

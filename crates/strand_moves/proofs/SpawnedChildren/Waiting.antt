@@ -1,5 +1,5 @@
 -- Syncs and parallel loops, as moves of an instance.
-use Rattle.std.proofs.Common.{◌≡◌, ℕ, ◌+◌, Bool, false, List, [], ◌∷◌, Some, Result, Ok, Err, sym, ap, subst, ◌∙◌, refl}
+use Rattle.std.proofs.Common.{◌≡◌, ℕ, ◌+◌, Bool, true, false, List, ◌∷◌, Some, Result, Ok, Err, sym, ap, subst, ◌∙◌, refl}
 use Rattle.std.specs.Result.{IsErrAnd}
 use Rattle.script_grammar.specs.declared.tree.Stmt.{Stmt, out-Stmt}
 use Rattle.script_grammar.specs.declared.tree.Act.{Act, out-Act}
@@ -22,7 +22,7 @@ use Rattle.strand_moves.specs.Acts.{Acts}
 use Rattle.strand_moves.specs.Moves.{Makes, acted, run_of, present_pedigree}
 use Rattle.strand_moves.specs.StraightRuns.{unpassed}
 use Rattle.strand_moves.specs.InstanceParts.{IsInstance, machine_of, path_of, present_of}
-use Rattle.strand_moves.specs.Waits.{wait_as_move, waits_after}
+use Rattle.strand_moves.specs.Waits.{sync_waits, wait_as_move, waits_after}
 use Rattle.strand_moves.proofs.Cursors.Passing.{next-moves}
 use Rattle.strand_moves.proofs.OpenScopes.Exits.{shows-exit, shows-fault}
 use Rattle.strand_moves.proofs.OpenScopes.Keeping.{here-is}
@@ -41,13 +41,17 @@ module _ (run : Run Effect Fault Reached) (strand : List ℕ) (m : Machine) (sho
   wait-fault (Ok w) kind e f = absurd e
   wait-fault (Err y) kind e f = shows-fault run strand m (Err y) kind e f
 
--- a sync, by whether it waits
-pub sync-shows : (plan : PlanView) (st : Stmt) (old new : InstanceParts) (waits : Bool) → old.top.spawned ≡ waits → new ≡ record old { rank = old.rank + 1; top = record old.top { spawned = false } } →
-    acted plan (present_of old) (machine_of plan old) st act.Sync ≡ went (Emitted (event.Sync (strand_at old)) ∷ sync_effects waits) (machine_of plan new)
-sync-shows plan st old new waits spawned passed =
+-- a sync that showed its event, as a run
+pub sync-went : (j : List ℕ) (spawned : Bool) (w : Waits) (m : Machine) → w ≡ sync_waits spawned → went (Emitted (event.Sync j) ∷ sync_effects spawned) m ≡ run_of (move_result.Went (waits_after (event.Sync j) w)) m
+sync-went j true w m e = ap (λ (x : Waits). run_of (move_result.Went (waits_after (event.Sync j) x)) m) (sym e)
+sync-went j false w m e = ap (λ (x : Waits). run_of (move_result.Went (waits_after (event.Sync j) x)) m) (sym e)
+
+pub sync-shows : (plan : PlanView) (st : Stmt) (old new : InstanceParts) (w : Waits) → w ≡ sync_waits old.top.spawned → new ≡ record old { rank = old.rank + 1; top = record old.top { spawned = false } } →
+    acted plan (present_of old) (machine_of plan old) st act.Sync ≡ run_of (move_result.Went (waits_after (event.Sync (strand_at old)) w)) (machine_of plan new)
+sync-shows plan st old new w waits passed =
     sync plan (present_of old) (machine_of plan old) st
     ∙ ap (λ (x : InstanceParts). went (Emitted (event.Sync (strand_at old)) ∷ sync_effects old.top.spawned) (machine_of plan x)) (sym passed)
-    ∙ ap (λ (b : Bool). went (Emitted (event.Sync (strand_at old)) ∷ sync_effects b) (machine_of plan new)) spawned
+    ∙ sync-went (strand_at old) old.top.spawned w (machine_of plan new) waits
 
 -- a sync or a loop after the step of its statement
 module _ (i : InstanceParts) (n : ℕ) (less : n + 1 ≡ i.steps) (plan : PlanView) (sound : IsInstance plan i) (st : Stmt) (new : InstanceParts) where

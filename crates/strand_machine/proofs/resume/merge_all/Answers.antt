@@ -1,6 +1,5 @@
 use Rattle.std.proofs.Common.{◌≡◌, ◌++◌, ◌∷◌, [], List, length, reverse, refl, sym, ap, ◌∙◌, subst, arith, length-append}
 use Rattle.std.proofs.lemmas.List.{reverse-append, reverse-reverse, length-reverse, nil_from_length}
-use Rattle.std.specs.Vec.Iter.{into_iter_items}
 use Rattle.serial_meaning.specs.Answer.{AnswerView}
 use Rattle.strand_machine.specs.Links.{origins}
 use Rattle.strand_machine.specs.Merge.{TakesAnswers, RemainingFindsAll, merge_of}
@@ -13,15 +12,13 @@ use Rattle.strand_machine.proofs.resume.merge_all.Goals as goal
 
 pub loop-part-init : goal.loop-part-init
 loop-part-init g c =
-    let gives = c.into_iter-part-iterator.ensures.into_iter_gives in
-    let parts : into_iter_items c.into_iter-part-iterator.result ≡ c.args.after.items = gives.0 in
-    let back : reverse c.reverse.new.self.items ≡ c.args.answers = ap reverse c.reverse.ensures.items ∙ reverse-reverse _ ∙ c.answers.view_is in
+    let parts : reverse c.reverse.new.self.items ≡ c.args.children.items = ap reverse c.reverse.ensures.items ∙ reverse-reverse _ in
+    let back : reverse c.reverse-2.new.self.items ≡ c.args.answers = ap reverse c.reverse-2.ensures.items ∙ reverse-reverse _ ∙ c.answers.view_is in
     let before = merge_of c.args.parts.now c.args.merging.now in
     record {
-      parts = gives.1 ∙ c.args.after.ok.0 ∙ ap length (sym parts);
-      same = sym (length-reverse c.reverse.new.self.items) ∙ ap length back ∙ c.requires.many ∙ ap length (sym parts);
-      takes = λ after h. subst (λ (xs : List AnswerView). TakesAnswers (awaited_children (origins (answer_tags xs)) c.args.after.items) xs before after) back
-          (subst (λ (bs : List (AfterChild _)). TakesAnswers (awaited_children (origins (answer_tags (reverse c.reverse.new.self.items))) bs) (reverse c.reverse.new.self.items) before after) parts h);
+      same = sym (length-reverse c.reverse-2.new.self.items) ∙ ap length back ∙ c.requires.many ∙ sym (ap length parts) ∙ length-reverse c.reverse.new.self.items;
+      takes = λ after h. subst (λ (xs : List AnswerView). TakesAnswers (awaited_children (origins (answer_tags xs)) c.args.children.items) xs before after) back
+          (subst (λ (bs : List (AfterChild _)). TakesAnswers (awaited_children (origins (answer_tags (reverse c.reverse-2.new.self.items))) bs) (reverse c.reverse-2.new.self.items) before after) parts h);
       rest = record { state = refl; unmerged = c.requires.unmerged };
       of_plan = c.requires.of_plan;
       found =
@@ -36,28 +33,29 @@ merge_answer-requires-clause-of_plan g c = c.loop-part.invariant.of_plan
 
 pub merge_answer-requires-clause-found : goal.merge_answer-requires-clause-found
 merge_answer-requires-clause-found g c =
-    let all = subst (λ (bs : List (AfterChild _)). RemainingFindsAll c.loop-part.parts.state.links.plan bs (remaining_of c.loop-part.parts.state.links.plan c.loop-part.parts.remaining)) c.in-Some.ensures.steps.0 c.loop-part.invariant.found in
+    let front : reverse c.loop-part.after.items ≡ c.in-Some.part ∷ reverse c.pop.new.self.items = ap reverse c.in-Some.ensures.items ∙ reverse-append c.pop.new.self.items (c.in-Some.part ∷ []) in
+    let all = subst (λ (bs : List (AfterChild _)). RemainingFindsAll c.loop-part.parts.state.links.plan bs (remaining_of c.loop-part.parts.state.links.plan c.loop-part.parts.remaining)) front c.loop-part.invariant.found in
     all.0
 
 pub unreachable-requires : goal.unreachable-requires
 unreachable-requires g c =
-    let longer = ap length c.in-Some.ensures.steps.0 in
+    let longer = ap length c.in-Some.ensures.items ∙ length-append c.pop.new.self.items (c.in-Some.part ∷ []) in
     let same = c.loop-part.invariant.same in
-    let none = c.in_default.ensures.cases in
+    let none = c.in_default-pop.ensures.cases in
     omega (arith, none.0, c.loop-part.left.ok.0, longer, same)
 
 pub loop-part-preserved : goal.loop-part-preserved
 loop-part-preserved g c =
     let was = c.loop-part.invariant in
-    let parts = c.in-Some.ensures.steps in
-    let shorter = ap length parts.0 in
-    let popped : c.loop-part.left.items ≡ c.pop.new.self.items ++ c.in-Some-pop.answer ∷ [] = c.in-Some-pop.ensures.items in
-    let all = subst (λ (bs : List (AfterChild _)). RemainingFindsAll c.loop-part.parts.state.links.plan bs (remaining_of c.loop-part.parts.state.links.plan c.loop-part.parts.remaining)) parts.0 was.found in
-    let front : reverse c.loop-part.left.items ≡ c.in-Some-pop.answer ∷ reverse c.pop.new.self.items = ap reverse popped ∙ reverse-append c.pop.new.self.items (c.in-Some-pop.answer ∷ []) in
+    let taken : c.loop-part.after.items ≡ c.pop.new.self.items ++ c.in-Some.part ∷ [] = c.in-Some.ensures.items in
+    let popped : c.loop-part.left.items ≡ c.pop-in-Some.new.self.items ++ c.in-Some-pop.answer ∷ [] = c.in-Some-pop.ensures.items in
+    let part : reverse c.loop-part.after.items ≡ c.in-Some.part ∷ reverse c.pop.new.self.items = ap reverse taken ∙ reverse-append c.pop.new.self.items (c.in-Some.part ∷ []) in
+    let front : reverse c.loop-part.left.items ≡ c.in-Some-pop.answer ∷ reverse c.pop-in-Some.new.self.items = ap reverse popped ∙ reverse-append c.pop-in-Some.new.self.items (c.in-Some-pop.answer ∷ []) in
+    let all = subst (λ (bs : List (AfterChild _)). RemainingFindsAll c.loop-part.parts.state.links.plan bs (remaining_of c.loop-part.parts.state.links.plan c.loop-part.parts.remaining)) part was.found in
     record {
-      parts = omega (arith, was.parts, parts.1, shorter);
-      same = omega (arith, was.same, ap length popped, length-append c.pop.new.self.items (c.in-Some-pop.answer ∷ []), shorter);
-      takes = λ after h. was.takes after (answers-next _ _ _ _ c.in-Some-pop.answer c.in-Some.part (merge_of c.loop-part.parts c.loop-part.merging) (merge_of c.merge_answer.new.parts c.merge_answer.new.merging) after front parts.0 c.in_ok-merge_answer.ensures.takes h);
+      same =
+          omega (arith, was.same, ap length popped, length-append c.pop-in-Some.new.self.items (c.in-Some-pop.answer ∷ []), ap length taken, length-append c.pop.new.self.items (c.in-Some.part ∷ []));
+      takes = λ after h. was.takes after (answers-next _ _ _ _ c.in-Some-pop.answer c.in-Some.part (merge_of c.loop-part.parts c.loop-part.merging) (merge_of c.merge_answer.new.parts c.merge_answer.new.merging) after front part c.in_ok-merge_answer.ensures.takes h);
       rest = keeps-then _ _ _ was.rest c.in_ok-merge_answer.ensures.rest;
       of_plan = of_plan-then c.loop-part.parts c.merge_answer.new.parts c.loop-part.merging c.merge_answer.new.merging _ _ c.in_ok-merge_answer.ensures.rest c.in_ok-merge_answer.ensures.takes was.of_plan;
       found =
@@ -68,14 +66,11 @@ loop-part-preserved g c =
 pub returns-clause-takes : goal.returns-clause-takes
 returns-clause-takes g c =
     let was = c.loop-part.invariant in
-    let none = c.in-None.ensures.steps in
-    let left : length (into_iter_items c.loop-part.part-iterator) ≡ 0 = sym was.parts ∙ none.0 in
-    let now = merge_of c.loop-part.parts c.loop-part.merging in
-    was.takes now (answers-no-more _ _ now (length-reverse c.loop-part.left.items ∙ was.same ∙ left) left)
+    let parts : length c.loop-part.after.items ≡ 0 = omega (arith, c.in_default.ensures.cases.0, c.loop-part.after.ok.0) in
+    was.takes (merge_of c.loop-part.parts c.loop-part.merging)
+    (answers-no-more _ _ _ (length-reverse c.loop-part.left.items ∙ was.same ∙ parts) (length-reverse c.loop-part.after.items ∙ parts))
 
 pub returns-clause-none : goal.returns-clause-none
 returns-clause-none g c =
-    let was = c.loop-part.invariant in
-    let none = c.in-None.ensures.steps in
-    let left : length (into_iter_items c.loop-part.part-iterator) ≡ 0 = sym was.parts ∙ none.0 in
-    nil_from_length c.loop-part.left.items (was.same ∙ left)
+    let parts : length c.loop-part.after.items ≡ 0 = omega (arith, c.in_default.ensures.cases.0, c.loop-part.after.ok.0) in
+    nil_from_length c.loop-part.left.items (c.loop-part.invariant.same ∙ parts)

@@ -4,7 +4,7 @@ use Rattle.strand_machine.specs.declared.parts.Parts.{Parts}
 use Rattle.strand_machine.proofs.parts.Parts.boxed.Goals as goal
 
 pub invariant_of-result : goal.invariant_of-result
-invariant_of-result g c = subst (λ (q : Parts _). HoldsOfTask q.state q.remaining) (sym c.in-Ok.ensures.ok) c.requires
+invariant_of-result g c = subst (λ (q : Parts _). HoldsOfTask q.state q.remaining) (sym c.in_ok-parts.ensures.boxed) c.requires
 
-pub returns-in-Ok : goal.returns-in-Ok
-returns-in-Ok g c = ap (λ (q : Parts _). view_of q.state q.remaining) c.in-Ok.ensures.ok
+pub returns : goal.returns
+returns g c = ap (λ (q : Parts _). view_of q.state q.remaining) c.in_ok-parts.ensures.boxed

@@ -2,7 +2,7 @@ use Rattle.std.proofs.Common.{◌≡◌, sym, ap, ◌∙◌, subst}
 use Rattle.strand_machine.specs.Links.{tags}
 use Rattle.strand_machine.specs.Merge.{HasTakenAnswers}
 use Rattle.strand_machine.specs.AwaitedChildren.{awaited}
-use Rattle.strand_machine.specs.Stops.{WentOn, answer_tags}
+use Rattle.strand_machine.specs.Stops.{IsResumedWith, answer_tags}
 use Rattle.strand_machine.specs.Tasks.{TaskView, view_of}
 use Rattle.strand_machine.specs.declared.parts.Parts.{Parts}
 use Rattle.strand_machine.proofs.NextStops.Advancing.{waits-sound}
@@ -24,4 +24,4 @@ pub returns-clause-went : goal.returns-clause-went
 returns-clause-went g c =
     let same = ap (λ (q : Parts _). view_of q.state q.remaining) c.deref_mut.ensures.value ∙ c.self.view_is in
     let after = c.resume_parts.new.parts in
-    subst (λ (t : TaskView). WentOn c.args.answers t (view_of after.state after.remaining)) same c.in_ok-left.ensures.went
+    subst (λ (t : TaskView). IsResumedWith c.args.answers t (view_of after.state after.remaining)) same c.in_ok-left.ensures.went

@@ -15,8 +15,8 @@ use Rattle.strand_moves.proofs.SpawnedChildren.Spawning.{boxed-exit}
 use Rattle.strand_moves.proofs.Statements.Naming.{top-named, variables-are}
 use Rattle.strand_moves.proofs.instance_parts.InstanceParts.spawn.Goals as goal
 
-pub values-requires : goal.values-requires
-values-requires c = rw c.as_slice.ensures c.requires.finds.args
+pub values_in-requires-clause-args : goal.values_in-requires-clause-args
+values_in-requires-clause-args c = rw c.as_slice.ensures c.requires.finds.args
 
 pub receive_placeholder-requires : goal.receive_placeholder-requires
 receive_placeholder-requires c = c.requires.finds.target
