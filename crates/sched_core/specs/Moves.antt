@@ -5,7 +5,7 @@ use Rattle.serial_meaning.specs.declared.keep.All.{All}
 use Rattle.strand_machine.specs.Tasks.{TaskView}
 use Rattle.strand_machine.specs.Links.{tags}
 use Rattle.strand_machine.specs.AwaitedChildren.{awaited}
-use Rattle.strand_machine.specs.Stops.{WentOn, answer_tags}
+use Rattle.strand_machine.specs.Stops.{IsResumedWith, answer_tags}
 use Rattle.strand_machine.specs.declared.stop.Stop.{Stop}
 use Rattle.strand_machine.specs.declared.stop.Stop.TheVariants as stop
 use Rattle.sched_core.specs.Nodes.{BeginsChild, ChildAnswers, NodeChanges, answers_in, missing, without_children}
@@ -102,7 +102,7 @@ StopsAt w number (stop.Done answer give) s next = PutsAnswer number answer s nex
 
 -- A task takes the answers of its children, all of which have answered.
 pub record TakesAnswers (j : Job) (answers : List AnswerView) (next : Job) : Type 0 where
-  pub task : WentOn answers j.task next.task
+  pub task : IsResumedWith answers j.task next.task
   pub number : next.number ≡ j.number
 
 -- What a stop of a task of this number needs

@@ -22,7 +22,7 @@ use Rattle.strand_meaning.proofs.NextStops.OneSoundStop.{stops_are_sound, stops_
 use Rattle.strand_machine.specs.Links.{GiveView, JoinNames, tag, tags}
 use Rattle.strand_machine.specs.Faults.{is_fault, EndsByFault}
 use Rattle.strand_machine.specs.AwaitedChildren.{awaited}
-use Rattle.strand_machine.specs.Stops.{IsStop, WentOn, answer_tags, any_cut, is_cut, with_evaluations, view_on}
+use Rattle.strand_machine.specs.Stops.{IsStop, IsResumedWith, answer_tags, any_cut, is_cut, with_evaluations, resumed_view}
 use Rattle.strand_machine.specs.Tasks.{TaskView, fresh}
 use Rattle.strand_machine.specs.declared.stop.Stop.TheVariants as stop
 use Rattle.serial_runner.specs.Stacks.{task_of, IsOpenTask, AreBelow, IsStack, lowest_of, tasks, IsAnswerOf, task_of_answer, stack_with_answer, StepsStack, AnswersLowest, AdvancesTo}
@@ -69,7 +69,7 @@ more-uncut (x ∷ answers) a whole h =
     neither cut (any_cut (answers ++ a ∷ [])) (or-first cut (any_cut answers) whole) (more-uncut answers a (or-second cut (any_cut answers) whole) h)
 
 -- By answers of which none is a cut it goes on.
-pub went_whole : (answers : List AnswerView) (t next : TaskView) → any_cut answers ≡ false → WentOn answers t next → next ≡ view_on t
+pub went_whole : (answers : List AnswerView) (t next : TaskView) → any_cut answers ≡ false → IsResumedWith answers t next → next ≡ resumed_view t
 went_whole answers t next whole h = h.whole whole
 
 -- Children that a wait is over with aren't awaited
@@ -160,7 +160,7 @@ module _ {K : Type 0} (s : Stack K) (is : IsStack s) where
     none : (with_evaluations rest).trace.unmerged ≡ []
     none = none-heard rest.task.trace.unmerged (evaluations (eval rest.task.plan) rest.task.trace.unmerged) _ refl
 
-    gone-on : IsSoundStop t (Wait rest.task) → KeepsOrigin t (Wait rest.task) → StepsStack s (record { top = open_task (view_on rest) []; below = s.below })
+    gone-on : IsSoundStop t (Wait rest.task) → KeepsOrigin t (Wait rest.task) → StepsStack s (record { top = open_task (resumed_view rest) []; below = s.below })
     gone-on sound same = record {
       sound = record {
         top = record { task = answers_keep_tasks rest.task sound; idle = refl; goes_on = at.keeps.2; whole = refl; answers = ap (λ (l : List AwaitedChild). tags rest.task.plan (awaited l)) (sym none) };
@@ -173,7 +173,7 @@ module _ {K : Type 0} (s : Stack K) (is : IsStack s) where
     }
 
     -- It goes on.
-    pub went_up : (top : OpenTask K) (v : TaskView) → top ≡ record { task = v; answers = [] } → v ≡ view_on rest → StepsStack s (record { top = top; below = s.below })
+    pub went_up : (top : OpenTask K) (v : TaskView) → top ≡ record { task = v; answers = [] } → v ≡ resumed_view rest → StepsStack s (record { top = top; below = s.below })
     went_up top v e h =
         subst (λ (f : OpenTask _). StepsStack s (record { top = f; below = s.below })) (sym (e ∙ ap (λ (w : TaskView). open_task w []) h))
         (gone-on (stops_are_sound t (Wait rest.task) is.top.task at.next) (stops_keep_origins t (Wait rest.task) at.next))

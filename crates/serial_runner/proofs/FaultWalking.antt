@@ -16,7 +16,7 @@ use Rattle.strand_meaning.proofs.NextStops.OneSoundStop.{stops_are_sound, stops_
 use Rattle.strand_machine.specs.Links.{GiveView, tags}
 use Rattle.strand_machine.specs.AwaitedChildren.{awaited}
 use Rattle.strand_machine.specs.Placed.{IsPlaced, latest}
-use Rattle.strand_machine.specs.Stops.{stop_of, answer_tags, any_cut, with_evaluations, view_on, WentOn}
+use Rattle.strand_machine.specs.Stops.{stop_of, answer_tags, any_cut, with_evaluations, resumed_view, IsResumedWith}
 use Rattle.strand_machine.specs.Tasks.{TaskView}
 use Rattle.strand_machine.specs.declared.placed.PlacedFault.{PlacedFault}
 use Rattle.strand_machine.specs.declared.placed.PlacedStop.{PlacedStop}
@@ -144,7 +144,7 @@ module _ (plan : PlanView) (o : Origin) (w : FaultWalk) (is : IsFaultWalk plan o
       then_has_answers answers h = h ∙ ap (tags plan) (is.awaits ∙ sym wait-starts) ∙ ap (λ (p : PlanView). tags p (unmerged rest.task)) (sym (wait-kept.0 ∙ is.plan_is))
 
       -- The walk goes on with the answers, and awaits no child.
-      pub faults_by_wait : (answers : List AnswerView) → any_cut answers ≡ false → (v : TaskView) → WentOn answers rest v → (os : List Origin) → os ≡ [] → (after : Option PlacedFault) → after ≡ met → FaultWalksOn plan o w (Continues (record { task = v; awaited = os; met = after }))
+      pub faults_by_wait : (answers : List AnswerView) → any_cut answers ≡ false → (v : TaskView) → IsResumedWith answers rest v → (os : List Origin) → os ≡ [] → (after : Option PlacedFault) → after ≡ met → FaultWalksOn plan o w (Continues (record { task = v; awaited = os; met = after }))
       faults_by_wait answers whole v h os e after g =
           subst (λ (f : Option PlacedFault). FaultWalksOn plan o w (Continues (record { task = v; awaited = os; met = f }))) (sym g)
           (subst (λ (u : TaskView). FaultWalksOn plan o w (Continues (record { task = u; awaited = os; met = met }))) (sym (went_whole answers rest v whole h)) (walk, left))
@@ -158,7 +158,7 @@ module _ (plan : PlanView) (o : Origin) (w : FaultWalk) (is : IsFaultWalk plan o
           none : (with_evaluations rest).trace.unmerged ≡ []
           none = none-heard rest.task.trace.unmerged (evaluations (eval rest.task.plan) rest.task.trace.unmerged) _ refl
 
-          walk : IsFaultWalk plan o (record { task = view_on rest; awaited = os; met = met })
+          walk : IsFaultWalk plan o (record { task = resumed_view rest; awaited = os; met = met })
           walk = record {
             task = answers_keep_tasks rest.task wait-task;
             idle = refl;

@@ -23,7 +23,7 @@ use Rattle.strand_meaning.proofs.NextStops.OneSoundStop.{stops_are_sound, stops_
 use Rattle.strand_machine.specs.Links.{GiveView, tags}
 use Rattle.strand_machine.specs.Observed.{IsObserved}
 use Rattle.strand_machine.specs.AwaitedChildren.{awaited}
-use Rattle.strand_machine.specs.Stops.{stop_of, answer_tags, any_cut, with_evaluations, view_on, WentOn}
+use Rattle.strand_machine.specs.Stops.{stop_of, answer_tags, any_cut, with_evaluations, resumed_view, IsResumedWith}
 use Rattle.strand_machine.specs.Tasks.{TaskView}
 use Rattle.strand_machine.specs.declared.stop.Stop as stops
 use Rattle.strand_machine.specs.declared.stop.Stop.TheVariants as stop
@@ -180,7 +180,7 @@ module _ (plan : PlanView) (o : Origin) (j : List ℕ) (w : NodeWalk) (is : IsWa
         h ∙ ap (tags plan) (is.awaits ∙ sym same) ∙ ap (λ (p : PlanView). tags p (unmerged rest.task)) (sym of_plan)
 
     -- The walk goes on with the answers, and awaits no child.
-    pub walks_by_wait : ObservationGoesOn → AnswersShowNothing → (answers : List AnswerView) → any_cut answers ≡ false → (v : TaskView) → WentOn answers rest v → (os : List Origin) → os ≡ [] →
+    pub walks_by_wait : ObservationGoesOn → AnswersShowNothing → (answers : List AnswerView) → any_cut answers ≡ false → (v : TaskView) → IsResumedWith answers rest v → (os : List Origin) → os ≡ [] →
         (observed : ObservedInstance) → observed ≡ with_observation n.probe n.events n.fault n.child_fault w.observed → WalksOn plan o j w (Continues (record { task = v; awaited = os; observed = observed }))
     walks_by_wait go nothing answers whole v h os e observed b =
         subst (λ (u : TaskView). WalksOn plan o j w (Continues (record { task = u; awaited = os; observed = observed }))) (sym (went_whole answers rest v whole h)) (walk, left)
@@ -209,7 +209,7 @@ module _ (plan : PlanView) (o : Origin) (j : List ℕ) (w : NodeWalk) (is : IsWa
         none : (with_evaluations rest).trace.unmerged ≡ []
         none = none-heard rest.task.trace.unmerged (evaluations (eval rest.task.plan) rest.task.trace.unmerged) _ refl
 
-        walk : IsWalk plan o j (record { task = view_on rest; awaited = os; observed = observed })
+        walk : IsWalk plan o j (record { task = resumed_view rest; awaited = os; observed = observed })
         walk = record {
           instance = is.instance;
           task = answers_keep_tasks rest.task task;

@@ -11,7 +11,7 @@ use crate::zip::zip;
 use contract_views::{Boxed, Items};
 use serial_meaning::{Answer, Keep};
 use std::alloc::Global;
-use strand_machine::{Memory, Paused, is_fault};
+use strand_machine::{Memory, Paused, TaskPool, is_fault};
 
 fn boxed<K: Keep>(alloc: Global, answer: Answer<K>) -> Result<Boxed<Answer<K>>, Memory>
     ensures { IfOk result (λ b. b ≡ answer) }
@@ -69,13 +69,17 @@ fn end_all<K: Keep>(
 // Runs the topmost task to its next stop. A child goes on top of it. Where it waits its children have ended, and it takes their
 // answers. Its own answer goes to the task below, and where it is a fault it ends all of them.
 #[inline(always)]
-pub(crate) fn advance<K: Keep>(stack: Stack<K>, alloc: Global) -> Result<Advanced<K>, Memory>
+pub(crate) fn advance<K: Keep>(
+    stack: Stack<K>,
+    alloc: Global,
+    pool: &mut TaskPool<K>,
+) -> Result<Advanced<K>, Memory>
     requires { IsStack stack }
     ensures { IfOk result (AdvancesTo stack) }
 {
     let Stack { top, mut below } = stack;
     let OpenTask { task, answers } = top;
-    let paused = task.run(alloc)?;
+    let paused = task.run(alloc, pool)?;
     match paused {
         Paused::Spawn { child, rest } => {
             let parent = OpenTask {
@@ -87,12 +91,12 @@ pub(crate) fn advance<K: Keep>(stack: Stack<K>, alloc: Global) -> Result<Advance
             Ok(Advanced::Continues(Stack { top, below }))
         }
         Paused::Wait { rest } => {
-            let (task, answers) = rest.resume_by(alloc, answers)?;
+            let (task, answers) = rest.resume_by(alloc, answers, pool)?;
             let top = OpenTask { task, answers };
             Ok(Advanced::Continues(Stack { top, below }))
         }
         Paused::Ended { rest } => {
-            let (answer, give) = rest.into_answer();
+            let (answer, give) = rest.into_answer(pool);
             drop(give);
             if is_fault(&answer) {
                 let last = end_all(alloc, answer, below)?;

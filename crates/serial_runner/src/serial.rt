@@ -12,7 +12,7 @@ use crate::stack::{Advanced, Stack};
 use serial_meaning::{Answer, Keep, Origin, Plan};
 use std::alloc::Global;
 use std::sync::Arc;
-use strand_machine::{Memory, Task};
+use strand_machine::{Memory, Task, TaskPool};
 use strand_meaning::laws;
 
 // The stack of this task alone.
@@ -61,8 +61,9 @@ pub fn run_serial_keeping<K: Keep>(
     ensures fault { IfOk result (λ answer. IsFaultOf (arc_value plan.now) answer.outcome) }
 {
     let mut stack = stack_of(alloc, plan, origin)?;
+    let mut pool = TaskPool::new(alloc);
     loop {
-        match advance(stack, alloc)? {
+        match advance(stack, alloc, &mut pool)? {
             Advanced::Continues(next) => stack = next,
             Advanced::Ends(answer) => return Ok(Box::into_inner(answer.0)),
         }

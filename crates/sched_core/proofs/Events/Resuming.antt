@@ -4,7 +4,7 @@ use Rattle.std.proofs.Common.{◌≡◌, ℕ, ◌+◌, ◌≤◌, true, false, [
 use Rattle.strand_meaning.proofs.TakenAnswers.AnswersKeepTasks.{none-unmerged}
 use Rattle.strand_machine.specs.Links.{tags}
 use Rattle.strand_machine.specs.AwaitedChildren.{awaited}
-use Rattle.strand_machine.specs.Stops.{WentOn, answer_tags, view_on}
+use Rattle.strand_machine.specs.Stops.{IsResumedWith, answer_tags, resumed_view}
 use Rattle.strand_machine.specs.Tasks.{TaskView}
 use Rattle.sched_meaning.specs.Core as machine
 use Rattle.sched_meaning.specs.Core.{current_tasks, resumed_task}
@@ -60,7 +60,7 @@ module _ (s : CoreState) (t : IsConsistent s) (w place : ℕ) (v : WorkerView) (
         λ k d lt. is-answered false s _ (listed k d lt)
 
     -- it went on by the answers, of which none is a cut
-    pub went-is : (next : Job) → WentOn (answers_in node.children) j.task next.task → next.task ≡ view_on j.task
+    pub went-is : (next : Job) → IsResumedWith (answers_in node.children) j.task next.task → next.task ≡ resumed_view j.task
     went-is next h =
         h.whole (none-cut (plan_of s) s.given (origins_of s.nodes.items) node.children (awaited (task_in j).trace.unmerged) awaits (answer_given (plan_of s) s.given s.nodes.items t.nodes j.number node found))
 
@@ -89,9 +89,9 @@ module _ (s next : CoreState) (t : IsConsistent s) (none : s.root ≡ None) (w p
       left : (a b : ℕ) → a ≤ 1 → a ≡ 1 + b → b ≡ 0
       left a b f e = omega arith
 
-  module _ (node : SpawnNode) (found : slice_get s.nodes.items j.number ≡ Some node) (zero_left : node.unanswered ≡ 0) (next_job : Job) (went_on : WentOn (answers_in node.children) j.task next_job.task) (number : next_job.number ≡ j.number)
+  module _ (node : SpawnNode) (found : slice_get s.nodes.items j.number ≡ Some node) (zero_left : node.unanswered ≡ 0) (next_job : Job) (went_on : IsResumedWith (answers_in node.children) j.task next_job.task) (number : next_job.number ≡ j.number)
       (p : HasResumed w place j next_job node v s next) where
-    task-is : next_job.task ≡ view_on j.task
+    task-is : next_job.task ≡ resumed_view j.task
     task-is = went-is s t w place v there j at node found zero_left next_job went_on
 
     own : IsJob s.nodes.items j

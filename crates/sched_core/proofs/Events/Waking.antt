@@ -3,7 +3,7 @@ use Rattle.std.proofs.Common.{◌≡◌, ℕ, true, List, Some, None, slice_get,
 use Rattle.sched_meaning.specs.Simulation.{is_free}
 use Rattle.sched_meaning.specs.declared.event.CoreEvent.TheVariants.{Look}
 use Rattle.sched_meaning.proofs.OneCore.OneStep.{some-one}
-use Rattle.strand_machine.specs.Stops.{WentOn}
+use Rattle.strand_machine.specs.Stops.{IsResumedWith}
 use Rattle.sched_core.specs.Cores.{worker_of}
 use Rattle.sched_core.specs.Moves.{CanResume, TakesStalled, Resumes, Stalls, SetsCurrent, WorkerChanges}
 use Rattle.sched_core.specs.Nodes.{answers_in, without_children}
@@ -49,8 +49,8 @@ module _ (s : CoreState) (t : IsConsistent s) (w place : ℕ) (j : Job) (mid : L
           same : r.node ≡ node
           same = some-one r.node node (sym r.there ∙ found)
 
-          went : WentOn (answers_in node.children) j.task next_job.task
-          went = subst (λ (n : SpawnNode). WentOn (answers_in n.children) j.task next_job.task) same r.takes.task
+          went : IsResumedWith (answers_in node.children) j.task next_job.task
+          went = subst (λ (n : SpawnNode). IsResumedWith (answers_in n.children) j.task next_job.task) same r.takes.task
 
           after-is : b.after ≡ record b.worker { current = Some next_job; stalled = remove b.worker.stalled place }
           after-is = b.second ∙ ap (λ (v : WorkerView). record v { current = Some next_job }) b.first.1

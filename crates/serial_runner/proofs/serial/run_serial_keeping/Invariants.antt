@@ -4,8 +4,8 @@ use Rattle.serial_runner.specs.Stacks.{IsStack, lowest, tasks}
 use Rattle.serial_runner.proofs.Measure.{stops_in_all}
 use Rattle.serial_runner.proofs.serial.run_serial_keeping.Given as goal
 
-abbrev pub invariant-loop-next : goal.invariant-loop-next
-invariant-loop-next g l = record { sound : IsStack l.stack; plan : (lowest l.stack).plan ≡ arc_value l.plan; origin : (lowest l.stack).origin ≡ l.fn.origin }
+abbrev pub invariant-loop-pool : goal.invariant-loop-pool
+invariant-loop-pool g l = record { sound : IsStack l.stack; plan : (lowest l.stack).plan ≡ arc_value l.plan; origin : (lowest l.stack).origin ≡ l.fn.origin }
 
-abbrev pub decreases-loop-next : goal.decreases-loop-next
-decreases-loop-next g l = stops_in_all (tasks (l.stack.top ∷ l.stack.below))
+abbrev pub decreases-loop-pool : goal.decreases-loop-pool
+decreases-loop-pool g l = stops_in_all (tasks (l.stack.top ∷ l.stack.below))

@@ -3,7 +3,7 @@ use Rattle.std.specs.Arc.{arc_value}
 use Rattle.serial_meaning.specs.declared.origin.Origin.{Origin}
 use Rattle.strand_machine.specs.Links.{tags}
 use Rattle.strand_machine.specs.AwaitedChildren.{awaited}
-use Rattle.strand_machine.specs.Stops.{answer_tags, any_cut, WentOn}
+use Rattle.strand_machine.specs.Stops.{answer_tags, any_cut, IsResumedWith}
 use Rattle.strand_machine.specs.Tasks.{TaskView}
 use Rattle.serial_runner.specs.Observed.{origin_of, with_child, WalksOn}
 use Rattle.serial_runner.specs.declared.walk.Walked.TheVariants.{Continues}
@@ -56,7 +56,7 @@ returns-in_ok-observed-in-Wait c =
     let m = c.in_ok-observed-in-Wait.ensures in
     walks_by_wait _ _ _ _ c.requires.walk s.observed_stop s.is_observed c.in-Wait.rest (sym s.stops ∙ c.in-Wait.is) c.observation_goes_on.ensures c.answers_show_nothing.ensures c.in_ok-rest-in-Wait.answers
     (made (λ answers. any_cut answers ≡ _) _ _ k.1 c.answers_of-answers.ensures.whole) _
-    (subst (λ (v : TaskView). WentOn c.in_ok-rest-in-Wait.answers v c.in_ok-observed-in-Wait.task) (ap (λ z. z.0) k.0) (made (WentOn c.in_ok-rest-in-Wait.answers _) _ _ m.1 c.resume_with.ensures)) _ c.new.ensures.items _
+    (subst (λ (v : TaskView). IsResumedWith c.in_ok-rest-in-Wait.answers v c.in_ok-observed-in-Wait.task) (ap (λ z. z.0) k.0) (made (IsResumedWith c.in_ok-rest-in-Wait.answers _) _ _ m.1 c.resume_with.ensures)) _ c.new.ensures.items _
     (m.0 ∙ ap (λ z. z.1) k.0 ∙ s.sees)
 
 pub returns-in-Done : goal.returns-in-Done
