@@ -26,7 +26,7 @@ use Rattle.steal_deck.proofs.deck.Refused.TheSendSync as refused_shared
 use Rattle.steal_deck.proofs.thief.Thief.TheSendSync as thief_shared
 use Rattle.steal_deck.specs.contracts.deck.Refused as refused
 use Rattle.steal_deck.specs.contracts.thief.Thief as thief
-use Rattle.strand_machine.proofs.CodeLemmas.Shares.{task_sends}
+use Rattle.strand_machine.proofs.CodeLemmas.Shares.{task_pool_sends, task_sends}
 use Rattle.crew.specs.contracts.answered.Answered as answered
 use Rattle.crew.specs.contracts.answered.Answered.TheInside as answered_inside
 use Rattle.crew.specs.contracts.any_hand.AnyHand as any_hand
@@ -120,7 +120,7 @@ module _ (K : RattleType) (keeps : Ghosts K.Denot) (dict : Dict) where
               Deque-send (stalled.the_row K keeps) stalled_sends,
               (
                 Vec-send (thief.the_row (entry.the_row K keeps)) (thief_shared.the_send (entry.the_row K keeps) entry_sends),
-                (option_shared.the_send _ (items_shared.the_send (answer.the_row K keeps) (answer_sends K keeps)), (faults_sends, (answered_sends, tt))),
+                (option_shared.the_send _ (items_shared.the_send (answer.the_row K keeps) (answer_sends K keeps)), (faults_sends, (answered_sends, (task_pool_sends K keeps dict, tt)))),
               ),
             ),
           ),

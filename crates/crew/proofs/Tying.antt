@@ -10,7 +10,7 @@ use Rattle.sched_meaning.specs.Core.{Worker}
 use Rattle.sched_meaning.specs.Steps.{WorkerRuns, WorkerPops, WorkerPasses}
 use Rattle.steal_deck.specs.Ends.{OwnerEnd, Pops}
 use Rattle.strand_machine.specs.Links.{GiveView}
-use Rattle.strand_machine.specs.Stops.{IsStop, IsCutEnd, IsCutOn, IsResumed, any_cut, looked, view_on, Advances as AdvancesTo}
+use Rattle.strand_machine.specs.Stops.{IsStop, IsCutEnd, IsCutOn, IsResumed, any_cut, looked, resumed_view, Advances as AdvancesTo}
 use Rattle.strand_machine.proofs.NextStops.ByCut.{advances, advances-at}
 use Rattle.strand_machine.specs.Tasks.{TaskView}
 use Rattle.strand_machine.specs.declared.stop.Stop.{Stop as Stops}
@@ -225,7 +225,7 @@ module _ (old new : HandView) (free : old.current ≡ None) where
       new ≡ record old { current = Some next; deck = new.deck; stalled = remove old.stalled place } → ResumesAt place left old new
   resumes-at place left t next there (answers, are, is, passed) h = by (any_cut answers) refl
     where
-      by-whole : next ≡ view_on (looked next.loads t) → ResumesAt place left old new
+      by-whole : next ≡ resumed_view (looked next.loads t) → ResumesAt place left old new
       by-whole gone = inl (
         t.task,
         record {

@@ -14,7 +14,7 @@ use std::alloc::Global;
 use std::collections::VecDeque;
 use std::marker::Model;
 use steal_deck::{Deck, Thief};
-use strand_machine::Task;
+use strand_machine::{Task, TaskPool};
 
 /// What a turn of a hand did.
 #[derive(Drop)]
@@ -101,6 +101,7 @@ impl<K: Keep> Hand<K> {
                 answers: None,
                 faults,
                 answered: Answered::none(),
+                pool: TaskPool::new(alloc),
             }),
         })
     }

@@ -7,6 +7,7 @@ use contract_views::Items;
 use serial_meaning::{Answer, Keep};
 use std::collections::VecDeque;
 use steal_deck::{Deck, Thief};
+use strand_machine::TaskPool;
 
 // What a hand has.
 #[derive(Drop)]
@@ -23,4 +24,6 @@ pub(crate) struct HandState<K: Keep> {
     // What it knows of the faults that the hands of its crew met.
     pub faults: Faults,
     pub answered: Answered<Answer<K>>,
+    // The memory of tasks that have ended.
+    pub pool: TaskPool<K>,
 }

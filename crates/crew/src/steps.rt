@@ -130,7 +130,7 @@ fn end<G: Gate, K: Keep>(
     ensures put { HasPut K task state.old.answered state.new.answered }
     ensures state { view_of state.new ≡ record (view_of state.old) { answered = state.new.answered } }
 {
-    let (answer, give) = task.into_answer();
+    let (answer, give) = task.into_answer(&mut state.pool);
     // Without memory for it the others don't hear of the fault.
     let _ = publish_fault(alloc, &mut state.faults, &answer);
     if !gate.hears_ends() {
@@ -164,7 +164,7 @@ fn advance<G: Gate, K: Keep>(
     if task.has_outcome() {
         return Ok(end(state, task, alloc, gate));
     }
-    let paused = run_to_stop(task, alloc)?;
+    let paused = run_to_stop(task, alloc, &mut state.pool)?;
     match paused {
         Paused::Spawn { child, rest } => {
             switch_to_child(state, child, rest, known)?;
@@ -275,7 +275,7 @@ fn resume<K: Keep>(
 {
     let Entry { task, known } = entry;
     let room = empty_room(alloc, &mut state.answers);
-    let (resumed, room) = task.resume_in(alloc, room)?;
+    let (resumed, room) = task.resume_in(alloc, room, &mut state.pool)?;
     state.answers = Some(room);
     match resumed {
         Resumed::On(task) => {

@@ -16,7 +16,7 @@ use std::alloc::Global;
 use std::collections::VecDeque;
 use std::marker::Model;
 use std::sync::Arc;
-use strand_machine::{Paused, Task};
+use strand_machine::{Paused, Task, TaskPool};
 
 // There was no memory for a task that goes on. Only the calls of this module make one, each of the task that it was given, which hasn't ended. A
 // clause sees it as that task.
@@ -56,13 +56,14 @@ fn before_end<T, X>(task: KnownTag<T>, got: Result<X, Memory>) -> Result<X, Unen
 pub(crate) fn run_to_stop<K: Keep>(
     task: Task<K>,
     alloc: Global,
+    pool: &mut TaskPool<K>,
 ) -> Result<Paused<K>, Unended<Task<K>>>
     requires { task.cut ≡ None }
     ensures ok { IfOk result (Pauses task) }
     ensures unended { IfErr result (λ unended. unended ≡ task) }
 {
     let of = KnownTag::of(&task);
-    before_end(of, task.run(alloc))
+    before_end(of, task.run(alloc, pool))
 }
 
 // The child becomes current, and its parent's rest goes after all others.

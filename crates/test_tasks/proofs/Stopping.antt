@@ -17,7 +17,7 @@ use Rattle.serial_runner.proofs.Advancing.{none-heard}
 use Rattle.serial_runner.proofs.Starts.{StartsBeforeStop, stops_start}
 use Rattle.strand_machine.specs.AwaitedChildren as children
 use Rattle.strand_machine.specs.Links.{GiveView, tag, tags}
-use Rattle.strand_machine.specs.Stops.{IsStop, Advances, IsResumed, WentOn, answer_tags, any_cut}
+use Rattle.strand_machine.specs.Stops.{IsStop, Advances, IsResumed, IsResumedWith, answer_tags, any_cut}
 use Rattle.strand_machine.specs.Tasks.{TaskView, fresh}
 use Rattle.strand_machine.specs.declared.stop.Resumed.TheVariants.{On}
 use Rattle.strand_machine.specs.declared.stop.Stop as stop_type
@@ -71,12 +71,12 @@ pub tags_of_two : (plan : PlanView) (a b : AnswerView) (os : List Origin) → a.
 tags_of_two plan a b os e f h = rw (e, f, h) refl
 
 -- A task that took its children's answers awaits none.
-went : (answers : List AnswerView) (t next : TaskView) (c : Bool) → any_cut answers ≡ c → WentOn answers t next → awaited next ≡ []
+went : (answers : List AnswerView) (t next : TaskView) (c : Bool) → any_cut answers ≡ c → IsResumedWith answers t next → awaited next ≡ []
 went answers t next false e h =
     ap awaited (h.whole e) ∙ ap children.awaited (none-heard t.task.trace.unmerged (evaluations (eval t.task.plan) t.task.trace.unmerged) _ refl)
 went answers t next true e h = ap children.awaited (h.cut e).0.unmerged
 
-pub went_on : (answers : List AnswerView) (t next : TaskView) → WentOn answers t next → awaited next ≡ []
+pub went_on : (answers : List AnswerView) (t next : TaskView) → IsResumedWith answers t next → awaited next ≡ []
 went_on answers t next h = went answers t next (any_cut answers) refl h
 
 pub resumed_on : (t next : TaskView) → IsResumed {K = All} t (On next) → awaited next ≡ []
