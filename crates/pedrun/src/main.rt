@@ -1,7 +1,7 @@
 //! The program `pedrun`: help texts, standard streams, exit status, and what a person at a terminal gets. All else is
 //! the crate `engine`.
 //!
-//! The contracts of `answer` and, on a terminal, of `terminal::answer_on_terminal` say what it does to its streams.
+//! The contracts of `answer` and, on a terminal, of `ticker::answer_with_progress` say what it does to its streams.
 //! `main` only makes the streams, reads the words and ends with the status.
 #![tactic(auto)]
 
@@ -58,8 +58,8 @@ fn main(rt: HostRuntime) -> ExitCode {
     if rt.stderr().is_terminal() {
         let progress = Progress::new(&rt, can_rewrite(&rt), seed_count(&words));
         let is_typed = rt.stdin().is_terminal();
-        let mut streams = recorded(&rt, rt.alloc(), streams, is_typed, &progress);
-        let status = answer_with_progress(&rt, rt.alloc(), &words, &mut streams, &progress);
+        let streams = recorded(&rt, rt.alloc(), streams, is_typed, &progress);
+        let (status, _) = answer_with_progress(&rt, rt.alloc(), &words, streams, &progress);
         return ExitCode::from(status.code());
     }
     let status = answer(&rt, rt.alloc(), &words, &mut streams);

@@ -1,5 +1,7 @@
 // A source and a sink that keep what the notes to a person need.
 
+ghost use Rattle.std.specs.Prelude.{◌≡◌};
+
 use crate::fault_line::FaultLine;
 use crate::progress::Progress;
 use ped_io::{Failed, Sink, Source};
@@ -22,7 +24,10 @@ pub struct RecordedSource<'a, R, S> {
 }
 
 impl<'a, R: Wait + Clock + Eprint, S: Source> RecordedSource<'a, R, S> {
-    pub fn new(rt: &'a R, alloc: Global, inner: S, is_typed: bool) -> RecordedSource<'a, R, S> {
+    pub fn new(rt: &'a R, alloc: Global, inner: S, is_typed: bool) -> RecordedSource<'a, R, S>
+        ensures left { ⟦<RecordedSource<'a, R, S> as Source>⟧.left result ≡ S.left inner }
+        ensures faults { ⟦<RecordedSource<'a, R, S> as Source>⟧.faults result ≡ S.faults inner }
+    {
         RecordedSource {
             rt,
             inner,
@@ -33,7 +38,10 @@ impl<'a, R: Wait + Clock + Eprint, S: Source> RecordedSource<'a, R, S> {
     }
 
     /// Sets the progress that is started when all is read.
-    pub fn set_progress(&mut self, progress: &'a Progress<'a, R>) {
+    pub fn set_progress(&mut self, progress: &'a Progress<'a, R>)
+        ensures left { ⟦<RecordedSource<'a, R, S> as Source>⟧.left self.new ≡ ⟦<RecordedSource<'a, R, S> as Source>⟧.left self.old }
+        ensures faults { ⟦<RecordedSource<'a, R, S> as Source>⟧.faults self.new ≡ ⟦<RecordedSource<'a, R, S> as Source>⟧.faults self.old }
+    {
         self.progress = Some(progress);
     }
 
@@ -109,7 +117,10 @@ impl<'a, R: Wait + Clock + Eprint, K: Sink> RecordedSink<'a, R, K> {
         inner: K,
         progress: &'a Progress<'a, R>,
         most: usize,
-    ) -> RecordedSink<'a, R, K> {
+    ) -> RecordedSink<'a, R, K>
+        ensures written { ⟦<RecordedSink<'a, R, K> as Sink>⟧.written result ≡ K.written inner }
+        ensures faults { ⟦<RecordedSink<'a, R, K> as Sink>⟧.faults result ≡ K.faults inner }
+    {
         RecordedSink {
             inner,
             taken: Taken {

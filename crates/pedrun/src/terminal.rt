@@ -139,18 +139,26 @@ fn show_some<E: Sink>(err: &mut E, lines: Option<Vec<u8>>)
 // Does what `engine::pedrun` does, and writes to the error output what helps a person: the progress of a long run, the
 // place of a script's fault, the faulty word and how to ask for help, where the fault came from that ended a run, what
 // it may mean that a replayed strand did nothing or isn't there, and the help where no word was given.
-fn pedrun_on_terminal<'a, R: Threads + Wait + Sync + Clock + Eprint, S: Source, K: Sink, E: Sink>(
+fn pedrun_on_terminal<
+    's,
+    'o,
+    'e,
+    R: Threads + Wait + Sync + Clock + Eprint,
+    S: Source,
+    K: Sink,
+    E: Sink,
+>(
     rt: &R,
     alloc: Global,
     words: &[String],
-    script: &mut RecordedSource<'a, R, S>,
-    out: &mut RecordedSink<'a, R, K>,
-    err: &mut RecordedSink<'a, R, E>,
-    progress: &Progress<'a, R>,
+    script: &mut RecordedSource<'s, R, S>,
+    out: &mut RecordedSink<'o, R, K>,
+    err: &mut RecordedSink<'e, R, E>,
+    progress: &Progress<'_, R>,
 ) -> Status
-    ensures { IsCallWithNotes (reading (map string_bytes words.now)) (change ⟦<RecordedSource<'a, R, S> as Source>⟧.left ⟦<RecordedSource<'a, R, S> as Source>⟧.faults script.old script.new)
-        (change ⟦<RecordedSink<'a, R, K> as Sink>⟧.written ⟦<RecordedSink<'a, R, K> as Sink>⟧.faults out.old out.new)
-        (change ⟦<RecordedSink<'a, R, E> as Sink>⟧.written ⟦<RecordedSink<'a, R, E> as Sink>⟧.faults err.old err.new) result }
+    ensures { IsCallWithNotes (reading (map string_bytes words.now)) (change ⟦<RecordedSource<'s, R, S> as Source>⟧.left ⟦<RecordedSource<'s, R, S> as Source>⟧.faults script.old script.new)
+        (change ⟦<RecordedSink<'o, R, K> as Sink>⟧.written ⟦<RecordedSink<'o, R, K> as Sink>⟧.faults out.old out.new)
+        (change ⟦<RecordedSink<'e, R, E> as Sink>⟧.written ⟦<RecordedSink<'e, R, E> as Sink>⟧.faults err.old err.new) result }
 {
     let status = pedrun(rt, alloc, words, script, out, err, progress);
     progress.end();
@@ -170,7 +178,9 @@ fn pedrun_on_terminal<'a, R: Threads + Wait + Sync + Clock + Eprint, S: Source, 
 
 /// Answers the words as `answer` does, and writes to the error output what helps a person, after the call's line.
 pub fn answer_on_terminal<
-    'a,
+    's,
+    'o,
+    'e,
     R: Threads + Wait + Sync + Clock + Eprint,
     S: Source,
     K: Sink,
@@ -179,12 +189,12 @@ pub fn answer_on_terminal<
     rt: &R,
     alloc: Global,
     words: &[String],
-    streams: &mut Recorded<'a, R, S, K, E>,
-    progress: &Progress<'a, R>,
+    streams: &mut Recorded<'s, 'o, 'e, R, S, K, E>,
+    progress: &Progress<'_, R>,
 ) -> Status
-    ensures { AnswersWithNotes (map string_bytes words.now) (change ⟦<RecordedSource<'a, R, S> as Source>⟧.left ⟦<RecordedSource<'a, R, S> as Source>⟧.faults streams.old.script streams.new.script)
-        (change ⟦<RecordedSink<'a, R, K> as Sink>⟧.written ⟦<RecordedSink<'a, R, K> as Sink>⟧.faults streams.old.out streams.new.out)
-        (change ⟦<RecordedSink<'a, R, E> as Sink>⟧.written ⟦<RecordedSink<'a, R, E> as Sink>⟧.faults streams.old.err streams.new.err) result }
+    ensures { AnswersWithNotes (map string_bytes words.now) (change ⟦<RecordedSource<'s, R, S> as Source>⟧.left ⟦<RecordedSource<'s, R, S> as Source>⟧.faults streams.old.script streams.new.script)
+        (change ⟦<RecordedSink<'o, R, K> as Sink>⟧.written ⟦<RecordedSink<'o, R, K> as Sink>⟧.faults streams.old.out streams.new.out)
+        (change ⟦<RecordedSink<'e, R, E> as Sink>⟧.written ⟦<RecordedSink<'e, R, E> as Sink>⟧.faults streams.old.err streams.new.err) result }
 {
     match Topic::of_words(words) {
         Some(topic) => write_help(topic.text(), &mut streams.out, &mut streams.err),

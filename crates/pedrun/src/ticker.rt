@@ -1,6 +1,11 @@
 // Shows the progress of a call on a terminal.
 
+ghost use Rattle.std.specs.Prelude.{map, string_bytes};
+ghost use Rattle.engine.specs.Clauses.{change};
+ghost use Rattle.pedrun.specs.Calls.{AnswersWithNotes};
+
 use crate::progress::Progress;
+use crate::recorded::{RecordedSink, RecordedSource};
 use crate::streams::Recorded;
 use crate::terminal::answer_on_terminal;
 use engine::Status;
@@ -12,25 +17,44 @@ use std::thread;
 use std::thread::Threads;
 use std::time::Clock;
 
+// Calls f, which ends the progress, beside a thread that shows it.
+fn beside_ticker<R: Threads + Wait + Sync + Clock + Eprint, F: FnOnce() -> T, T>(
+    rt: &R,
+    progress: &Progress<'_, R>,
+    f: F,
+) -> T
+    requires { F.pre f }
+    ensures { F.post f result }
+{
+    thread::join(rt, || progress.tick(), f).1
+}
+
 /// Does what `answer_on_terminal` does, and shows the progress from a thread of its own. Where the system refuses that
-/// thread, no progress is shown.
+/// thread, no progress is shown. The streams come back, since no contract sees what a closure writes through a
+/// reference to them.
 pub fn answer_with_progress<
-    'a,
+    's,
+    'o,
+    'e,
     R: Threads + Wait + Sync + Clock + Eprint,
-    S: Source,
-    K: Sink,
-    E: Sink,
+    S: Source + Drop,
+    K: Sink + Drop,
+    E: Sink + Drop,
 >(
-    rt: &'a R,
+    rt: &R,
     alloc: Global,
     words: &[String],
-    streams: &mut Recorded<'a, R, S, K, E>,
-    progress: &'a Progress<'a, R>,
-) -> Status {
-    thread::scope(thread::scope_env(), rt, |scope| {
-        let _ticker = scope.spawn(move || progress.tick());
-        let status = answer_on_terminal(rt, alloc, words, streams, progress);
+    streams: Recorded<'s, 'o, 'e, R, S, K, E>,
+    progress: &Progress<'_, R>,
+) -> (Status, Recorded<'s, 'o, 'e, R, S, K, E>)
+    ensures { AnswersWithNotes (map string_bytes words.now) (change ⟦<RecordedSource<'s, R, S> as Source>⟧.left ⟦<RecordedSource<'s, R, S> as Source>⟧.faults streams.entry.script result.1.script)
+        (change ⟦<RecordedSink<'o, R, K> as Sink>⟧.written ⟦<RecordedSink<'o, R, K> as Sink>⟧.faults streams.entry.out result.1.out)
+        (change ⟦<RecordedSink<'e, R, E> as Sink>⟧.written ⟦<RecordedSink<'e, R, E> as Sink>⟧.faults streams.entry.err result.1.err) result.0 }
+{
+    beside_ticker(rt, progress, move || {
+        let mut streams = streams;
+        let status = answer_on_terminal(rt, alloc, words, &mut streams, progress);
         progress.end();
-        status
+        (status, streams)
     })
 }
