@@ -40,8 +40,8 @@ if ! script=$(realpath "$1") || ! here=$(cd "$(dirname "$0")" && pwd); then fail
 trap 'exit 129' HUP
 trap 'exit 130' INT
 trap 'exit 143' TERM
-trap 'rm -rf "${room-}"' EXIT
-room=$(mktemp -d) || fail 5 'a folder for the status could not be made'
+trap 'rm -rf "${folder-}"' EXIT
+folder=$(mktemp -d) || fail 5 'a folder for the status could not be made'
 
 # The first and the last seed of each job.
 jobs() {
@@ -53,11 +53,11 @@ jobs() {
   echo "$from $last"
 }
 
-# Prints all that the jobs print, in the order of the seeds, and leaves parallel's status in the room.
+# Prints all that the jobs print, in the order of the seeds, and leaves parallel's status in the folder.
 run() {
   jobs | parallel --keep-order --colsep ' ' --retries 3 --halt soon,fail=1 --sshlogin "$logins" \
     env "PEDRUN=$(quoted "$pedrun")" "WORKERS=$(quoted "${WORKERS:-1}")" "BATCH=$(quoted "${BATCH:-256}")" "$(quoted "$here/seeds.sh")" "$(quoted "$script")" '{1}' '{2}'
-  echo "$?" > "$room/status"
+  echo "$?" > "$folder/status"
 }
 
 run | awk -v seeds=$((last - first + 1)) '
@@ -65,6 +65,6 @@ run | awk -v seeds=$((last - first + 1)) '
   /^seed / { seen++ }
   END { exit seen + 0 != seeds }'
 counted=$?
-status=$(cat "$room/status")
+status=$(cat "$folder/status")
 [ "$status" = 0 ] || fail "${status:-1}" "parallel ended with status ${status:-unknown}"
 [ "$counted" -eq 0 ] || fail 1 'runs are missing'

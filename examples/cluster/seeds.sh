@@ -31,8 +31,8 @@ command -v "$pedrun" > /dev/null || fail 127 "there is no program $pedrun: put i
 trap 'exit 129' HUP
 trap 'exit 130' INT
 trap 'exit 143' TERM
-trap 'rm -rf "${room-}"' EXIT
-room=$(mktemp -d) || fail 5 'a folder for a run could not be made'
+trap 'rm -rf "${folder-}"' EXIT
+folder=$(mktemp -d) || fail 5 'a folder for a run could not be made'
 
 # The seeds from one to another, joined by commas.
 list() {
@@ -51,15 +51,15 @@ while :; do
   what="the batch of seeds $from to $to"
   # Where the shell can't open the script, it runs nothing, and the status stays.
   status=4
-  { "$pedrun" batch --seeds "$(list "$from" "$to")" --workers "${WORKERS:-1}" > "$room/runs"; status=$?; } < "$script"
+  { "$pedrun" batch --seeds "$(list "$from" "$to")" --workers "${WORKERS:-1}" > "$folder/runs"; status=$?; } < "$script"
   # Only a fault's status 1 comes with a fault's line.
   case $status in
     0) ;;
-    1) grep -q '^fault ' "$room/runs" || fail 1 "$what ended with status 1, and not by a fault: is $pedrun the program?" ;;
+    1) grep -q '^fault ' "$folder/runs" || fail 1 "$what ended with status 1, and not by a fault: is $pedrun the program?" ;;
     *) fail "$status" "$what ended with status $status" ;;
   esac
-  [ "$(grep -c '^seed ' "$room/runs")" = $((to - from + 1)) ] || fail 1 "$what doesn't have a run by each of them: is $pedrun the program?"
-  cat "$room/runs" || fail 5 "$what could not be printed"
+  [ "$(grep -c '^seed ' "$folder/runs")" = $((to - from + 1)) ] || fail 1 "$what doesn't have a run by each of them: is $pedrun the program?"
+  cat "$folder/runs" || fail 5 "$what could not be printed"
   [ "$to" -lt "$last" ] || break
   from=$((to + 1))
 done

@@ -23,11 +23,11 @@ esac
 trap 'exit 129' HUP
 trap 'exit 130' INT
 trap 'exit 143' TERM
-trap 'rm -rf "${room-}"' EXIT
-room=$(mktemp -d) || fail 5 'a folder for the table could not be made'
+trap 'rm -rf "${folder-}"' EXIT
+folder=$(mktemp -d) || fail 5 'a folder for the table could not be made'
 
 # Values are kept as they stand, since they may have more digits than a number of awk.
-LC_ALL=C awk -v line="$line" -v csv="$room/csv" '
+LC_ALL=C awk -v line="$line" -v csv="$folder/csv" '
   function refuse(text) { print "summary.sh: " text > "/dev/stderr"; refused = 1; exit 1 }
 
   # Ends the run of the last seed, if there was one.
@@ -106,8 +106,8 @@ LC_ALL=C awk -v line="$line" -v csv="$room/csv" '
     if (count == 1) refuse("one value alone has no standard error")
     half = quantile(count - 1) * error
     printf "standard error " form "\n95%% interval " form " to " form "\n", error, mean - half, mean + half
-  }' > "$room/summary"
+  }' > "$folder/summary"
 status=$?
-[ ! -s "$room/summary" ] || cp "$room/csv" "$csv" || fail 5 "$csv can't be written"
-cat "$room/summary" || fail 5 'the summary could not be printed'
+[ ! -s "$folder/summary" ] || cp "$folder/csv" "$csv" || fail 5 "$csv can't be written"
+cat "$folder/summary" || fail 5 'the summary could not be printed'
 exit "$status"

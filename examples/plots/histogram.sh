@@ -21,13 +21,13 @@ seeds=${2:-1000}
 workers=$(nproc 2> /dev/null || echo 1)
 [ "$workers" -le 64 ] || workers=64
 export WORKERS="${WORKERS:-$workers}"
-trap 'rm -rf "${room-}"' EXIT
-room=$(mktemp -d) || exit
+trap 'rm -rf "${folder-}"' EXIT
+folder=$(mktemp -d) || exit
 
-"$here/../cluster/seeds.sh" "$here/../pi.ped" 1 "$seeds" > "$room/runs" || exit
+"$here/../cluster/seeds.sh" "$here/../pi.ped" 1 "$seeds" > "$folder/runs" || exit
 # The third line of a run is pi times 10000.
-awk '/^seed / { seed = $2; line = 0 } { line++ } line == 3 { print seed, $1 / 10000 }' "$room/runs" > "$room/estimates"
-[ "$(wc -l < "$room/estimates")" -eq "$seeds" ] || fail 1 'a run printed something else than two numbers'
-gnuplot -e "data = '$room/estimates'; seeds = $seeds" -e "set terminal $terminal size 640,400 background rgb 'white' font 'sans-serif,$font'" \
-  "$here/histogram.gnuplot" > "$room/picture" || fail 5 'gnuplot failed'
-cp "$room/picture" "$1"
+awk '/^seed / { seed = $2; line = 0 } { line++ } line == 3 { print seed, $1 / 10000 }' "$folder/runs" > "$folder/estimates"
+[ "$(wc -l < "$folder/estimates")" -eq "$seeds" ] || fail 1 'a run printed something else than two numbers'
+gnuplot -e "data = '$folder/estimates'; seeds = $seeds" -e "set terminal $terminal size 640,400 background rgb 'white' font 'sans-serif,$font'" \
+  "$here/histogram.gnuplot" > "$folder/picture" || fail 5 'gnuplot failed'
+cp "$folder/picture" "$1"

@@ -17,8 +17,8 @@ esac
 command -v gnuplot > /dev/null || fail 127 'there is no command gnuplot'
 [ -f "$1" ] || fail 4 "there is no file $1"
 here=$(cd "$(dirname "$0")" && pwd) || exit
-trap 'rm -rf "${room-}"' EXIT
-room=$(mktemp -d) || exit
+trap 'rm -rf "${folder-}"' EXIT
+folder=$(mktemp -d) || exit
 
 # Of each script a block: its name, and lines of a number of workers and the time of serial over theirs. The fourth to the sixth cell of a
 # row are those of 1, 2 and 4 workers, and a cell begins with its seconds. Nothing after the first such table is read.
@@ -35,11 +35,11 @@ awk -F ' *[|] *' '
     print "\"" $2 "\""
     for (i = 4; i <= 6; i++) { split($3, serial, " "); split($i, parallel, " "); print workers[i], serial[1] / parallel[1] }
   }
-  END { exit !inside }' "$1" > "$room/curves" || fail 1 "$1 has no table of bench/run, which begins: | Script | serial | run, 1 worker |"
-blocks=$(grep -c '^"' "$room/curves")
+  END { exit !inside }' "$1" > "$folder/curves" || fail 1 "$1 has no table of bench/run, which begins: | Script | serial | run, 1 worker |"
+blocks=$(grep -c '^"' "$folder/curves")
 [ "$blocks" -gt 0 ] || fail 1 "the first table of bench/run in $1 has no script that takes a thirtieth of a second"
 # The machine, its processors, its system and the day.
 machine=$(grep -m 1 ' processors, ' "$1" | cut -d ';' -f 1,2 | sed "s/[\"'\\]//g")
-gnuplot -e "data = '$room/curves'; blocks = $blocks; machine = '$machine'" \
-  -e "set terminal $terminal size 640,440 background rgb 'white' font 'sans-serif,$font'" "$here/speedup.gnuplot" > "$room/picture" || fail 5 'gnuplot failed'
-cp "$room/picture" "$2"
+gnuplot -e "data = '$folder/curves'; blocks = $blocks; machine = '$machine'" \
+  -e "set terminal $terminal size 640,440 background rgb 'white' font 'sans-serif,$font'" "$here/speedup.gnuplot" > "$folder/picture" || fail 5 'gnuplot failed'
+cp "$folder/picture" "$2"

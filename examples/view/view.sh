@@ -34,16 +34,16 @@ here=$(cd "$(dirname "$0")" && pwd) || exit
 trap 'exit 129' HUP
 trap 'exit 130' INT
 trap 'exit 143' TERM
-trap 'rm -rf "${room-}"' EXIT
-room=$(mktemp -d) || fail 5 'a folder for the log could not be made'
+trap 'rm -rf "${folder-}"' EXIT
+folder=$(mktemp -d) || fail 5 'a folder for the log could not be made'
 
 # Only lines of a log go into the page, so it needs no further care.
 LC_ALL=C awk '
   /^draw [0-9.]+ = [0-9]+$/ || /^new [0-9.]+$/ || /^seed [0-9]+$/ || /^fault [0-9.]+: [a-z ]+$/ || /^-?[0-9]+(\.[0-9]+)*$/ { print; next }
   /^worker [0-9]+$/ { next }
   { print "view.sh: line " NR " is none of a log: " substr($0, 1, 60) > "/dev/stderr"; exit 1 }
-' > "$room/log" || exit 1
-grep -qE '^(draw|new|fault) ' "$room/log" || echo 'view.sh: there is no draw, object or fault: was it a run with --show log?' >&2
+' > "$folder/log" || exit 1
+grep -qE '^(draw|new|fault) ' "$folder/log" || echo 'view.sh: there is no draw, object or fault: was it a run with --show log?' >&2
 
 escaped() { printf '%s' "$1" | sed 's/&/\&amp;/g; s/</\&lt;/g; s/"/\&quot;/g'; }
 {
@@ -51,6 +51,6 @@ escaped() { printf '%s' "$1" | sed 's/&/\&amp;/g; s/</\&lt;/g; s/"/\&quot;/g'; }
     printf '<label>Options of the run <input id="options" size="16" value="%s"></label>\n<label>Script <input id="script" size="24" value="%s"></label>\n' \
       "$(escaped "$options")" "$(escaped "$script")" &&
     sed '1,/^@words@$/d; /^@log@$/,$d' "$here/page.html" &&
-    cat "$room/log" &&
+    cat "$folder/log" &&
     sed '1,/^@log@$/d' "$here/page.html"
 } || fail 5 'the page could not be written'
