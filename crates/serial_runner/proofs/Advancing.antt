@@ -69,8 +69,8 @@ more-uncut (x ∷ answers) a whole h =
     neither cut (any_cut (answers ++ a ∷ [])) (or-first cut (any_cut answers) whole) (more-uncut answers a (or-second cut (any_cut answers) whole) h)
 
 -- By answers of which none is a cut it goes on.
-pub went_whole : (answers : List AnswerView) (t next : TaskView) → any_cut answers ≡ false → IsResumedWith answers t next → next ≡ resumed_view t
-went_whole answers t next whole h = h.whole whole
+pub resumed_whole : (answers : List AnswerView) (t next : TaskView) → any_cut answers ≡ false → IsResumedWith answers t next → next ≡ resumed_view t
+resumed_whole answers t next whole h = h.whole whole
 
 -- Children that a wait is over with aren't awaited
 
@@ -173,8 +173,8 @@ module _ {K : Type 0} (s : Stack K) (is : IsStack s) where
     }
 
     -- It goes on.
-    pub went_up : (top : OpenTask K) (v : TaskView) → top ≡ record { task = v; answers = [] } → v ≡ resumed_view rest → StepsStack s (record { top = top; below = s.below })
-    went_up top v e h =
+    pub resumed_above : (top : OpenTask K) (v : TaskView) → top ≡ record { task = v; answers = [] } → v ≡ resumed_view rest → StepsStack s (record { top = top; below = s.below })
+    resumed_above top v e h =
         subst (λ (f : OpenTask _). StepsStack s (record { top = f; below = s.below })) (sym (e ∙ ap (λ (w : TaskView). open_task w []) h))
         (gone-on (stops_are_sound t (Wait rest.task) is.top.task at.next) (stops_keep_origins t (Wait rest.task) at.next))
 

@@ -28,7 +28,7 @@ use Rattle.serial_runner.specs.Observed.{AreOriginsOf}
 use Rattle.serial_runner.specs.declared.fault_walk.FaultWalk.{FaultWalk}
 use Rattle.serial_runner.specs.declared.fault_walk.FaultWalked.{FaultWalked}
 use Rattle.serial_runner.specs.declared.fault_walk.FaultWalked.TheVariants.{Continues, Ends}
-use Rattle.serial_runner.proofs.Advancing.{none-heard, went_whole}
+use Rattle.serial_runner.proofs.Advancing.{none-heard, resumed_whole}
 use Rattle.serial_runner.proofs.Starts.{unmerged, StartsBeforeStop, stops_start}
 use Rattle.serial_runner.proofs.Walking.{parts-known}
 
@@ -147,7 +147,7 @@ module _ (plan : PlanView) (o : Origin) (w : FaultWalk) (is : IsFaultWalk plan o
       pub faults_by_wait : (answers : List AnswerView) → any_cut answers ≡ false → (v : TaskView) → IsResumedWith answers rest v → (os : List Origin) → os ≡ [] → (after : Option PlacedFault) → after ≡ met → FaultWalksOn plan o w (Continues (record { task = v; awaited = os; met = after }))
       faults_by_wait answers whole v h os e after g =
           subst (λ (f : Option PlacedFault). FaultWalksOn plan o w (Continues (record { task = v; awaited = os; met = f }))) (sym g)
-          (subst (λ (u : TaskView). FaultWalksOn plan o w (Continues (record { task = u; awaited = os; met = met }))) (sym (went_whole answers rest v whole h)) (walk, left))
+          (subst (λ (u : TaskView). FaultWalksOn plan o w (Continues (record { task = u; awaited = os; met = met }))) (sym (resumed_whole answers rest v whole h)) (walk, left))
         where
           no_more : stops_left (with_evaluations rest) ≤ stops_left rest.task
           no_more = answers_leave_no_more rest.task wait-task then_waits

@@ -32,13 +32,13 @@ next-is : (t : Task) (stop : Stop) → IsNext t stop → next t ≡ stop
 unfolding next
 next-is t stop n = stops_are_unique t (stops_exist t).0 stop (stops_exist t).1 n
 
-abbrev gone_on : Task → Task
-gone_on t = on (evaluations (eval t.plan) t.trace.unmerged) t
+abbrev after_wait : Task → Task
+after_wait t = on (evaluations (eval t.plan) t.trace.unmerged) t
 
 -- this stop, and what comes after it
 abbrev with_stop : (Origin → ℕ) → (Task → ℕ) → Stop → ℕ
 with_stop child rest (Spawn o t) = suc (child o + rest t)
-with_stop child rest (Wait t) = suc (rest (gone_on t))
+with_stop child rest (Wait t) = suc (rest (after_wait t))
 with_stop child rest (End out ended) = 1
 
 -- within so many stops of its own, where its children come to so many
@@ -59,7 +59,7 @@ record IsAt (plan : PlanView) (o : Origin) (t : Task) : Type 0 where
 -- what holds after a stop
 abbrev FewerAfter : PlanView → Origin → ℕ → Stop → Type 0
 FewerAfter plan o n (Spawn c t) = IsOriginOf plan c × IsSmaller plan o c × IsAt plan o t × (stops_left t < n)
-FewerAfter plan o n (Wait t) = IsAt plan o (gone_on t) × (stops_left (gone_on t) < n)
+FewerAfter plan o n (Wait t) = IsAt plan o (after_wait t) × (stops_left (after_wait t) < n)
 FewerAfter plan o n (End out ended) = Unit {0}
 
 after-stop : (plan : PlanView) (o : Origin) (t : Task) (stop : Stop) → IsAt plan o t → IsNext t stop → FewerAfter plan o (stops_left t) stop
@@ -73,7 +73,7 @@ after-stop plan o t stop at n = from stop (stops_are_sound t stop at.task n) (st
       fewer.0,
     )
     from (Wait r) sound same fewer starts =
-        let more : stops_left (gone_on r) ≤ stops_left r = answers_leave_no_more r sound fewer.1 in
+        let more : stops_left (after_wait r) ≤ stops_left r = answers_leave_no_more r sound fewer.1 in
         (record { task = answers_keep_tasks r sound; idle = refl; plan_is = same.0 ∙ at.plan_is; origin_is = same.1 ∙ at.origin_is }, less more fewer.0)
       where
         less : {a b c : ℕ} → a ≤ b → b < c → a < c
@@ -114,7 +114,7 @@ module _ (plan : PlanView) (clear : IsClearPlan plan) where
         where
           cong : {a b c d : ℕ} → a ≡ b → c ≡ d → suc (a + c) ≡ suc (b + d)
           cong p q = omega arith
-      by_stop (Wait u) b later = ap suc (later (gone_on u) b.0 (omega (arith, b.1)) (omega (arith, b.1)))
+      by_stop (Wait u) b later = ap suc (later (after_wait u) b.0 (omega (arith, b.1)) (omega (arith, b.1)))
       by_stop (End out ended) b later = refl
 
   begun : (o : Origin) → IsOriginOf plan o → IsAt plan o (start plan o)
@@ -195,7 +195,7 @@ one_less_follows t stop ts is idle n = less _ _ _ (sym first) (by_stop stop (aft
       where
         two : (x y z w : ℕ) → x ≡ y → z ≡ w → y + (w + stops_in_all ts) < suc (x + z) + stops_in_all ts
         two x y z w e h = omega arith
-    by_stop (Wait u) b = one _ _ (stops-enough t.plan t.origin (gone_on u) (stops_left t) is.clear b.0 b.1)
+    by_stop (Wait u) b = one _ _ (stops-enough t.plan t.origin (after_wait u) (stops_left t) is.clear b.0 b.1)
       where
         one : (z w : ℕ) → z ≡ w → w + stops_in_all ts < suc z + stops_in_all ts
         one z w h = omega arith

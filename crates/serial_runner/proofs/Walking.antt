@@ -37,7 +37,7 @@ use Rattle.serial_runner.specs.declared.walk.Walked.{Walked}
 use Rattle.serial_runner.specs.declared.walk.Walked.TheVariants.{Continues, Ends}
 use Rattle.serial_runner.proofs.Observing.{seen-with, seen_child, seen_none, whole_seen, over_seen}
 use Rattle.serial_runner.proofs.Showing.{ShowsStop, stops_show}
-use Rattle.serial_runner.proofs.Advancing.{none-heard, went_whole}
+use Rattle.serial_runner.proofs.Advancing.{none-heard, resumed_whole}
 use Rattle.serial_runner.proofs.Starts.{StartsBeforeStop, unmerged, stops_start}
 
 -- Each child that a task awaits is an origin of its plan.
@@ -183,7 +183,7 @@ module _ (plan : PlanView) (o : Origin) (j : List ℕ) (w : NodeWalk) (is : IsWa
     pub walks_by_wait : ObservationGoesOn → AnswersShowNothing → (answers : List AnswerView) → any_cut answers ≡ false → (v : TaskView) → IsResumedWith answers rest v → (os : List Origin) → os ≡ [] →
         (observed : ObservedInstance) → observed ≡ with_observation n.probe n.events n.fault n.child_fault w.observed → WalksOn plan o j w (Continues (record { task = v; awaited = os; observed = observed }))
     walks_by_wait go nothing answers whole v h os e observed b =
-        subst (λ (u : TaskView). WalksOn plan o j w (Continues (record { task = u; awaited = os; observed = observed }))) (sym (went_whole answers rest v whole h)) (walk, left)
+        subst (λ (u : TaskView). WalksOn plan o j w (Continues (record { task = u; awaited = os; observed = observed }))) (sym (resumed_whole answers rest v whole h)) (walk, left)
       where
         kept : KeepsOrigin t (stop_of at)
         kept = same at n.probe n.events n.fault n.child_fault observed_wait

@@ -10,4 +10,4 @@ mod start;
 
 pub use links::Links;
 pub use memory::Memory;
-pub use origin::{iteration_args, part_of, path, share_origin, share_values};
+pub use origin::{iteration_args, iteration_args_in, part_of, path, share_origin, share_values};

@@ -1,5 +1,5 @@
 // Origins: copies of them, their paths, and the iterations of loops.
-ghost use Rattle.std.specs.Prelude.{◌≡◌, ◌∷◌, IfOk, pos};
+ghost use Rattle.std.specs.Prelude.{◌≡◌, [], ◌∷◌, IfOk, pos};
 ghost use Rattle.std.specs.Int.{int_wrapping_add, w64};
 ghost use Rattle.serial_meaning.specs.declared.value.Value.TheVariants.{Int};
 ghost use Rattle.serial_meaning.specs.Eval.{path_of};
@@ -75,10 +75,25 @@ pub fn iteration_args(
 ) -> Result<Items<Value>, Memory>
     ensures { IfOk result (λ args. args ≡ Int (int_wrapping_add w64 first (pos k)) ∷ rest.now) }
 {
-    let mut args = share_values(alloc, rest)?;
-    args.0
-        .insert(0, Value::Int(first.wrapping_add_unsigned(k)))?;
-    Ok(args)
+    iteration_args_in(first, rest, k, Items(Vec::new(alloc)))
+}
+
+/// The same, in this empty list.
+pub fn iteration_args_in(
+    first: i64,
+    rest: &[Value],
+    k: u64,
+    room: Items<Value>,
+) -> Result<Items<Value>, Memory>
+    requires { room ≡ [] }
+    ensures { IfOk result (λ args. args ≡ Int (int_wrapping_add w64 first (pos k)) ∷ rest.now) }
+{
+    let mut args = room.0;
+    args.push(Value::Int(first.wrapping_add_unsigned(k)))?;
+    for value in rest {
+        args.push(value.share()?)?;
+    }
+    Ok(Items(args))
 }
 
 /// A loop's origin with only these of its iterations.

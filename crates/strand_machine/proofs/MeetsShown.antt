@@ -30,7 +30,7 @@ stage-is plan path (Ended (Err (ChildFaulted f))) = refl
 remaining-is : (plan : PlanView) (path : List ℕ) (remaining : Remaining) → (remaining_observation plan path remaining).fault ≡ fault_met (remaining_meets plan path remaining)
 remaining-is plan path (Splits left) = refl
 remaining-is plan path (Runs stage) = stage-is plan path stage
-remaining-is plan path (Finished v gone_on) = refl
+remaining-is plan path (Finished v has_waited) = refl
 
 step-is : (t : Task) → (step_observation t).fault ≡ fault_met (step_meets t)
 step-is t = remaining-is t.plan (path_of (own_instance t.origin)) t.remaining

@@ -39,7 +39,7 @@ result_of_outcome (outcome.Cut f) = Err f
 abbrev pub with_stage : (meaning.Stage → meaning.Stage) → meaning.Remaining → meaning.Remaining
 with_stage change (Splits left) = Splits left
 with_stage change (Runs stage) = Runs (change stage)
-with_stage change (Finished v gone_on) = Finished v gone_on
+with_stage change (Finished v has_waited) = Finished v has_waited
 
 -- An instance in a stage, or in what remains of a task, is one of the plan.
 abbrev pub IsStageOfPlan : PlanView → Stage → Type 0

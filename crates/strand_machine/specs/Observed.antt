@@ -34,6 +34,6 @@ with_step j step observation = record {
 
 -- what a move of an instance shows
 abbrev pub result_observation : MoveResult → meaning.Observation
-result_observation (move_result.Went s) = record { items = effect_items (effects_of s); fault = None; child_fault = None }
+result_observation (move_result.Moved s) = record { items = effect_items (effects_of s); fault = None; child_fault = None }
 result_observation (move_result.Returned v) = no_observation
 result_observation (move_result.Faulted f) = record { items = []; fault = Some f; child_fault = None }

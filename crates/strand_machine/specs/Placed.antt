@@ -28,7 +28,7 @@ stage_meets plan path (Ended e) = None
 abbrev pub remaining_meets : PlanView → List ℕ → Remaining → Option PlacedFault
 remaining_meets plan path (Splits left) = None
 remaining_meets plan path (Runs stage) = stage_meets plan path stage
-remaining_meets plan path (Finished v gone_on) = None
+remaining_meets plan path (Finished v has_waited) = None
 
 -- the fault of its instance's own that a task meets by its next move
 abbrev pub step_meets : Task → Option PlacedFault
@@ -55,6 +55,6 @@ pub record IsPlaced (t : TaskView) (n : PlacedStop) : Type 0 where
 
 -- the fault that a move meets, of an instance that stood there
 abbrev pub result_meets : Place → MoveResult → Option PlacedFault
-result_meets place (move_result.Went s) = None
+result_meets place (move_result.Moved s) = None
 result_meets place (move_result.Returned v) = None
 result_meets place (move_result.Faulted f) = Some (record { fault = f; place = place })

@@ -116,7 +116,7 @@ pub record IsCutOn (answers : List AnswerView) (t next : TaskView) : Type 0 wher
   pub children : next.children ≡ t.children
   pub joins : next.joins ≡ t.joins
 
--- the task once it went on with its children's answers
+-- the task resumed with its children's answers
 abbrev pub resumed_view : TaskView → TaskView
 resumed_view t = record t { task = with_evaluations t }
 

@@ -52,13 +52,13 @@ stage_of plan (stage.ChildFaulted f) = meaning.Ended (Err (ChildFaulted f))
 abbrev pub remaining_of : PlanView → Remaining → meaning.Remaining
 remaining_of plan (remaining.Splits left) = meaning.Splits left.range
 remaining_of plan (remaining.Runs s) = meaning.Runs (stage_of plan s)
-remaining_of plan (remaining.Finished v gone_on) = meaning.Finished v gone_on
+remaining_of plan (remaining.Finished v has_waited) = meaning.Finished v has_waited
 remaining_of plan (remaining.Ends o) = meaning.Finished (Int (pos 0)) true
 
 abbrev pub cut_of : Remaining → Option Outcome
 cut_of (remaining.Splits left) = None
 cut_of (remaining.Runs s) = None
-cut_of (remaining.Finished v gone_on) = None
+cut_of (remaining.Finished v has_waited) = None
 cut_of (remaining.Ends o) = Some o
 
 abbrev pub has_outcome : Option Outcome → Bool
@@ -107,7 +107,7 @@ StandsAt plan path (stage.ChildFaulted f) = Unit {0}
 abbrev pub RemainsAt : PlanView → Origin → Remaining → Type 0
 RemainsAt plan o (remaining.Splits left) = IsTrailOf plan o left.trail
 RemainsAt plan o (remaining.Runs s) = StandsAt plan (path_of (own_instance o)) s
-RemainsAt plan o (remaining.Finished v gone_on) = Unit {0}
+RemainsAt plan o (remaining.Finished v has_waited) = Unit {0}
 RemainsAt plan o (remaining.Ends ended) = ⊥
 
 -- What holds of a task that goes on: it hasn't ended, and took no cut.
@@ -126,7 +126,7 @@ pub record HasOutcome {K : Type 0} (b : TaskState K) (ended : Outcome) : Type 0 
 abbrev pub HoldsOfTask : {K : Type 0} → TaskState K → Remaining → Type 0
 HoldsOfTask b (remaining.Splits left) = IsSound b (remaining.Splits left)
 HoldsOfTask b (remaining.Runs s) = IsSound b (remaining.Runs s)
-HoldsOfTask b (remaining.Finished v gone_on) = IsSound b (remaining.Finished v gone_on)
+HoldsOfTask b (remaining.Finished v has_waited) = IsSound b (remaining.Finished v has_waited)
 HoldsOfTask b (remaining.Ends ended) = HasOutcome b ended
 
 -- after a step; where it waits; where it began a child

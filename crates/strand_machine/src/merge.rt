@@ -23,7 +23,7 @@ use crate::trace::{AfterChild, Trace};
 use contract_views::Items;
 use serial_meaning::{Answer, Fault, Keep, Out, Outcome, Plan, Value};
 use std::alloc::Global;
-use strand_moves::Instance;
+use strand_moves::{Instance, InstancePool};
 use strand_values::Target;
 
 // What the answers merged into a task so far say.
@@ -260,7 +260,11 @@ impl Merging {
 }
 
 // More values of a loop. The first ones are those of its lower half, with which room is made for those of the other half.
-fn add_values(values: &mut Items<Value>, more: Items<Value>) -> Result<(), Memory>
+fn add_values(
+    values: &mut Items<Value>,
+    more: Items<Value>,
+    pool: &mut InstancePool,
+) -> Result<(), Memory>
     ensures { OnOk result (values.new ≡ values.old ++ more) }
 {
     let mut more = more;
@@ -269,16 +273,21 @@ fn add_values(values: &mut Items<Value>, more: Items<Value>) -> Result<(), Memor
         values.0.reserve(all)?;
     }
     values.0.append(&mut more.0)?;
+    pool.keep_values(more);
     Ok(())
 }
 
 // The values of a half of a loop.
-fn add_half(values: &mut Items<Value>, outcome: Outcome) -> Result<(), Memory>
+fn add_half(
+    values: &mut Items<Value>,
+    outcome: Outcome,
+    pool: &mut InstancePool,
+) -> Result<(), Memory>
     ensures { OnOk result (values.new ≡ more_values Half (result_of_outcome outcome) values.old) }
 {
     match outcome {
         Outcome::Value(value) => Ok(values.0.push(value)?),
-        Outcome::Values(more) => add_values(values, more),
+        Outcome::Values(more) => add_values(values, more, pool),
         Outcome::Fault(_) => {
             drop(outcome);
             Ok(())
@@ -298,6 +307,7 @@ fn merge_value(
     plan: &Plan,
     destination: Destination,
     outcome: Outcome,
+    pool: &mut InstancePool,
 ) -> Result<(), Memory>
     requires of_plan { IsRemainingOfPlan plan.now remaining.old }
     requires found { RemainingFinds plan.now (destination_of destination) (remaining_of plan.now remaining.old) }
@@ -305,7 +315,7 @@ fn merge_value(
     ensures remaining { OnOk result (BecomesRemaining (with_stage (takes (destination_of destination) (result_of_outcome outcome))) remaining.old remaining.new) }
 {
     if let Destination::Half = destination {
-        return add_half(values, outcome);
+        return add_half(values, outcome, pool);
     }
     merge_remaining(remaining, alloc, plan, destination, outcome)
 }
@@ -346,6 +356,7 @@ pub(crate) fn merge_answer<K: Keep>(
             state.links.plan(),
             destination,
             outcome,
+            &mut pool.instances,
         ),
         Err(memory) => {
             drop((destination, outcome));

@@ -101,13 +101,13 @@ impl Observed {
         ensures { OnOk result (self.new ≡ with_step at.now (result_observation move_result.now) self.old) }
     {
         match move_result {
-            MoveResult::Went(Effects::Nothing) => {}
-            MoveResult::Went(Effects::Opened(path)) => self.probe.enter_scope(at, path),
-            MoveResult::Went(Effects::Closed(scope)) => self.probe.leave_scope(at, scope),
-            MoveResult::Went(Effects::Emitted(event)) => self.emit(alloc, at, event)?,
-            MoveResult::Went(Effects::Synced(event)) => self.emit(alloc, at, event)?,
-            MoveResult::Went(Effects::Spawned { event, .. }) => self.emit(alloc, at, event)?,
-            MoveResult::Went(Effects::Looped { event, .. }) => self.emit(alloc, at, event)?,
+            MoveResult::Moved(Effects::Nothing) => {}
+            MoveResult::Moved(Effects::Opened(path)) => self.probe.enter_scope(at, path),
+            MoveResult::Moved(Effects::Closed(scope)) => self.probe.leave_scope(at, scope),
+            MoveResult::Moved(Effects::Emitted(event)) => self.emit(alloc, at, event)?,
+            MoveResult::Moved(Effects::Synced(event)) => self.emit(alloc, at, event)?,
+            MoveResult::Moved(Effects::Spawned { event, .. }) => self.emit(alloc, at, event)?,
+            MoveResult::Moved(Effects::Looped { event, .. }) => self.emit(alloc, at, event)?,
             MoveResult::Returned(_) => {}
             MoveResult::Faulted(fault) => set(&mut self.fault, Some(fault.share()?)),
         }
@@ -144,7 +144,7 @@ fn go_observed(
         }
     }
     match move_result {
-        MoveResult::Went(effects) => apply_effects(
+        MoveResult::Moved(effects) => apply_effects(
             parts,
             alloc,
             instance,

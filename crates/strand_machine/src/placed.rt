@@ -44,7 +44,7 @@ fn note(met: &mut Option<PlacedFault>, place: Place, move_result: &MoveResult) -
     ensures { OnOk result (met.new ≡ latest met.old (result_meets place move_result.now)) }
 {
     match move_result {
-        MoveResult::Went(_) => {}
+        MoveResult::Moved(_) => {}
         MoveResult::Returned(_) => {}
         MoveResult::Faulted(fault) => {
             let fault = fault.share()?;
@@ -82,7 +82,7 @@ fn go_placed(
         }
     }
     match move_result {
-        MoveResult::Went(effects) => apply_effects(
+        MoveResult::Moved(effects) => apply_effects(
             parts,
             alloc,
             instance,

@@ -18,7 +18,7 @@ use loop_range::IterRange;
 use serial_meaning::{Fault, Origin, Outcome, Plan, Value};
 use std::alloc::Global;
 use std::mem;
-use strand_family::iteration_args;
+use strand_family::iteration_args_in;
 use strand_meaning::laws;
 use strand_moves::{Instance, InstancePool};
 
@@ -146,16 +146,11 @@ pub(crate) fn begun_last(
             ..
         } => {
             let k = range.hi.saturating_sub(1);
-            let args = iteration_args(alloc, *first, rest.as_slice(), k)?;
+            let args = iteration_args_in(*first, rest.as_slice(), k, pool.values(alloc))?;
             let trail = trail.child(alloc, &plan.gamma, k)?;
-            Ok(Remaining::Runs(begun_instance(
-                alloc,
-                plan,
-                *function,
-                args.as_slice(),
-                trail,
-                pool,
-            )?))
+            let stage = begun_instance(alloc, plan, *function, args.as_slice(), trail, pool)?;
+            pool.keep_values(args);
+            Ok(Remaining::Runs(stage))
         }
     }
 }

@@ -1,5 +1,5 @@
 // How a task continues after a wait. There are two sources of answers: the task's own join (`resume`, `resume_in`), and a runner that keeps
-// the answers itself (`resume_with`, `resume_by`). The second call for each hands back the list of the answers, to be used again.
+// the answers itself (`resume_with`, `resume_by`). The second call for each gives back the list of the answers, to be used again.
 ghost use Rattle.std.specs.Prelude.{◌≡◌, ◌-◌, [], true, false, length, drop, IfOk, OnOk};
 ghost use Rattle.strand_meaning.specs.Task.{resumed, resumed_remaining};
 ghost use Rattle.strand_machine.specs.Links.{tags, origins, AwaitsCount};
@@ -83,8 +83,8 @@ fn resume_remaining(remaining: &mut Remaining) -> Result<(), Memory>
             set(stage, resume_stage(was)?);
             Ok(())
         }
-        Remaining::Finished(_, gone_on) => {
-            *gone_on = true;
+        Remaining::Finished(_, has_waited) => {
+            *has_waited = true;
             Ok(())
         }
     }
@@ -164,7 +164,7 @@ pub(crate) fn resume_parts<K: Keep>(
 ) -> Result<Items<Answer<K>>, Memory>
     requires sound { HasTakenAnswers parts.old.state parts.old.remaining }
     requires tags { answer_tags answers ≡ tags parts.old.state.links.plan (awaited parts.old.state.trace.unmerged) }
-    ensures went { OnOk result (IsResumedWith answers (view_of parts.old.state parts.old.remaining) (view_of parts.new.state parts.new.remaining)) }
+    ensures is_resumed { OnOk result (IsResumedWith answers (view_of parts.old.state parts.old.remaining) (view_of parts.new.state parts.new.remaining)) }
     ensures answers { OnOk result (AreAnswersOf parts.old.state.links.plan parts.old.state.trace.unmerged answers) }
     ensures none { IfOk result (λ left. left ≡ []) }
     ensures holds { OnOk result (HoldsOfTask parts.new.state parts.new.remaining) }
@@ -274,7 +274,7 @@ impl<K: Keep> Task<K> {
     ) -> Result<(Task<K>, Items<Answer<K>>), Memory>
         requires waits { self.task.waiting ≡ true }
         requires tags { answer_tags answers ≡ tags self.task.plan (awaited self.task.trace.unmerged) }
-        ensures went { IfOk result (λ resumed. IsResumedWith answers self resumed.0) }
+        ensures is_resumed { IfOk result (λ resumed. IsResumedWith answers self resumed.0) }
         ensures none { IfOk result (λ resumed. resumed.1 ≡ []) }
     {
         let Task { mut parts } = self;

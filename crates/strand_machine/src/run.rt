@@ -218,8 +218,8 @@ pub(crate) fn go<K: Keep>(
             Err(memory) => return Err(memory.into()),
         }
         match instance.make(alloc, plan, next) {
-            Ok(MoveResult::Went(Effects::Nothing)) => {}
-            Ok(MoveResult::Went(effects)) => return apply_effects(
+            Ok(MoveResult::Moved(Effects::Nothing)) => {}
+            Ok(MoveResult::Moved(effects)) => return apply_effects(
                 parts, alloc, instance, effects, pool,
             ),
             Ok(MoveResult::Returned(value)) => {

@@ -17,12 +17,13 @@ use crate::stop::{Passed, Stop};
 use crate::task::Task;
 use crate::task_pool::TaskPool;
 use crate::task_state::TaskState;
+use contract_views::Items;
 use serial_meaning::{Keep, Outcome, Value};
 use std::alloc::Global;
 use std::mem;
 use strand_family::part_of;
 use strand_meaning::laws;
-use strand_moves::Child;
+use strand_moves::{Child, InstancePool};
 
 // A loop with these iterations left: their lower half goes to a child, and the last one is begun.
 fn split_loop<K: Keep>(
@@ -63,16 +64,27 @@ fn split_loop<K: Keep>(
     Ok(pass(parts, remaining))
 }
 
+// These values. Where there are none, their list is one of the pool.
+fn with_room(values: Items<Value>, alloc: Global, pool: &mut InstancePool) -> Items<Value>
+    ensures { result ≡ values }
+{
+    if values.0.is_empty() {
+        return pool.values(alloc);
+    }
+    values
+}
+
 // A loop ends, with this value after those that were taken.
 fn end_loop_with<K: Keep>(
     state: &mut TaskState<K>,
     alloc: Global,
     value: Value,
+    pool: &mut TaskPool<K>,
 ) -> Result<Passed<K>, Memory>
     ensures ends { IfOk result (λ passed. passed ≡ Passed.Ends (outcome.Values (state.old.values ++ value ∷ []))) }
     ensures state { OnOk result (state.new ≡ record state.old { values = [] }) }
 {
-    let mut values = state.take_values(alloc);
+    let mut values = with_room(state.take_values(alloc), alloc, &mut pool.instances);
     values.0.push(value)?;
     Ok(Passed::Ends(Outcome::Values(values)))
 }
@@ -82,20 +94,21 @@ fn end_loop<K: Keep>(
     parts: &mut Parts<K>,
     alloc: Global,
     value: Value,
-    gone_on: bool,
+    has_waited: bool,
+    pool: &mut TaskPool<K>,
 ) -> Result<Passed<K>, Memory>
-    requires { IsSound parts.old.state (remaining.Finished value gone_on) }
-    ensures step { IfOk result (λ passed. IsStep (view_of parts.old.state (remaining.Finished value gone_on)) (made parts.new passed)) }
+    requires { IsSound parts.old.state (remaining.Finished value has_waited) }
+    ensures step { IfOk result (λ passed. IsStep (view_of parts.old.state (remaining.Finished value has_waited)) (made parts.new passed)) }
     ensures sound { IfOk result (IsSoundMade parts.new) }
 {
     laws::steps_are_sound();
-    if gone_on {
-        return end_loop_with(&mut parts.state, alloc, value);
+    if has_waited {
+        return end_loop_with(&mut parts.state, alloc, value, pool);
     }
     if parts.state.is_long() {
         return Ok(wait(parts, Remaining::Finished(value, false)));
     }
-    end_loop_with(&mut parts.state, alloc, value)
+    end_loop_with(&mut parts.state, alloc, value, pool)
 }
 
 // A move of an instance, or a stop, by its state.
@@ -134,7 +147,7 @@ pub(crate) fn pass_with<K: Keep>(
     match remaining {
         Remaining::Splits(left) => split_loop(parts, alloc, left, pool),
         Remaining::Runs(stage) => run(parts, alloc, stage, pool),
-        Remaining::Finished(value, gone_on) => end_loop(parts, alloc, value, gone_on),
+        Remaining::Finished(value, has_waited) => end_loop(parts, alloc, value, has_waited, pool),
         Remaining::Ends(_) => unreachable!(),
     }
 }

@@ -23,7 +23,7 @@ functions_at (Ended ended) = []
 abbrev pub functions_left : Remaining → List ℕ
 functions_left (Splits left) = []
 functions_left (Runs stage) = functions_at stage
-functions_left (Finished v gone_on) = []
+functions_left (Finished v has_waited) = []
 
 abbrev pub variables_in : Option Function → List (List ℕ)
 variables_in None = []

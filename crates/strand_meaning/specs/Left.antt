@@ -55,7 +55,7 @@ remaining_stops plan o waiting awaiting (Finished v true) = 1
 abbrev pub stops_of : PlanView → Origin → Bool → List AwaitedChild → Remaining → ℕ
 stops_of plan o waiting awaiting (Splits left) = (left.hi - left.lo) + remaining_stops plan o false [] (begins_last plan o)
 stops_of plan o waiting awaiting (Runs stage) = remaining_stops plan o waiting awaiting (Runs stage)
-stops_of plan o waiting awaiting (Finished v gone_on) = remaining_stops plan o waiting awaiting (Finished v gone_on)
+stops_of plan o waiting awaiting (Finished v has_waited) = remaining_stops plan o waiting awaiting (Finished v has_waited)
 
 abbrev pub stops_left : Task → ℕ
 stops_left t = stops_of t.plan t.origin t.waiting t.trace.unmerged t.remaining
@@ -85,7 +85,7 @@ stage_moves (Ended e) = 1
 abbrev pub remaining_moves : PlanView → Remaining → ℕ
 remaining_moves plan (Splits left) = 3 + 3 * plan.limits.budget
 remaining_moves plan (Runs stage) = stage_moves stage
-remaining_moves plan (Finished v gone_on) = 0
+remaining_moves plan (Finished v has_waited) = 0
 
 abbrev pub moves_left : Task → ℕ
 moves_left t = remaining_moves t.plan t.remaining

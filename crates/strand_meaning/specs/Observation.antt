@@ -24,7 +24,7 @@ IsInstanceOrigin (Loop function rest first path range) = ⊥
 abbrev pub remaining_node : PlanView → Origin → List AwaitedChild → Remaining → Node
 remaining_node plan o awaiting (Splits left) = done []
 remaining_node plan o awaiting (Runs stage) = rest_open plan (children_of plan o) (path_of o) awaiting stage then λ v. done (v ∷ [])
-remaining_node plan o awaiting (Finished v gone_on) = done []
+remaining_node plan o awaiting (Finished v has_waited) = done []
 
 abbrev pub node_left : Task → Node
 node_left t = remaining_node t.plan t.origin t.trace.unmerged t.remaining
@@ -74,7 +74,7 @@ stage_observation plan path (Ended (Err (ChildFaulted f))) = record { items = []
 abbrev pub remaining_observation : PlanView → List ℕ → Remaining → Observation
 remaining_observation plan path (Splits left) = no_observation
 remaining_observation plan path (Runs stage) = stage_observation plan path stage
-remaining_observation plan path (Finished v gone_on) = no_observation
+remaining_observation plan path (Finished v has_waited) = no_observation
 
 abbrev pub step_observation : Task → Observation
 step_observation t = remaining_observation t.plan (path_of (own_instance t.origin)) t.remaining
@@ -112,7 +112,7 @@ stage_fault (Ended e) = own_fault_of e
 abbrev pub remaining_fault : Remaining → Option Fault
 remaining_fault (Splits left) = None
 remaining_fault (Runs stage) = stage_fault stage
-remaining_fault (Finished v gone_on) = None
+remaining_fault (Finished v has_waited) = None
 
 -- All that an instance's task showed since it began is observed: its node is that, followed by the node of what is left.
 pub record IsOnWay (observation : Observation) (t : Task) : Type 0 where

@@ -149,7 +149,7 @@ remaining_run plan o awaiting (Splits left) values = iterations_left (eval plan)
 remaining_run plan o awaiting (Runs stage) values =
     let child = children_of plan (own_instance o) in
     closed_run child (rest_open plan child (path_of (own_instance o)) awaiting stage) then λ v. done (all_with o values v)
-remaining_run plan o awaiting (Finished v gone_on) values = done (values ++ v ∷ [])
+remaining_run plan o awaiting (Finished v has_waited) values = done (values ++ v ∷ [])
 
 -- A trace with each child's evaluation in its place, followed by what remains, up to the first fault.
 abbrev pub finish : Task → Evaluation

@@ -132,7 +132,7 @@ UnfilledArePending plan awaiting (Ended ended) = Unit {0}
 abbrev pub UnfilledArePendingIn : PlanView → List AwaitedChild → Remaining → Type 0
 UnfilledArePendingIn plan awaiting (Splits left) = Unit {0}
 UnfilledArePendingIn plan awaiting (Runs stage) = UnfilledArePending plan awaiting stage
-UnfilledArePendingIn plan awaiting (Finished v gone_on) = Unit {0}
+UnfilledArePendingIn plan awaiting (Finished v has_waited) = Unit {0}
 
 -- Work
 

@@ -234,7 +234,7 @@ takes_all (p ∷ ps) (answer ∷ answers) stage = takes_all ps answers (takes p.
 abbrev pub resumed_remaining : List AwaitedChild → List Evaluation → Remaining → Remaining
 resumed_remaining awaiting answers (Splits left) = Splits left
 resumed_remaining awaiting answers (Runs stage) = Runs (resumed (takes_all awaiting answers stage))
-resumed_remaining awaiting answers (Finished v gone_on) = Finished v true
+resumed_remaining awaiting answers (Finished v has_waited) = Finished v true
 
 abbrev pub more_values : Destination → Result (List Value) Fault → List Value → List Value
 more_values (Spawned height target) ended values = values

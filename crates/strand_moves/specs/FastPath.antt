@@ -31,24 +31,24 @@ use Rattle.strand_moves.specs.StraightRuns.{SilentRun}
 
 -- what was done without showing anything, as a move
 abbrev pub silent : Result (Unit {0}) values.EvaluationError → Result MoveResult values.EvaluationError
-silent (Ok u) = Ok (move_result.Went effect.Nothing)
+silent (Ok u) = Ok (move_result.Moved effect.Nothing)
 silent (Err h) = Err h
 
 -- whether it was done; want of memory is no answer
-abbrev pub IsWent : Result (Unit {0}) values.EvaluationError → Bool → Type 0
-IsWent (Ok u) went = went ≡ true
-IsWent (Err (error.Fault kind)) went = went ≡ false
-IsWent (Err error.Memory) went = ⊥
+abbrev pub IsMoved : Result (Unit {0}) values.EvaluationError → Bool → Type 0
+IsMoved (Ok u) moved = moved ≡ true
+IsMoved (Err (error.Fault kind)) moved = moved ≡ false
+IsMoved (Err error.Memory) moved = ⊥
 
 -- what showed an event, as a move
 abbrev pub emitted : Result Event values.EvaluationError → Result MoveResult values.EvaluationError
-emitted (Ok e) = Ok (move_result.Went (effect.Emitted e))
+emitted (Ok e) = Ok (move_result.Moved (effect.Emitted e))
 emitted (Err h) = Err h
 
 -- a return's step, as a move, with the sync at this pedigree, if it implies one
 abbrev pub synced_at : List ℕ → Result Bool FaultKind → Result MoveResult values.EvaluationError
-synced_at j (Ok true) = Ok (move_result.Went (effect.Emitted (event.Sync j)))
-synced_at j (Ok false) = Ok (move_result.Went effect.Nothing)
+synced_at j (Ok true) = Ok (move_result.Moved (effect.Emitted (event.Sync j)))
+synced_at j (Ok false) = Ok (move_result.Moved effect.Nothing)
 synced_at j (Err kind) = Err (error.Fault kind)
 
 -- whether an event was shown, which the sink then took; want of memory is no answer
@@ -94,14 +94,14 @@ ByFault run = (f : Fault) × (run ≡ record { items = []; ending = Err f })
 
 -- Either the statement was done and showed nothing, or nothing changed, and the statement, if it is plain, meets a fault.
 abbrev pub IsDone : Stmt → Act-F Act Stmt → InstanceParts → InstanceParts → Bool → Type 0
-IsDone st a old new true = (plan : PlanView) → acted plan (present_of old) (machine_of plan old) st a ≡ run_of (move_result.Went effect.Nothing) (machine_of plan new)
+IsDone st a old new true = (plan : PlanView) → acted plan (present_of old) (machine_of plan old) st a ≡ run_of (move_result.Moved effect.Nothing) (machine_of plan new)
 IsDone st a old new false = (new ≡ old) × ((plan : PlanView) → is_plain a ≡ true → ByFault (acted plan (present_of old) (machine_of plan old) st a))
 
 -- The same for the statement that the cursor has just passed and whose step is paid.
 abbrev pub IsSilent : Stmt → InstanceParts → InstanceParts → Bool → Type 0
 IsSilent st old new true =
     (plan : PlanView) → IsAfterStatement (statements_of plan old.top) old.top.cursor st →
-    acted plan (present_of old) (machine_of plan old) st (out-Act (out-Stmt st).act) ≡ run_of (move_result.Went effect.Nothing) (machine_of plan new)
+    acted plan (present_of old) (machine_of plan old) st (out-Act (out-Stmt st).act) ≡ run_of (move_result.Moved effect.Nothing) (machine_of plan new)
 IsSilent st old new false =
     (new ≡ old)
     × ((plan : PlanView) → IsAfterStatement (statements_of plan old.top) old.top.cursor st → is_plain (out-Act (out-Stmt st).act) ≡ true →
@@ -132,14 +132,14 @@ is_emitting (act.Scope a) = false
 -- Either the statement was done and the sink took its event, or nothing changed, and the statement, if it is an emitting one, meets a fault.
 abbrev pub HasEmitted : {S : Type 0} → (Event → S → S) → PlanView → Stmt → Act-F Act Stmt → InstanceParts → S → InstanceParts → S → Bool → Type 0
 HasEmitted after plan st a old from new to true =
-    (e : Event) × (to ≡ after e from) × (acted plan (present_of old) (machine_of plan old) st a ≡ run_of (move_result.Went (effect.Emitted e)) (machine_of plan new))
+    (e : Event) × (to ≡ after e from) × (acted plan (present_of old) (machine_of plan old) st a ≡ run_of (move_result.Moved (effect.Emitted e)) (machine_of plan new))
 HasEmitted after plan st a old from new to false =
     (new ≡ old) × (to ≡ from) × (is_emitting a ≡ true → ByFault (acted plan (present_of old) (machine_of plan old) st a))
 
 -- Either a call was begun, or skipped where its function doesn't exist; or nothing changed.
 abbrev pub HasCalled : PlanView → Stmt → Act-F Act Stmt → InstanceParts → InstanceParts → Bool → Type 0
 HasCalled plan st a old new true =
-    (acted plan (present_of old) (machine_of plan old) st a ≡ run_of (move_result.Went effect.Nothing) (machine_of plan new)) × Stays old new × BeginsOne old new
+    (acted plan (present_of old) (machine_of plan old) st a ≡ run_of (move_result.Moved effect.Nothing) (machine_of plan new)) × Stays old new × BeginsOne old new
 HasCalled plan st a old new false = new ≡ old
 
 -- the innermost frame is of the same function, in the same scopes, over the same frames, and no step is paid
@@ -167,8 +167,8 @@ HasGone after plan st old from new to form.Other = (new ≡ record old { steps =
 -- A move that showed nothing, or an event, which the sink took.
 abbrev pub IsSentMove : {S : Type 0} → (Event → S → S) → PlanView → InstanceParts → S → InstanceParts → S → Type 0
 IsSentMove after plan old from new to =
-    ((move plan (path_of old) (machine_of plan old) ≡ run_of (move_result.Went effect.Nothing) (machine_of plan new)) × (to ≡ from))
-    ⊎ ((e : Event) × (move plan (path_of old) (machine_of plan old) ≡ run_of (move_result.Went (effect.Emitted e)) (machine_of plan new)) × (to ≡ after e from))
+    ((move plan (path_of old) (machine_of plan old) ≡ run_of (move_result.Moved effect.Nothing) (machine_of plan new)) × (to ≡ from))
+    ⊎ ((e : Event) × (move plan (path_of old) (machine_of plan old) ≡ run_of (move_result.Moved (effect.Emitted e)) (machine_of plan new)) × (to ≡ after e from))
 
 -- At least one step or one frame less is left.
 abbrev pub Shortens : InstanceParts → InstanceParts → Type 0

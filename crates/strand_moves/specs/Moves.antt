@@ -49,13 +49,13 @@ ShowsTrail plan (effect.Synced e) = Unit {0}
 ShowsTrail plan (effect.Looped e l) = IsTrailOf plan l.child.origin l.child.trail
 
 abbrev pub MovesTrail : PlanView → MoveResult → Type 0
-MovesTrail plan (move_result.Went s) = ShowsTrail plan s
+MovesTrail plan (move_result.Moved s) = ShowsTrail plan s
 MovesTrail plan (move_result.Returned v) = Unit {0}
 MovesTrail plan (move_result.Faulted f) = Unit {0}
 
 -- a move that ends in this machine, if it ends in one
 abbrev pub run_of : MoveResult → Machine → Run Effect Fault Reached
-run_of (move_result.Went s) m = record { items = effects_of s; ending = Ok (Stands m) }
+run_of (move_result.Moved s) m = record { items = effects_of s; ending = Ok (Stands m) }
 run_of (move_result.Returned v) m = record { items = []; ending = Ok (Gives v) }
 run_of (move_result.Faulted f) m = record { items = []; ending = Err f }
 

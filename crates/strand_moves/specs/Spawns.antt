@@ -20,7 +20,7 @@ use Rattle.strand_moves.specs.InstanceParts.{machine_of, path_of}
 
 -- a spawn that showed this event, as a move
 abbrev pub spawn_as_move : Event → Result SpawnedChild values.EvaluationError → Result MoveResult values.EvaluationError
-spawn_as_move e (Ok s) = Ok (move_result.Went (effect.Spawned e s))
+spawn_as_move e (Ok s) = Ok (move_result.Moved (effect.Spawned e s))
 spawn_as_move e (Err h) = Err h
 
 -- It is that move, where there was memory for its box.
@@ -35,7 +35,7 @@ DoesAs st to c = (plan : PlanView) (here : List ℕ) (m : Machine) → acted pla
 abbrev pub HasSpawned : {S : Type 0} → (Event → S → S) → PlanView → InstanceParts → S → Option Stmt → InstanceParts → S → Option SpawnedChild → Type 0
 HasSpawned after plan old from next new to None = (new ≡ old) × (to ≡ from)
 HasSpawned after plan old from next new to (Some s) =
-    (e : Event) × (to ≡ after e from) × (move plan (path_of old) (unpassed plan old next) ≡ run_of (move_result.Went (effect.Spawned e s)) (machine_of plan new))
+    (e : Event) × (to ≡ after e from) × (move plan (path_of old) (unpassed plan old next) ≡ run_of (move_result.Moved (effect.Spawned e s)) (machine_of plan new))
 
 -- the child has the trail of its origin
 abbrev pub SpawnsTrail : PlanView → Option SpawnedChild → Type 0

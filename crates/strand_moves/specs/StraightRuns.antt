@@ -16,9 +16,9 @@ use Rattle.strand_moves.specs.InstanceParts.{IsInstance, machine_of, path_of, st
 -- Such moves lead from the first of these instances to the other. A sink takes the events that they show.
 pub data StraightRun {S : Type 0} (after : Event → S → S) (plan : PlanView) (first : InstanceParts) (start : S) : InstanceParts → S → Type 0 where
   Still : (now : InstanceParts) (sent : S) → now ≡ first → sent ≡ start → StraightRun after plan first start now sent
-  More : (before now : InstanceParts) (sent : S) → StraightRun after plan first start before sent → move plan (path_of before) (machine_of plan before) ≡ run_of (move_result.Went effect.Nothing) (machine_of plan now) → path_of now ≡ path_of before →
+  More : (before now : InstanceParts) (sent : S) → StraightRun after plan first start before sent → move plan (path_of before) (machine_of plan before) ≡ run_of (move_result.Moved effect.Nothing) (machine_of plan now) → path_of now ≡ path_of before →
       IsInstance plan now → StraightRun after plan first start now sent
-  Emits : (before now : InstanceParts) (earlier sent : S) (e : Event) → StraightRun after plan first start before earlier → move plan (path_of before) (machine_of plan before) ≡ run_of (move_result.Went (effect.Emitted e)) (machine_of plan now) →
+  Emits : (before now : InstanceParts) (earlier sent : S) (e : Event) → StraightRun after plan first start before earlier → move plan (path_of before) (machine_of plan before) ≡ run_of (move_result.Moved (effect.Emitted e)) (machine_of plan now) →
       sent ≡ after e earlier → path_of now ≡ path_of before → IsInstance plan now → StraightRun after plan first start now sent
 
 -- Such moves, and then one move more.
@@ -56,7 +56,7 @@ pub record ComesToStatement {S : Type 0} (after : Event → S → S) (plan : Pla
 
 -- A move that showed nothing, and left an instance on its path.
 pub record IsSilentMove (plan : PlanView) (old new : InstanceParts) : Type 0 where
-  pub moves : move plan (path_of old) (machine_of plan old) ≡ run_of (move_result.Went effect.Nothing) (machine_of plan new)
+  pub moves : move plan (path_of old) (machine_of plan old) ≡ run_of (move_result.Moved effect.Nothing) (machine_of plan new)
   pub path : path_of new ≡ path_of old
   pub sound : IsInstance plan new
 

@@ -29,7 +29,7 @@ sync_waits false = waits.Nothing
 
 -- a sync or loop that showed this event, as a move
 abbrev pub wait_as_move : Event → Result Waits values.EvaluationError → Result MoveResult values.EvaluationError
-wait_as_move e (Ok w) = Ok (move_result.Went (waits_after e w))
+wait_as_move e (Ok w) = Ok (move_result.Moved (waits_after e w))
 wait_as_move e (Err h) = Err h
 
 -- a loop has the trail of its strand
@@ -40,7 +40,7 @@ ShowsTrailAfter plan w = (e : Event) → ShowsTrail plan (waits_after e w)
 abbrev pub HasWaited : {S : Type 0} → (Event → S → S) → PlanView → InstanceParts → S → Option Stmt → InstanceParts → S → Option Waits → Type 0
 HasWaited after plan old from next new to None = (new ≡ old) × (to ≡ from)
 HasWaited after plan old from next new to (Some w) =
-    (e : Event) × (to ≡ after e from) × (move plan (path_of old) (unpassed plan old next) ≡ run_of (move_result.Went (waits_after e w)) (machine_of plan new))
+    (e : Event) × (to ≡ after e from) × (move plan (path_of old) (unpassed plan old next) ≡ run_of (move_result.Moved (waits_after e w)) (machine_of plan new))
 
 abbrev pub WaitsTrail : PlanView → Option Waits → Type 0
 WaitsTrail plan None = Unit {0}

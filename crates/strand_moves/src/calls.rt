@@ -1,6 +1,6 @@
 // Calls, and the end of a frame.
 
-ghost use Rattle.std.specs.Prelude.{◌≡◌, ◌<◌, ◌≤◌, ◌+◌, ◌++◌, ◌∷◌, [], false, true, Some, None, Err, IfOk, OnErr, OnOk, length};
+ghost use Rattle.std.specs.Prelude.{◌≡◌, ◌<◌, ◌≤◌, ◌+◌, ◌++◌, ◌∷◌, [], false, true, Some, None, Err, IfOk, IfSome, OnErr, OnOk, length};
 ghost use Rattle.std.specs.Option.{option_copied};
 ghost use Rattle.script_grammar.specs.declared.tree.Stmt.{Stmt};
 ghost use Rattle.serial_meaning.specs.Functions.{function_at, function_number};
@@ -8,13 +8,15 @@ ghost use Rattle.serial_meaning.specs.Plan.{PlanView, functions_of};
 ghost use Rattle.serial_meaning.specs.declared.event.FaultKind.{FaultKind};
 ghost use Rattle.strand_values.specs.declared.evaluation_error.EvaluationError.TheVariants.{Fault};
 ghost use Rattle.script_check.specs.Spawns.{spawns_in};
-ghost use Rattle.strand_meaning.specs.Machine.{here_of, return_move, with_scalar};
+ghost use Rattle.strand_meaning.specs.Machine.{here_of, move, return_move, with_scalar};
 ghost use Rattle.strand_values.specs.Gives.{Calculates};
 ghost use Rattle.strand_values.specs.Environments.{FindsArguments, with_variables};
 ghost use Rattle.strand_moves.specs.Found.{AreSlots, FindsCallee, FindsTarget};
 ghost use Rattle.strand_moves.specs.Acts.{Acts, BeginsOne, Costs, IsCallee, StaysUnlessMemory, result_of};
-ghost use Rattle.strand_moves.specs.InstanceParts.{AreNamed, IsNamed, IsStrand, KeepsNames, machine_of, path_of, present_of};
-ghost use Rattle.strand_moves.specs.Moves.{Makes, MovesTrail, call_to, present_pedigree};
+ghost use Rattle.strand_moves.specs.InstanceParts.{AreNamed, IsInstance, IsNamed, IsStrand, KeepsNames, machine_of, path_of, present_of};
+ghost use Rattle.strand_moves.specs.Moves.{Makes, MovesTrail, call_to, present_pedigree, run_of};
+ghost use Rattle.strand_moves.specs.StraightRuns.{HasPassedStatement, unpassed};
+ghost use Rattle.strand_moves.specs.declared.effects.MoveResult.TheVariants as move_result;
 ghost use Rattle.strand_moves.specs.FastPath.{StaysThere, silent, synced_at};
 
 use crate::effects::{Effects, MoveResult};
@@ -22,7 +24,7 @@ use crate::fast_path::silent;
 use crate::frame::{Frame, target_of};
 use crate::instance_parts::InstanceParts;
 use crate::memory::Memory;
-use script_grammar::{CallText, Function, Name};
+use script_grammar::{CallText, Function, Name, Stmt};
 use serial_meaning::{FaultKind, Plan, Value};
 use std::alloc::Global;
 use std::mem;
@@ -181,7 +183,7 @@ impl InstanceParts {
         if self.has_spawns(plan) {
             return self.sync();
         }
-        Ok(MoveResult::Went(Effects::Nothing))
+        Ok(MoveResult::Moved(Effects::Nothing))
     }
 
     // Whether the text of the innermost frame's function has the word `spawn`.
@@ -200,6 +202,32 @@ impl InstanceParts {
         match function_in(plan, self.top.function) {
             Some(f) => self.top.env.value(plan.slots(), &f.result),
             None => Ok(Value::Int(0)),
+        }
+    }
+
+    // The instance's value, where its next move is to end by it and meets no fault.
+    pub(crate) fn last_value(
+        &self,
+        plan: &Plan,
+        next: Option<&Stmt>,
+    ) -> Result<Option<Value>, Memory>
+        requires sound { IsInstance plan.now self.now }
+        requires passed { HasPassedStatement plan.now self.now (option_copied next) }
+        ensures { IfOk result (λ last. IfSome last (λ v. move plan.now (path_of self.now) (unpassed plan.now self.now (option_copied next.entry)) ≡ run_of (move_result.Returned v) (machine_of plan.now self.now))) }
+    {
+        let None = next else {
+            return Ok(None);
+        };
+        if !self.top.returning || !self.below.is_empty() {
+            return Ok(None);
+        }
+        if !self.top.levels.as_slice().is_empty() {
+            return Ok(None);
+        }
+        match self.result(plan) {
+            Ok(value) => Ok(Some(value)),
+            Err(EvaluationError::Fault(_)) => Ok(None),
+            Err(EvaluationError::Memory) => Err(Memory),
         }
     }
 

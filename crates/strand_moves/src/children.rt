@@ -167,9 +167,9 @@ impl InstanceParts {
     {
         let event = Event::Sync(self.pedigree()?);
         if self.pass_sync() {
-            return Ok(MoveResult::Went(Effects::Synced(event)));
+            return Ok(MoveResult::Moved(Effects::Synced(event)));
         }
-        Ok(MoveResult::Went(Effects::Emitted(event)))
+        Ok(MoveResult::Moved(Effects::Emitted(event)))
     }
 
     // Passes a sync, whose event isn't shown yet. Returns whether the instance waits there.
@@ -525,7 +525,7 @@ fn spawn_as_move(
 {
     match done {
         Ok(spawned) => match boxed(alloc, spawned) {
-            Ok(spawned) => Ok(MoveResult::Went(Effects::Spawned { event, spawned })),
+            Ok(spawned) => Ok(MoveResult::Moved(Effects::Spawned { event, spawned })),
             Err(_) => Err(EvaluationError::Memory),
         },
         Err(error) => Err(error),
@@ -552,9 +552,9 @@ fn wait_as_move(
     ensures { result ≡ wait_as_move event done }
 {
     match done {
-        Ok(Waits::Nothing) => Ok(MoveResult::Went(Effects::Emitted(event))),
-        Ok(Waits::ForChildren) => Ok(MoveResult::Went(Effects::Synced(event))),
-        Ok(Waits::ForLoop(looped)) => Ok(MoveResult::Went(Effects::Looped { event, looped })),
+        Ok(Waits::Nothing) => Ok(MoveResult::Moved(Effects::Emitted(event))),
+        Ok(Waits::ForChildren) => Ok(MoveResult::Moved(Effects::Synced(event))),
+        Ok(Waits::ForLoop(looped)) => Ok(MoveResult::Moved(Effects::Looped { event, looped })),
         Err(error) => Err(error),
     }
 }

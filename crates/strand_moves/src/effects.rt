@@ -67,7 +67,7 @@ pub enum Effects {
 #[derive(Drop)]
 pub enum MoveResult {
     /// The instance goes on, or waits where that is the effect.
-    Went(Effects),
+    Moved(Effects),
     /// The instance ended with this value, without an effect.
     Returned(Value),
     /// The instance ended by a fault of its own, without an effect.

@@ -12,7 +12,7 @@ ghost use Rattle.strand_moves.specs.Found.{AreSlots, FindsRight, FindsRightVaria
 ghost use Rattle.strand_moves.specs.Acts.{Costs, Stays};
 ghost use Rattle.strand_moves.specs.Cursors.{statements_left};
 ghost use Rattle.strand_moves.specs.InstanceParts.{IsInstance, IsStrand, KeepsNames, statements_of};
-ghost use Rattle.strand_moves.specs.FastPath.{HasCalled, HasEmitted, EndsFrame, GivesBackIfAny, HasGone, IsDone, IsSilent, IsEmittedTo, IsWent, StaysThere, emitted, is_fork, silent};
+ghost use Rattle.strand_moves.specs.FastPath.{HasCalled, HasEmitted, EndsFrame, GivesBackIfAny, HasGone, IsDone, IsSilent, IsEmittedTo, IsMoved, StaysThere, emitted, is_fork, silent};
 ghost use Rattle.strand_moves.specs.StraightRuns.{ComesToStatement};
 
 use crate::cursor::is_fork;
@@ -30,14 +30,14 @@ pub(crate) fn silent(done: Result<(), EvaluationError>) -> Result<MoveResult, Ev
     ensures { result ≡ silent done }
 {
     match done {
-        Ok(()) => Ok(MoveResult::Went(Effects::Nothing)),
+        Ok(()) => Ok(MoveResult::Moved(Effects::Nothing)),
         Err(error) => Err(error),
     }
 }
 
 // Whether it was done and met no fault.
-fn went(done: Result<(), EvaluationError>) -> Result<bool, Memory>
-    ensures { IfOk result (IsWent done) }
+fn moved(done: Result<(), EvaluationError>) -> Result<bool, Memory>
+    ensures { IfOk result (IsMoved done) }
 {
     match done {
         Ok(()) => Ok(true),
@@ -51,7 +51,7 @@ pub(crate) fn emitted(done: Result<Event, EvaluationError>) -> Result<MoveResult
     ensures { result ≡ emitted done }
 {
     match done {
-        Ok(event) => Ok(MoveResult::Went(Effects::Emitted(event))),
+        Ok(event) => Ok(MoveResult::Moved(Effects::Emitted(event))),
         Err(error) => Err(error),
     }
 }
@@ -201,8 +201,8 @@ impl InstanceParts {
         Ok(Form::Other)
     }
 
-    // Where a frame has no statement left: the step of its return, unless it waits at a sync, or its value for the
-    // frame below. Returns whether either was done; otherwise nothing changes.
+    // Where a frame has no statement left: the step of its return, unless it waits at a sync, and its value for the
+    // frame below. Returns whether one of these was done; otherwise nothing changes.
     fn frame_end<S: EventSink>(
         &mut self,
         alloc: Global,
@@ -221,7 +221,7 @@ impl InstanceParts {
             if self.below.is_empty() {
                 return Ok(false);
             }
-            return went(self.give_back(plan, pool));
+            return moved(self.give_back(plan, pool));
         }
         if self.top.spawned {
             return Ok(false);
@@ -235,6 +235,7 @@ impl InstanceParts {
             return Ok(true);
         }
         sink.emit_at(alloc, &self.trail.path, rank, EventKind::Sync)?;
+        self.give_back_if_any(plan, pool)?;
         Ok(true)
     }
 
@@ -251,7 +252,7 @@ impl InstanceParts {
         if self.below.is_empty() {
             return Ok(());
         }
-        went(self.give_back(plan, pool))?;
+        moved(self.give_back(plan, pool))?;
         Ok(())
     }
 
@@ -274,10 +275,10 @@ impl InstanceParts {
         match &statement.act {
             Act::Let(x, r) => self.silent_right(slots, x, r),
             Act::Set(x, r) => self.silent_right(slots, x, r),
-            Act::Array(x, n) => went(self.array(alloc, slots, x, *n)),
-            Act::Store(x, i, e) => went(self.store(slots, x, i, e)),
-            Act::If(e, _, _) => went(self.branch(slots, e)),
-            Act::While(e, _) => went(self.while_test(slots, e)),
+            Act::Array(x, n) => moved(self.array(alloc, slots, x, *n)),
+            Act::Store(x, i, e) => moved(self.store(slots, x, i, e)),
+            Act::If(e, _, _) => moved(self.branch(slots, e)),
+            Act::While(e, _) => moved(self.while_test(slots, e)),
             _ => Ok(false),
         }
     }
@@ -300,7 +301,7 @@ impl InstanceParts {
                     self.top.env.set_number(slots, x, number);
                     Ok(true)
                 }
-                None => went(self.set_value(slots, x, e)),
+                None => moved(self.set_value(slots, x, e)),
             },
             _ => Ok(false),
         }
@@ -390,7 +391,7 @@ impl InstanceParts {
         match &statement.act {
             Act::Let(x, r) => self.calling_right(alloc, plan, slots, x, r, pool),
             Act::Set(x, r) => self.calling_right(alloc, plan, slots, x, r, pool),
-            Act::Call(c) => went(self.call(alloc, plan, slots, None, c, pool)),
+            Act::Call(c) => moved(self.call(alloc, plan, slots, None, c, pool)),
             _ => Ok(false),
         }
     }
@@ -415,7 +416,7 @@ impl InstanceParts {
         ensures named { KeepsNames plan.now self.old self.new }
     {
         match r {
-            Right::Call(_, c) => went(self.call(alloc, plan, slots, Some(x), c, pool)),
+            Right::Call(_, c) => moved(self.call(alloc, plan, slots, Some(x), c, pool)),
             _ => Ok(false),
         }
     }

@@ -110,6 +110,27 @@ impl InstanceParts {
         ensures path { IfOk result (λ _. path_of self.new ≡ path_of self.old) }
         ensures sound { IfOk result (λ _. IsInstance plan.now self.new) }
     {
+        match self.last_value(plan, next)? {
+            Some(value) => Ok(MoveResult::Returned(value)),
+            None => self.make_other(alloc, plan, next),
+        }
+    }
+
+    // The same for any move. It stands apart, since the room for all that a move may show would else be cleared before the last one.
+    #[inline(never)]
+    fn make_other(
+        &mut self,
+        alloc: Global,
+        plan: &Plan,
+        next: Option<&Stmt>,
+    ) -> Result<MoveResult, Memory>
+        requires sound { IsInstance plan.now self.old }
+        requires passed { HasPassedStatement plan.now self.old (option_copied next) }
+        ensures moves { IfOk result (λ move_result. move plan.now (path_of self.old) (unpassed plan.now self.old (option_copied next.entry)) ≡ run_of move_result (machine_of plan.now self.new)) }
+        ensures child { IfOk result (MovesTrail plan.now) }
+        ensures path { IfOk result (λ _. path_of self.new ≡ path_of self.old) }
+        ensures sound { IfOk result (λ _. IsInstance plan.now self.new) }
+    {
         let rank = self.rank;
         match self.act(alloc, plan, next) {
             Ok(move_result) => Ok(move_result),

@@ -10,6 +10,9 @@ use spare_memory::{EmptyBox, EmptyList, Pool, emptied};
 use std::alloc::Global;
 use strand_values::EnvironmentPool;
 
+// The most values for which a list has room that is kept, so that what is kept stays small.
+const MOST_ROOM: usize = 64;
+
 /// The memory of instances that have ended, for the next ones: their boxes, and the lists of their frames, variables and arguments. It
 /// holds no value.
 #[derive(Drop)]
@@ -31,17 +34,21 @@ impl InstancePool {
         }
     }
 
-    /// Keeps the memory of the arguments of a call whose answer was taken.
+    /// Keeps the memory of a list of values, such as the arguments of a call whose answer was taken. A long one is freed.
     #[inline(always)]
     pub fn keep_values(&mut self, values: Items<Value>)
         ensures { self.new ≡ self.old }
     {
+        if values.0.capacity() > MOST_ROOM {
+            drop(values);
+            return;
+        }
         self.values.keep(EmptyList::of(values.0));
     }
 
-    // An empty list of values.
+    /// An empty list of values.
     #[inline(always)]
-    pub(crate) fn values(&mut self, alloc: Global) -> Items<Value>
+    pub fn values(&mut self, alloc: Global) -> Items<Value>
         ensures list { result ≡ [] }
         ensures same { self.new ≡ self.old }
     {

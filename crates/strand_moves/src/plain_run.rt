@@ -85,7 +85,7 @@ impl InstanceParts {
         requires instance { IsInstance plan.now self.old }
         requires block { block.now ≡ block_of (statements_of plan.now self.old.top) self.old.top.cursor.entered.items }
         requires around { IsAround (statements_of plan.now self.old.top) self.old.top.cursor (option_copied around) }
-        ensures went { IfOk result (λ _. GoesOnInBlock S.after plan.now self.old sink.old self.new sink.new) }
+        ensures moved { IfOk result (λ _. GoesOnInBlock S.after plan.now self.old sink.old self.new sink.new) }
         ensures left { IfOk result (λ left. IsStillIn (statements_of plan.now self.new.top) block.now self.new.top.cursor (option_copied left)) }
     {
         let Some(condition) = around else {

@@ -50,12 +50,12 @@ impl InstanceParts {
             Right::Draw(_) => {
                 let at = self.pedigree()?;
                 let word = self.draw(plan, slots, x);
-                Ok(MoveResult::Went(Effects::Emitted(Event::Draw(at, word))))
+                Ok(MoveResult::Moved(Effects::Emitted(Event::Draw(at, word))))
             }
             Right::New(_) => {
                 let at = self.pedigree()?;
                 self.make_object(slots, x)?;
-                Ok(MoveResult::Went(Effects::Emitted(Event::New(at))))
+                Ok(MoveResult::Moved(Effects::Emitted(Event::New(at))))
             }
             Right::Call(_, c) => silent(self.call(
                 alloc,

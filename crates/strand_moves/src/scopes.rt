@@ -48,7 +48,7 @@ impl InstanceParts {
         }
         let (inner, path) = self.child_place(alloc, plan)?;
         self.go_in(alloc, inner)?;
-        Ok(MoveResult::Went(Effects::Opened(path)))
+        Ok(MoveResult::Moved(Effects::Opened(path)))
     }
 
     // Continues at rank 0 in the block of the scope that the cursor has just passed, on the path of this trail.
@@ -81,8 +81,8 @@ impl InstanceParts {
     {
         if self.leaving {
             return match self.top.levels.pop() {
-                Some(level) => Ok(MoveResult::Went(self.go_out(level)?)),
-                None => Ok(MoveResult::Went(Effects::Nothing)),
+                Some(level) => Ok(MoveResult::Moved(self.go_out(level)?)),
+                None => Ok(MoveResult::Moved(Effects::Nothing)),
             };
         }
         if !self.top.levels.as_slice().is_empty() {

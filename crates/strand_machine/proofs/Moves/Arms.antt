@@ -59,5 +59,5 @@ stage-once f b (stage.ChildFaulted g) r other h = h
 pub remaining-once : {K X E : Type 0} (f : X → MoveOrStop K) (b : TaskState K) (w : Remaining) (r : Result X E) → ((s : Stage) → w ≡ remaining.Runs s → ⊥) → IfOk r (λ x. StepsOn (view_of b w) (f x)) → IfOk r (λ x. IsStep (view_of b w) (f x))
 remaining-once f b (remaining.Splits left) r other h = h
 remaining-once f b (remaining.Runs s) r other h = absurd (other s refl)
-remaining-once f b (remaining.Finished v gone_on) r other h = h
+remaining-once f b (remaining.Finished v has_waited) r other h = h
 remaining-once f b (remaining.Ends ended) r other h = h

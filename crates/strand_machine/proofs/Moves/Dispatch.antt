@@ -116,7 +116,7 @@ end-is b w o s e h = rw h (record { is = e ∙ ends-is (task_of b w) o; keeps = 
 pub of_plan-on : (plan : PlanView) (o : Origin) (w : Remaining) → RemainsAt plan o w → cut_of w ≡ None
 of_plan-on plan o (remaining.Splits left) h = refl
 of_plan-on plan o (remaining.Runs s) h = refl
-of_plan-on plan o (remaining.Finished v gone_on) h = refl
+of_plan-on plan o (remaining.Finished v has_waited) h = refl
 of_plan-on plan o (remaining.Ends ended) h = absurd h
 
 pub pass-is : {K : Type 0} (b : TaskState K) (w next : Remaining) (s : MadeStep K) → RemainsAt b.links.plan b.links.origin next → meaning.step (task_of b w) ≡ meaning.Passes (task_of (gone b) next) → s ≡ step-in.Passes (view_of (gone b) next) → IsStep (view_of b w) s
@@ -201,17 +201,17 @@ over-ends t v (Loop function rest first path range) h = by_size (range.hi - rang
     by_size (suc zero) g k = rw g refl
     by_size (suc (suc n)) g k = absurd (true≢false (long n ∙ rw g at k))
 
-pub over-long : {K : Type 0} (b : TaskState K) (v : Value) (gone_on : Bool) → gone_on ≡ false → is_long b.links.origin ≡ true →
-    meaning.step (task_of b (remaining.Finished v gone_on)) ≡ meaning.Stops (meaning.Wait (task_of (waiting b) (remaining.Finished v false)))
+pub over-long : {K : Type 0} (b : TaskState K) (v : Value) (has_waited : Bool) → has_waited ≡ false → is_long b.links.origin ≡ true →
+    meaning.step (task_of b (remaining.Finished v has_waited)) ≡ meaning.Stops (meaning.Wait (task_of (waiting b) (remaining.Finished v false)))
 over-long b v true e h = absurd (true≢false e)
 over-long b v false e h = over-waits (task_of b (remaining.Finished v false)) v b.links.origin h
 
-pub over-short : {K : Type 0} (b : TaskState K) (v : Value) (gone_on : Bool) → gone_on ≡ false → is_long b.links.origin ≡ false →
-    meaning.step (task_of b (remaining.Finished v gone_on)) ≡ ends (task_of b (remaining.Finished v gone_on)) (outcome.Values (b.values ++ v ∷ []))
+pub over-short : {K : Type 0} (b : TaskState K) (v : Value) (has_waited : Bool) → has_waited ≡ false → is_long b.links.origin ≡ false →
+    meaning.step (task_of b (remaining.Finished v has_waited)) ≡ ends (task_of b (remaining.Finished v has_waited)) (outcome.Values (b.values ++ v ∷ []))
 over-short b v true e h = absurd (true≢false e)
 over-short b v false e h = over-ends (task_of b (remaining.Finished v false)) v b.links.origin h
 
-pub over-on : {K : Type 0} (b : TaskState K) (v : Value) (gone_on : Bool) → gone_on ≡ true → meaning.step (task_of b (remaining.Finished v gone_on)) ≡ ends (task_of b (remaining.Finished v gone_on)) (outcome.Values (b.values ++ v ∷ []))
+pub over-on : {K : Type 0} (b : TaskState K) (v : Value) (has_waited : Bool) → has_waited ≡ true → meaning.step (task_of b (remaining.Finished v has_waited)) ≡ ends (task_of b (remaining.Finished v has_waited)) (outcome.Values (b.values ++ v ∷ []))
 over-on b v true e = refl
 over-on b v false e = absurd (true≢false (sym e))
 
@@ -244,10 +244,10 @@ module _ {K : Type 0} (b : TaskState K) (i : RawInstance) where
   abbrev made : Run Effect Fault Reached → meaning.MoveOrStop
   made r = step_result here r.items r.ending
 
-  pub go-went : (next : RawInstance) (s : Effects) → RunsAt b.links.plan (path_of (own_instance b.links.origin)) i →
-      move b.links.plan (moves.path_of i) (moves.machine_of b.links.plan i) ≡ run_of (move_result-in.Went s) (moves.machine_of b.links.plan next) →
+  pub go-moved : (next : RawInstance) (s : Effects) → RunsAt b.links.plan (path_of (own_instance b.links.origin)) i →
+      move b.links.plan (moves.path_of i) (moves.machine_of b.links.plan i) ≡ run_of (move_result-in.Moved s) (moves.machine_of b.links.plan next) →
       meaning.step here ≡ stops_at (child_in (effects_of s)) (task_after_effects b next s)
-  go-went next s at e = ap (λ (p : List ℕ). made (move b.links.plan p (moves.machine_of b.links.plan i))) (sym at.at) ∙ ap made e
+  go-moved next s at e = ap (λ (p : List ℕ). made (move b.links.plan p (moves.machine_of b.links.plan i))) (sym at.at) ∙ ap made e
 
   pub go-returned : (next : RawInstance) (v : Value) → RunsAt b.links.plan (path_of (own_instance b.links.origin)) i →
       move b.links.plan (moves.path_of i) (moves.machine_of b.links.plan i) ≡ run_of (move_result-in.Returned v) (moves.machine_of b.links.plan next) →
@@ -260,10 +260,10 @@ module _ {K : Type 0} (b : TaskState K) (i : RawInstance) where
   go-faulted next f at e = ap (λ (p : List ℕ). made (move b.links.plan p (moves.machine_of b.links.plan i))) (sym at.at) ∙ ap made e
 
   pub shown-sound : StepsAreSound → (next : RawInstance) (s : Effects) → IsSound b (remaining.Runs (stage.Running i)) →
-      move b.links.plan (moves.path_of i) (moves.machine_of b.links.plan i) ≡ run_of (move_result-in.Went s) (moves.machine_of b.links.plan next) →
+      move b.links.plan (moves.path_of i) (moves.machine_of b.links.plan i) ≡ run_of (move_result-in.Moved s) (moves.machine_of b.links.plan next) →
       RunsAt b.links.plan (path_of (own_instance b.links.origin)) next → ShowsTrail b.links.plan s → HasSoundEffects b next s
   shown-sound law next s h moved-so runs trail =
-      let e = go-went next s h.of_plan moved-so in
+      let e = go-moved next s h.of_plan moved-so in
       let known = from (child_in (effects_of s)) (sound-step law b (remaining.Runs (stage.Running i)) (stops_at (child_in (effects_of s)) (task_after_effects b next s)) h e) in
       record { task = known.0; child = known.1; links = h.links; runs = runs; trail = trail }
     where

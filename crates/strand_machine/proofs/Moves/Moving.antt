@@ -45,7 +45,7 @@ use Rattle.strand_machine.specs.declared.remaining.Stage.TheVariants as stage
 use Rattle.strand_machine.specs.declared.remaining.Remaining.{Remaining}
 use Rattle.strand_machine.specs.declared.remaining.Remaining.TheVariants as remaining
 use Rattle.strand_machine.proofs.NextStops.Advancing.{falls, leads-on, leads-over, leads-start}
-use Rattle.strand_machine.proofs.Moves.Dispatch.{awaits-more, pass-sound, pass-is, wait-sound, wait-is, go-went, go-returned, go-faulted, shown-sound}
+use Rattle.strand_machine.proofs.Moves.Dispatch.{awaits-more, pass-sound, pass-is, wait-sound, wait-is, go-moved, go-returned, go-faulted, shown-sound}
 
 -- An event changes no child
 
@@ -217,9 +217,9 @@ module _ {K : Type 0} (b : TaskState K) (i next : RawInstance) (plan : PlanView)
       subst (λ (q : PlanView). move q (moves.path_of i) (moves.machine_of q i) ≡ run_of n (moves.machine_of q next)) p
       (e ∙ ap (λ (x : MoveResult). run_of x (moves.machine_of plan next)) is)
 
-  pub went-sound : StepsAreSound → (s : Effects) → m ≡ move_result-in.Went s → moves.path_of next ≡ moves.path_of i → moves.IsInstance plan next → MovesTrail plan m → HasSoundEffects b next s
-  went-sound law s is path sound trail =
-      shown-sound b i law next s h (moves-so (move_result-in.Went s) is) (runs-on path sound)
+  pub moved-sound : StepsAreSound → (s : Effects) → m ≡ move_result-in.Moved s → moves.path_of next ≡ moves.path_of i → moves.IsInstance plan next → MovesTrail plan m → HasSoundEffects b next s
+  moved-sound law s is path sound trail =
+      shown-sound b i law next s h (moves-so (move_result-in.Moved s) is) (runs-on path sound)
       (subst (λ (q : PlanView). ShowsTrail q s) p (subst (MovesTrail plan) is trail))
 
   pub returned-sound : StepsAreSound → (v : Value) → m ≡ move_result-in.Returned v → IsSound (gone b) (remaining.Runs (stage.Returned v))
@@ -234,42 +234,42 @@ module _ {K : Type 0} (b : TaskState K) (i next : RawInstance) (plan : PlanView)
   pub faulted-is : (f : Fault) (r : MadeStep K) → m ≡ move_result-in.Faulted f → r ≡ step-in.Passes (view_of (gone b) (remaining.Runs (stage.Faulted f))) → IsStep (view_of b (remaining.Runs (stage.Running i))) r
   faulted-is f r is = pass-is b (remaining.Runs (stage.Running i)) (remaining.Runs (stage.Faulted f)) r tt (go-faulted b i next f h.of_plan (moves-so (move_result-in.Faulted f) is))
 
-  went-one : (s : Effects) (r : MadeStep K) → m ≡ move_result-in.Went s → step_of r ≡ stops_at (child_in (effects_of s)) (task_after_effects b next s) → KeepsLinksInStep (view_of b (remaining.Runs (stage.Running next))) r →
+  moved-one : (s : Effects) (r : MadeStep K) → m ≡ move_result-in.Moved s → step_of r ≡ stops_at (child_in (effects_of s)) (task_after_effects b next s) → KeepsLinksInStep (view_of b (remaining.Runs (stage.Running next))) r →
       IsStep (view_of b (remaining.Runs (stage.Running i))) r
-  went-one s r is g k = record { is = go-went b i next s h.of_plan (moves-so (move_result-in.Went s) is) ∙ sym g; keeps = keeps-alike b (remaining.Runs (stage.Running next)) (remaining.Runs (stage.Running i)) r k }
+  moved-one s r is g k = record { is = go-moved b i next s h.of_plan (moves-so (move_result-in.Moved s) is) ∙ sym g; keeps = keeps-alike b (remaining.Runs (stage.Running next)) (remaining.Runs (stage.Running i)) r k }
 
-  pub went-is : {X E : Type 0} (f : X → MadeStep K) (s : Effects) (r : Result X E) → m ≡ move_result-in.Went s → IfOk r (λ x. step_of (f x) ≡ stops_at (child_in (effects_of s)) (task_after_effects b next s)) →
+  pub moved-is : {X E : Type 0} (f : X → MadeStep K) (s : Effects) (r : Result X E) → m ≡ move_result-in.Moved s → IfOk r (λ x. step_of (f x) ≡ stops_at (child_in (effects_of s)) (task_after_effects b next s)) →
       IfOk r (λ x. KeepsLinksInStep (view_of b (remaining.Runs (stage.Running next))) (f x)) → IfOk r (λ x. IsStep (view_of b (remaining.Runs (stage.Running i))) (f x))
-  went-is f s (Ok x) is g k = went-one s (f x) is g k
-  went-is f s (Err x) is g k = tt
+  moved-is f s (Ok x) is g k = moved-one s (f x) is g k
+  moved-is f s (Err x) is g k = tt
 
   -- one that shows nothing, or an event alone: the instance goes on
 
-  still-is : (s : Effects) → m ≡ move_result-in.Went s → s ≡ effects-in.Nothing → IsStep {K = K} (view_of b (remaining.Runs (stage.Running i))) (step-in.Passes (view_of (gone b) (remaining.Runs (stage.Running next))))
-  still-is s is shows = went-one s _ is (nothing-step b next s _ shows refl) (refl, refl, refl, refl)
+  still-is : (s : Effects) → m ≡ move_result-in.Moved s → s ≡ effects-in.Nothing → IsStep {K = K} (view_of b (remaining.Runs (stage.Running i))) (step-in.Passes (view_of (gone b) (remaining.Runs (stage.Running next))))
+  still-is s is shows = moved-one s _ is (nothing-step b next s _ shows refl) (refl, refl, refl, refl)
 
-  pub still-on : StepsAreSound → MovesFall → (first : TaskView) → LeadsTo first (view_of b (remaining.Runs (stage.Running i))) → (s : Effects) → m ≡ move_result-in.Went s → s ≡ effects-in.Nothing →
+  pub still-on : StepsAreSound → MovesFall → (first : TaskView) → LeadsTo first (view_of b (remaining.Runs (stage.Running i))) → (s : Effects) → m ≡ move_result-in.Moved s → s ≡ effects-in.Nothing →
       moves.path_of next ≡ moves.path_of i → moves.IsInstance plan next → MovesTrail plan m → IsOnRun first (gone b) next
   still-on law fall first leads s is shows path sound trail = record {
-    sound = nothing-sound b next s shows (went-sound law s is path sound trail);
+    sound = nothing-sound b next s shows (moved-sound law s is path sound trail);
     leads = leads-on fall first _ _ _ leads (still-is s is shows) refl;
   }
 
-  pub still-falls : MovesFall → (s : Effects) → m ≡ move_result-in.Went s → s ≡ effects-in.Nothing → moves_left (task_of (gone b) (remaining.Runs (stage.Running next))) < moves_left (task_of b (remaining.Runs (stage.Running i)))
+  pub still-falls : MovesFall → (s : Effects) → m ≡ move_result-in.Moved s → s ≡ effects-in.Nothing → moves_left (task_of (gone b) (remaining.Runs (stage.Running next))) < moves_left (task_of b (remaining.Runs (stage.Running i)))
   still-falls fall s is shows = falls fall (view_of b (remaining.Runs (stage.Running i))) (view_of (gone b) (remaining.Runs (stage.Running next))) _ (still-is s is shows) refl
 
-  emits-is : (s : Effects) (t : Event) (q : Trace) → m ≡ move_result-in.Went s → s ≡ effects-in.Emitted t → q ≡ emit t b.trace →
+  emits-is : (s : Effects) (t : Event) (q : Trace) → m ≡ move_result-in.Moved s → s ≡ effects-in.Emitted t → q ≡ emit t b.trace →
       IsStep {K = K} (view_of b (remaining.Runs (stage.Running i))) (step-in.Passes (view_of (gone (with_trace b q)) (remaining.Runs (stage.Running next))))
-  emits-is s t q is shows g = went-one s _ is (emitted-step b next s t q _ shows g refl) (refl, refl, refl, refl)
+  emits-is s t q is shows g = moved-one s _ is (emitted-step b next s t q _ shows g refl) (refl, refl, refl, refl)
 
-  pub emits-on : StepsAreSound → MovesFall → (first : TaskView) → LeadsTo first (view_of b (remaining.Runs (stage.Running i))) → (s : Effects) (t : Event) (q : Trace) → m ≡ move_result-in.Went s → s ≡ effects-in.Emitted t → q ≡ emit t b.trace →
+  pub emits-on : StepsAreSound → MovesFall → (first : TaskView) → LeadsTo first (view_of b (remaining.Runs (stage.Running i))) → (s : Effects) (t : Event) (q : Trace) → m ≡ move_result-in.Moved s → s ≡ effects-in.Emitted t → q ≡ emit t b.trace →
       moves.path_of next ≡ moves.path_of i → moves.IsInstance plan next → MovesTrail plan m → IsOnRun first (gone (with_trace b q)) next
   emits-on law fall first leads s t q is shows g path sound trail = record {
-    sound = emitted-sound b next s t q shows g (went-sound law s is path sound trail);
+    sound = emitted-sound b next s t q shows g (moved-sound law s is path sound trail);
     leads = leads-on fall first _ _ _ leads (emits-is s t q is shows g) refl;
   }
 
-  pub emits-falls : MovesFall → (s : Effects) (t : Event) (q : Trace) → m ≡ move_result-in.Went s → s ≡ effects-in.Emitted t → q ≡ emit t b.trace →
+  pub emits-falls : MovesFall → (s : Effects) (t : Event) (q : Trace) → m ≡ move_result-in.Moved s → s ≡ effects-in.Emitted t → q ≡ emit t b.trace →
       moves_left (task_of (gone (with_trace b q)) (remaining.Runs (stage.Running next))) < moves_left (task_of b (remaining.Runs (stage.Running i)))
   emits-falls fall s t q is shows g = falls fall (view_of b (remaining.Runs (stage.Running i))) (view_of (gone (with_trace b q)) (remaining.Runs (stage.Running next))) _ (emits-is s t q is shows g) refl
 
@@ -278,16 +278,16 @@ module _ {K : Type 0} (b : TaskState K) (i next : RawInstance) (plan : PlanView)
   abbrev syncs : Remaining
   syncs = remaining.Runs (stage.AtSync next)
 
-  pub syncs-sound : StepsAreSound → (s : Effects) (t : Event) (q : Trace) → m ≡ move_result-in.Went s → s ≡ effects-in.Synced t → q ≡ emit t b.trace →
+  pub syncs-sound : StepsAreSound → (s : Effects) (t : Event) (q : Trace) → m ≡ move_result-in.Moved s → s ≡ effects-in.Synced t → q ≡ emit t b.trace →
       moves.path_of next ≡ moves.path_of i → moves.IsInstance plan next → MovesTrail plan m → IsSound (waiting (gone (with_trace b q))) syncs
   syncs-sound law s t q is shows g path sound trail =
-      let k = synced-sound b next s t q shows g (went-sound law s is path sound trail) in wait-sound law (gone (with_trace b q)) syncs syncs k refl k.of_plan
+      let k = synced-sound b next s t q shows g (moved-sound law s is path sound trail) in wait-sound law (gone (with_trace b q)) syncs syncs k refl k.of_plan
 
-  pub syncs-run : MovesFall → (first : TaskView) → LeadsTo first (view_of b (remaining.Runs (stage.Running i))) → (s : Effects) (t : Event) (q : Trace) → m ≡ move_result-in.Went s → s ≡ effects-in.Synced t → q ≡ emit t b.trace →
+  pub syncs-run : MovesFall → (first : TaskView) → LeadsTo first (view_of b (remaining.Runs (stage.Running i))) → (s : Effects) (t : Event) (q : Trace) → m ≡ move_result-in.Moved s → s ≡ effects-in.Synced t → q ≡ emit t b.trace →
       RunsAt b.links.plan (path_of (own_instance b.links.origin)) next → (r : MadeStep K) → r ≡ step-in.Stops (stop-in.Wait (view_of (waiting (gone (with_trace b q))) syncs)) → IsRun first r
   syncs-run fall first leads s t q is shows g at r e = record {
     before = view_of (gone (with_trace b q)) syncs;
-    leads = leads-on fall first _ _ _ leads (went-one s (step-in.Passes (view_of (gone (with_trace b q)) syncs)) is (synced-step b next s t q _ shows g refl) (refl, refl, refl, refl)) refl;
+    leads = leads-on fall first _ _ _ leads (moved-one s (step-in.Passes (view_of (gone (with_trace b q)) syncs)) is (synced-step b next s t q _ shows g refl) (refl, refl, refl, refl)) refl;
     step = wait-is (gone (with_trace b q)) syncs syncs r at refl e;
   }
 
@@ -372,10 +372,10 @@ module _ {K : Type 0} (law : StepsAreSound) (fall : MovesFall) (plan : PlanView)
       subst (λ (x : Trace). IsOnRun first (gone (with_trace b x)) (holding i now)) (sym q) (subst (λ (r : InstanceParts). IsOnRun first (gone b) (holding i r)) (sym e) h)
   straight_run-on now trace (More before _ _ straight_run e path sound) =
       let k = straight_run-on before trace straight_run in
-      still-on (gone (with_trace b trace)) (holding i before) (holding i now) plan (move_result-in.Went effects-in.Nothing) p e k.sound law fall first k.leads effects-in.Nothing refl refl path sound tt
+      still-on (gone (with_trace b trace)) (holding i before) (holding i now) plan (move_result-in.Moved effects-in.Nothing) p e k.sound law fall first k.leads effects-in.Nothing refl refl path sound tt
   straight_run-on now trace (Emits before _ merging _ t straight_run e q path sound) =
       let k = straight_run-on before merging straight_run in
-      emits-on (gone (with_trace b merging)) (holding i before) (holding i now) plan (move_result-in.Went (effects-in.Emitted t)) p e k.sound law fall first k.leads (effects-in.Emitted t) t trace refl refl q path sound tt
+      emits-on (gone (with_trace b merging)) (holding i before) (holding i now) plan (move_result-in.Moved (effects-in.Emitted t)) p e k.sound law fall first k.leads (effects-in.Emitted t) t trace refl refl q path sound tt
 
 -- where the moves in a row came to, before the last one
 pub straight_run-run : {K : Type 0} → StepsAreSound → MovesFall → (plan : PlanView) (b : TaskState K) (i : RawInstance) → plan ≡ b.links.plan → IsSound b (remaining.Runs (stage.Running i)) → (now : InstanceParts) (trace : Trace) → StraightRun after plan i.parts.value b.trace now trace →

@@ -175,7 +175,7 @@ runs now s goes g = by_remaining now.task.remaining g
     by_remaining : (remaining : meaning.Remaining) → remaining_goes_on remaining now s → IsRun now s
     by_remaining (meaning.Splits left) h = one-step now s goes h
     by_remaining (meaning.Runs stage) h = by_stage stage h
-    by_remaining (meaning.Finished v gone_on) h = one-step now s goes h
+    by_remaining (meaning.Finished v has_waited) h = one-step now s goes h
 
 pub run-leads : {K : Type 0} → MovesFall → (first now next : TaskView) (s : MadeStep K) → LeadsTo first now → StepsOn now s → s ≡ step-in.Passes next → LeadsTo first next
 run-leads law first now next s h g e =
@@ -195,13 +195,13 @@ run-stops law first now s stop sound h g e =
 pub holds-sound : {K : Type 0} (b : TaskState K) (w : Remaining) → cut_of w ≡ None → HoldsOfTask b w → IsSound b w
 holds-sound b (remaining.Splits left) e h = h
 holds-sound b (remaining.Runs s) e h = h
-holds-sound b (remaining.Finished v gone_on) e h = h
+holds-sound b (remaining.Finished v has_waited) e h = h
 holds-sound b (remaining.Ends ended) e h = absurd (cc)
 
 pub sound_holds : {K : Type 0} (b : TaskState K) (w : Remaining) → IsSound b w → HoldsOfTask b w
 sound_holds b (remaining.Splits left) h = h
 sound_holds b (remaining.Runs s) h = h
-sound_holds b (remaining.Finished v gone_on) h = h
+sound_holds b (remaining.Finished v has_waited) h = h
 sound_holds b (remaining.Ends ended) h = absurd h.of_plan
 
 pub is-sound : {K : Type 0} (b : TaskState K) (w : Remaining) (t : TaskView) → view_of b w ≡ t → t.cut ≡ None → HoldsOfTask b w → IsSound b w
@@ -214,7 +214,7 @@ is-task b w t view goes h = subst (λ (v : TaskView). IsTask v.task) view (is-so
 pub waits-sound : {K : Type 0} (b : TaskState K) (w : Remaining) (t : TaskView) → view_of b w ≡ t → t.task.waiting ≡ true → HoldsOfTask b w → IsSound b w
 waits-sound b (remaining.Splits left) t view waits h = h
 waits-sound b (remaining.Runs s) t view waits h = h
-waits-sound b (remaining.Finished v gone_on) t view waits h = h
+waits-sound b (remaining.Finished v has_waited) t view waits h = h
 waits-sound b (remaining.Ends ended) t view waits h = absurd (true≢false (sym waits ∙ ap (λ (v : TaskView). v.task.waiting) (sym view) ∙ h.waits))
 
 -- one that took none, and one that did
@@ -236,7 +236,7 @@ is-short b w t view short other = by_remaining w (ap (λ (v : TaskView). has_out
     by_remaining : (x : Remaining) → has_outcome (cut_of x) ≡ true → ((o : Outcome) → x ≡ remaining.Ends o → ⊥) → ⊥
     by_remaining (remaining.Splits left) e h = true≢false (sym e)
     by_remaining (remaining.Runs s) e h = true≢false (sym e)
-    by_remaining (remaining.Finished v gone_on) e h = true≢false (sym e)
+    by_remaining (remaining.Finished v has_waited) e h = true≢false (sym e)
     by_remaining (remaining.Ends o) e h = h o refl
 
 holds-outcome : {K : Type 0} (b : TaskState K) (w : Remaining) (o : Outcome) → w ≡ remaining.Ends o → HoldsOfTask b w → HasOutcome b o

@@ -161,11 +161,11 @@ fault-first (Some f) = refl
 pub own-children : {K : Type 0} (b : TaskState K) (os : List Origin) (bs : List (AfterChild K)) (ts : List AnswerTag) → awaited_children os bs ≡ b.trace.unmerged → length os ≡ length bs → ts ≡ tags b.links.plan (awaited b.trace.unmerged) → origins ts ≡ os
 own-children b os bs ts parts same e = ap origins e ∙ origins-tags b.links.plan (awaited b.trace.unmerged) ∙ ap awaited (sym parts) ∙ awaited_parts os bs same
 
-pub went-whole : (answers : List AnswerView) (t next : TaskView) → any_cut answers ≡ false → next ≡ resumed_view t → IsResumedWith answers t next
-went-whole answers t next whole h = record { whole = λ _. h; cut = λ is. absurd (true≢false (sym is ∙ whole)) }
+pub is_resumed-whole : (answers : List AnswerView) (t next : TaskView) → any_cut answers ≡ false → next ≡ resumed_view t → IsResumedWith answers t next
+is_resumed-whole answers t next whole h = record { whole = λ _. h; cut = λ is. absurd (true≢false (sym is ∙ whole)) }
 
-pub went-short : (answers : List AnswerView) (t next : TaskView) → any_cut answers ≡ true → IsCutOn answers t next × (next.loads ≡ t.loads) → IsResumedWith answers t next
-went-short answers t next cut h = record { whole = λ none. absurd (true≢false (sym cut ∙ none)); cut = λ _. h }
+pub is_resumed-short : (answers : List AnswerView) (t next : TaskView) → any_cut answers ≡ true → IsCutOn answers t next × (next.loads ≡ t.loads) → IsResumedWith answers t next
+is_resumed-short answers t next cut h = record { whole = λ none. absurd (true≢false (sym cut ∙ none)); cut = λ _. h }
 
 -- Answers change the trace and the values of a body, and what remains.
 

@@ -43,17 +43,17 @@ use Rattle.strand_machine.proofs.Moves.Starts.{awaited_parts}
 pub same-stage : (w : meaning.Remaining) → with_stage (λ s. s) w ≡ w
 same-stage (Splits left) = refl
 same-stage (Runs stage) = refl
-same-stage (Finished v gone_on) = refl
+same-stage (Finished v has_waited) = refl
 
 two-stages : (f g : meaning.Stage → meaning.Stage) (w : meaning.Remaining) → with_stage g (with_stage f w) ≡ with_stage (λ s. g (f s)) w
 two-stages f g (Splits left) = refl
 two-stages f g (Runs stage) = refl
-two-stages f g (Finished v gone_on) = refl
+two-stages f g (Finished v has_waited) = refl
 
 resumed-stage : (ps : List AwaitedChild) (es : List Evaluation) (w : meaning.Remaining) → resumed_remaining [] [] (with_stage (takes_all ps es) w) ≡ resumed_remaining ps es w
 resumed-stage ps es (Splits left) = refl
 resumed-stage ps es (Runs stage) = refl
-resumed-stage ps es (Finished v gone_on) = refl
+resumed-stage ps es (Finished v has_waited) = refl
 
 -- An instance
 
@@ -310,7 +310,7 @@ taken-view b w g k ready loads e d t view =
 pub resumed-on : {K : Type 0} (b : TaskState K) (w : Remaining) (g k : LinksView) (ready : Bool) (loads : List ℕ) → g ≡ record b.links { ready = ready; loads = loads } → k ≡ record g { taken = k.taken } →
     (t next : TaskView) → view_of b w ≡ t → t.cut ≡ None → (answers : List AnswerView) → AreAnswersOf k.plan b.trace.unmerged answers → IsResumedWith answers (view_of (record b { links = k }) w) next → HasPassed b.links.loads g.loads →
     (xs : List AnswerView) × AreAnswersOf t.task.plan t.task.trace.unmerged xs × IsResumedWith xs (looked next.loads t) next × HasPassed t.loads next.loads
-resumed-on b w g k ready loads e d t next view goes answers are went-on passed = (answers, frame_with_answer, looks, read)
+resumed-on b w g k ready loads e d t next view goes answers are is_resumed-on passed = (answers, frame_with_answer, looks, read)
   where
     plan : k.plan ≡ t.task.plan
     plan = ap (λ (f : LinksView). f.plan) d ∙ ap (λ (f : LinksView). f.plan) e ∙ ap (λ (v : TaskView). v.task.plan) view
@@ -319,7 +319,7 @@ resumed-on b w g k ready loads e d t next view goes answers are went-on passed =
     frame_with_answer = subst (λ (v : TaskView). AreAnswersOf t.task.plan v.task.trace.unmerged answers) view (subst (λ (p : PlanView). AreAnswersOf p b.trace.unmerged answers) plan are)
 
     there : IsResumedWith answers (record t { loads = g.loads }) next
-    there = subst (λ (v : TaskView). IsResumedWith answers v next) (taken-view b w g k ready loads e d t view) went-on
+    there = subst (λ (v : TaskView). IsResumedWith answers v next) (taken-view b w g k ready loads e d t view) is_resumed-on
 
     by_cut : (cut : Bool) → any_cut answers ≡ cut → next.loads ≡ g.loads
     by_cut false none = ap (λ (v : TaskView). v.loads) (there.whole none)

@@ -93,7 +93,7 @@ module _ (plan : PlanView) (destination : machine.Destination) where
   remaining-keeps : (p : machine.Destination) (q : Result (List Value) Fault) (w : meaning.Remaining) → RemainingFinds plan destination w → RemainingFinds plan destination (with_stage (takes p q) w)
   remaining-keeps p q (Splits left) h = h
   remaining-keeps p q (Runs s) h = stage-keeps p q s h
-  remaining-keeps p q (Finished v gone_on) h = h
+  remaining-keeps p q (Finished v has_waited) h = h
 
 all-keep : {K : Type 0} (plan : PlanView) (p : machine.Destination) (q : Result (List Value) Fault) (w : meaning.Remaining) (bs : List (AfterChild K)) → RemainingFindsAll plan bs w → RemainingFindsAll plan bs (with_stage (takes p q) w)
 all-keep plan p q w [] h = tt

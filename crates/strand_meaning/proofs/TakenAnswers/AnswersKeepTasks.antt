@@ -306,7 +306,7 @@ module _ (t : Task) (is : IsTask t) where
   remaining-same : (remaining : Remaining) (vs : List Value) → remaining_run t.plan t.origin ps remaining vs ≡ remaining_run t.plan t.origin [] (resumed_remaining ps answers remaining) vs
   remaining-same (Splits left) vs = refl
   remaining-same (Runs stage) vs = ap (λ (r : Run Item NodeFault Value). closed_run kids r then λ v. done (all_with t.origin vs v)) (rest-same stage)
-  remaining-same (Finished v gone_on) vs = refl
+  remaining-same (Finished v has_waited) vs = refl
 
   remaining-sound : (remaining : Remaining) → IsSoundRemaining t.plan t.origin ps remaining → IsSoundRemaining t.plan t.origin [] (resumed_remaining ps answers remaining)
   remaining-sound (Splits left) s = (s.0, tt)
@@ -318,7 +318,7 @@ module _ (t : Task) (is : IsTask t) where
   remaining-pending : (remaining : Remaining) → UnfilledArePendingIn t.plan ps remaining → UnfilledArePendingIn t.plan [] (resumed_remaining ps answers remaining)
   remaining-pending (Splits left) p = tt
   remaining-pending (Runs stage) p = answers-pending t.plan (eval t.plan) ps stage p
-  remaining-pending (Finished v gone_on) p = tt
+  remaining-pending (Finished v has_waited) p = tt
 
   pub none-unmerged : trace-on.unmerged ≡ []
   none-unmerged = heard-none (eval t.plan) ps (record t.trace { unmerged = [] }) refl

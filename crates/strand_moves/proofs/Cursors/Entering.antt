@@ -14,7 +14,7 @@ use Rattle.strand_moves.specs.declared.instance_parts.InstanceParts.{InstancePar
 use Rattle.strand_moves.specs.Cursors.{branch_of, statements_left}
 use Rattle.strand_moves.specs.InstanceParts.{machine_of, present_of, statements_of}
 use Rattle.strand_moves.specs.Moves.{acted}
-use Rattle.strand_moves.proofs.Statements.Equations.{went, branch, turn}
+use Rattle.strand_moves.proofs.Statements.Equations.{moved, branch, turn}
 
 branch-if : (e : Expr) (first second : List Stmt) (b : Bool) → branch_of (act.If e first second) (if b then branch.Yes else branch.No) ≡ (if b then first else second)
 branch-if e first second true = refl
@@ -29,19 +29,19 @@ module _ (plan : PlanView) (i : InstanceParts) (st : Stmt) (e : Expr) (v : Value
 
   pub branch-into : (first second : List Stmt) (b : Bool) → b ≡ is_true v → out-Act (out-Stmt st).act ≡ act.If e first second →
       statements_left within cursor ≡ branch_of (out-Act (out-Stmt st).act) (if b then branch.Yes else branch.No) ++ statements_left within i.top.cursor →
-      acted plan (present_of i) (machine_of plan i) st (act.If e first second) ≡ went [] (machine_of plan with_cursor)
+      acted plan (present_of i) (machine_of plan i) st (act.If e first second) ≡ moved [] (machine_of plan with_cursor)
   branch-into first second b h a l =
       let m = machine_of plan i in
       branch plan (present_of i) m st e first second v b known (sym h)
-      ∙ ap (λ (left : List Stmt). went [] (record m { top = record m.top { left = left } }))
+      ∙ ap (λ (left : List Stmt). moved [] (record m { top = record m.top { left = left } }))
       (sym (l ∙ ap (λ (x : Act-F Act Stmt). branch_of x (if b then branch.Yes else branch.No) ++ statements_left within i.top.cursor) a
       ∙ ap (λ (x : List Stmt). x ++ statements_left within i.top.cursor) (branch-if e first second b)))
 
   pub turn-into : (body : List Stmt) → is_true v ≡ true → out-Act (out-Stmt st).act ≡ act.While e body →
       statements_left within cursor ≡ branch_of (out-Act (out-Stmt st).act) branch.LoopBody ++ (st ∷ statements_left within i.top.cursor) →
-      acted plan (present_of i) (machine_of plan i) st (act.While e body) ≡ went [] (machine_of plan with_cursor)
+      acted plan (present_of i) (machine_of plan i) st (act.While e body) ≡ moved [] (machine_of plan with_cursor)
   turn-into body h a l =
       let m = machine_of plan i in
       turn plan (present_of i) m st e body v known h
-      ∙ ap (λ (left : List Stmt). went [] (record m { top = record m.top { left = left } }))
+      ∙ ap (λ (left : List Stmt). moved [] (record m { top = record m.top { left = left } }))
       (sym (l ∙ ap (λ (x : Act-F Act Stmt). branch_of x branch.LoopBody ++ (st ∷ statements_left within i.top.cursor)) a))

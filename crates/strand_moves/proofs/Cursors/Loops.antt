@@ -34,10 +34,10 @@ use Rattle.strand_moves.proofs.Cursors.CursorLemmas.{block_of-more, left_around-
 use Rattle.strand_moves.proofs.Cursors.Passing.{straight_run-over, straight_run-sent, text-same}
 use Rattle.strand_moves.proofs.OpenScopes.Keeping.{here-is, same-path, stays-instance}
 use Rattle.strand_moves.proofs.Statements.Assigning.{number-acts}
-use Rattle.strand_moves.proofs.Statements.Equations.{after_statement, let-is-set, paid-move, turn, went}
+use Rattle.strand_moves.proofs.Statements.Equations.{after_statement, let-is-set, paid-move, turn, moved}
 use Rattle.strand_moves.proofs.Statements.Going.{moves-on}
 use Rattle.strand_moves.proofs.Statements.Naming.{names-stay, top-named}
-use Rattle.strand_moves.proofs.Statements.FastPathLemmas.{passed-on, fast_path-went, with_cursor}
+use Rattle.strand_moves.proofs.Statements.FastPathLemmas.{passed-on, fast_path-moved, with_cursor}
 
 -- the last block that was entered, and those around it
 last-entered : (es : List Entered) (n : ℕ) (d : Entered) → n + 1 ≡ length es → es ≡ take n es ++ get_or es n d ∷ []
@@ -129,7 +129,7 @@ module _ (plan : PlanView) (i : InstanceParts) (sound : IsInstance plan i) (n : 
             ∙ ap (λ (p : List ℕ). acted plan p (after_statement m n rest) h.loop (out-Act (out-Stmt h.loop).act)) (here-is plan i sound)
             ∙ ap (λ (a : Act-F Act Stmt). acted plan (present_of i) (after_statement m n rest) h.loop a) h.is
             ∙ turn plan (present_of i) (after_statement m n rest) h.loop e block v known holds
-            ∙ ap (λ (left : List Stmt). went [] (after_statement m n left)) (sym (left-again text i.top.cursor e h cursor same first));
+            ∙ ap (λ (left : List Stmt). moved [] (after_statement m n left)) (sym (left-again text i.top.cursor e h cursor same first));
         path = same-path i new stays;
         sound = stays-instance plan i new sound (passed-on plan i h.loop rest sound next) stays (top-named plan i new refl refl refl refl) (omega (arith, less));
       }
@@ -153,7 +153,7 @@ module _ (plan : PlanView) (i : InstanceParts) (sound : IsInstance plan i) (n : 
         let passed = passes text i.top.cursor cursor st there same next in
         let stays : Stays i given = record { trail = refl; scopes = refl; leaving = refl } in
         record {
-          moves = fast_path-went plan i st cursor n (here-is plan i sound) passed less given (gives is);
+          moves = fast_path-moved plan i st cursor n (here-is plan i sound) passed less given (gives is);
           path = same-path i given stays;
           sound = stays-instance plan i given sound (passed-on plan i st _ sound passed.first) stays (top-named plan i given refl refl refl (names-stay env i.top.env _ set)) (omega (arith, less));
         }
@@ -164,7 +164,7 @@ module _ (plan : PlanView) (i : InstanceParts) (sound : IsInstance plan i) (n : 
     paid = with_cursor plan i n cursor
 
     drawn-acts : (new : InstanceParts) (e : Event) → ((at : ℕ) → Acts plan st (act.Set x (right.Draw at)) paid new (emitted (Ok e))) → Draws (out-Act (out-Stmt st).act) x →
-        acted plan (present_of paid) (machine_of plan paid) st (out-Act (out-Stmt st).act) ≡ run_of (move_result.Went (effect.Emitted e)) (machine_of plan new)
+        acted plan (present_of paid) (machine_of plan paid) st (out-Act (out-Stmt st).act) ≡ run_of (move_result.Moved (effect.Emitted e)) (machine_of plan new)
     drawn-acts new e acts (at, inl let-is) = ap (λ (a : Act-F Act Stmt). acted plan (present_of paid) (machine_of plan paid) st a) let-is ∙ let-is-set plan (present_of paid) (machine_of plan paid) st x (right.Draw at) ∙ acts at
     drawn-acts new e acts (at, inr set-is) = ap (λ (a : Act-F Act Stmt). acted plan (present_of paid) (machine_of plan paid) st a) set-is ∙ acts at
 
@@ -208,14 +208,14 @@ pub stands-in-block : (i : InstanceParts) → StaysInBlock i i
 stands-in-block i = record { below = refl; function = refl; levels = refl; entered = refl; few = omega arith }
 
 -- by what a call answered
-pub did-move : (plan : PlanView) (old new : InstanceParts) (went : Bool) → went ≡ true → IsMoveInBlock plan old new went → IsMoveInBlock plan old new true
-did-move plan old new went e h = subst (IsMoveInBlock plan old new) e h
+pub did-move : (plan : PlanView) (old new : InstanceParts) (moved : Bool) → moved ≡ true → IsMoveInBlock plan old new moved → IsMoveInBlock plan old new true
+did-move plan old new moved e h = subst (IsMoveInBlock plan old new) e h
 
-pub did-not-move : (plan : PlanView) (old new : InstanceParts) (went : Bool) → went ≡ false → IsMoveInBlock plan old new went → new ≡ old
-did-not-move plan old new went e h = subst (IsMoveInBlock plan old new) e h
+pub did-not-move : (plan : PlanView) (old new : InstanceParts) (moved : Bool) → moved ≡ false → IsMoveInBlock plan old new moved → new ≡ old
+did-not-move plan old new moved e h = subst (IsMoveInBlock plan old new) e h
 
-module _ {S : Type 0} (after : Event → S → S) (plan : PlanView) (old : InstanceParts) (from : S) (new : InstanceParts) (to : S) (went : Bool) where
-  pub did-send : went ≡ true → IsSentInBlock after plan old from new to went → IsSentInBlock after plan old from new to true
+module _ {S : Type 0} (after : Event → S → S) (plan : PlanView) (old : InstanceParts) (from : S) (new : InstanceParts) (to : S) (moved : Bool) where
+  pub did-send : moved ≡ true → IsSentInBlock after plan old from new to moved → IsSentInBlock after plan old from new to true
   did-send e h = subst (IsSentInBlock after plan old from new to) e h
 
 -- the same loop and the same block there

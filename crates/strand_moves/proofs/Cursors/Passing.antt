@@ -166,7 +166,7 @@ module _ {S : Type 0} (after : Event → S → S) (plan : PlanView) (first : Ins
   paid-named : KeepsNames plan i paid
   paid-named = top-named plan i paid refl refl refl refl
 
-  sent-on : (new : InstanceParts) (heard : S) (e : Event) → heard ≡ after e sent → acted plan (present_of paid) (machine_of plan paid) st (out-Act (out-Stmt st).act) ≡ run_of (move_result.Went (effect.Emitted e)) (machine_of plan new) →
+  sent-on : (new : InstanceParts) (heard : S) (e : Event) → heard ≡ after e sent → acted plan (present_of paid) (machine_of plan paid) st (out-Act (out-Stmt st).act) ≡ run_of (move_result.Moved (effect.Emitted e)) (machine_of plan new) →
       KeepsNames plan paid new → Stays paid new → Costs paid new → StraightRunOn after plan first start i new heard
   sent-on new heard e is acts named stays few =
       let alike : Stays i new = record { trail = stays.trail; scopes = stays.scopes; leaving = stays.leaving } in
@@ -178,14 +178,14 @@ module _ {S : Type 0} (after : Event → S → S) (plan : PlanView) (first : Ins
         path = path;
       }
 
-  pub straight_run-sent : (before : InstanceParts) → before ≡ paid → (new : InstanceParts) (heard : S) (e : Event) → heard ≡ after e sent → acted plan (present_of before) (machine_of plan before) st (out-Act (out-Stmt st).act) ≡ run_of (move_result.Went (effect.Emitted e)) (machine_of plan new) →
+  pub straight_run-sent : (before : InstanceParts) → before ≡ paid → (new : InstanceParts) (heard : S) (e : Event) → heard ≡ after e sent → acted plan (present_of before) (machine_of plan before) st (out-Act (out-Stmt st).act) ≡ run_of (move_result.Moved (effect.Emitted e)) (machine_of plan new) →
       KeepsNames plan before new → Stays before new → Costs before new → StraightRunOn after plan first start i new heard
   straight_run-sent before same new heard e is acts named stays few =
       sent-on new heard e is
-      (subst (λ (x : InstanceParts). acted plan (present_of x) (machine_of plan x) st (out-Act (out-Stmt st).act) ≡ run_of (move_result.Went (effect.Emitted e)) (machine_of plan new)) same acts)
+      (subst (λ (x : InstanceParts). acted plan (present_of x) (machine_of plan x) st (out-Act (out-Stmt st).act) ≡ run_of (move_result.Moved (effect.Emitted e)) (machine_of plan new)) same acts)
       (subst (λ (x : InstanceParts). KeepsNames plan x new) same named) (subst (λ (x : InstanceParts). Stays x new) same stays) (subst (λ (x : InstanceParts). Costs x new) same few)
 
-  called-on : (new : InstanceParts) (heard : S) → heard ≡ sent → acted plan (present_of paid) (machine_of plan paid) st (out-Act (out-Stmt st).act) ≡ run_of (move_result.Went effect.Nothing) (machine_of plan new) →
+  called-on : (new : InstanceParts) (heard : S) → heard ≡ sent → acted plan (present_of paid) (machine_of plan paid) st (out-Act (out-Stmt st).act) ≡ run_of (move_result.Moved effect.Nothing) (machine_of plan new) →
       KeepsNames plan paid new → Stays paid new → Costs paid new → StraightRunOn after plan first start i new heard
   called-on new heard is acts named stays few =
       let alike : Stays i new = record { trail = stays.trail; scopes = stays.scopes; leaving = stays.leaving } in
@@ -197,9 +197,9 @@ module _ {S : Type 0} (after : Event → S → S) (plan : PlanView) (first : Ins
         path = path;
       }
 
-  pub straight_run-called : (before : InstanceParts) → before ≡ paid → (new : InstanceParts) (heard : S) → heard ≡ sent → acted plan (present_of before) (machine_of plan before) st (out-Act (out-Stmt st).act) ≡ run_of (move_result.Went effect.Nothing) (machine_of plan new) →
+  pub straight_run-called : (before : InstanceParts) → before ≡ paid → (new : InstanceParts) (heard : S) → heard ≡ sent → acted plan (present_of before) (machine_of plan before) st (out-Act (out-Stmt st).act) ≡ run_of (move_result.Moved effect.Nothing) (machine_of plan new) →
       KeepsNames plan before new → Stays before new → Costs before new → StraightRunOn after plan first start i new heard
   straight_run-called before same new heard is acts named stays few =
       called-on new heard is
-      (subst (λ (x : InstanceParts). acted plan (present_of x) (machine_of plan x) st (out-Act (out-Stmt st).act) ≡ run_of (move_result.Went effect.Nothing) (machine_of plan new)) same acts)
+      (subst (λ (x : InstanceParts). acted plan (present_of x) (machine_of plan x) st (out-Act (out-Stmt st).act) ≡ run_of (move_result.Moved effect.Nothing) (machine_of plan new)) same acts)
       (subst (λ (x : InstanceParts). KeepsNames plan x new) same named) (subst (λ (x : InstanceParts). Stays x new) same stays) (subst (λ (x : InstanceParts). Costs x new) same few)

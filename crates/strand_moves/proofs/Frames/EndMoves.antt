@@ -15,7 +15,7 @@ use Rattle.strand_moves.specs.declared.effects.MoveResult.TheVariants as move_re
 use Rattle.strand_moves.specs.Acts.{StaysUnlessMemory, Stays}
 use Rattle.strand_moves.specs.Cursors.{statements_left}
 use Rattle.strand_moves.specs.Moves.{Makes, present_pedigree, run_of}
-use Rattle.strand_moves.specs.FastPath.{EndsFrame, GivesBackIfAny, IsSentMove, IsWent, MakesEnd, Shortens, silent}
+use Rattle.strand_moves.specs.FastPath.{EndsFrame, GivesBackIfAny, IsSentMove, IsMoved, MakesEnd, Shortens, silent}
 use Rattle.strand_moves.specs.StraightRuns.{Here, SilentRun, Then}
 use Rattle.strand_moves.specs.InstanceParts.{IsInstance, KeepsNames, body_of, levels_of, machine_of, open_scopes, path_of, present_of, statements_of}
 use Rattle.strand_moves.proofs.OpenScopes.Keeping.{same-path, stays-instance}
@@ -68,15 +68,15 @@ module _ (plan : PlanView) (i : InstanceParts) (h : IsInstance plan i) (on : i.l
 
   -- its value went to the frame below, or nothing changed
   module _ (new : InstanceParts) (kept : KeepsNames plan i new) (less : new.rank + new.steps ≤ i.rank + i.steps) where
-    pub given-back : (done : Result (Unit {0}) values.EvaluationError) (went : Bool) → IsWent done went → i.top.returning ≡ true →
+    pub given-back : (done : Result (Unit {0}) values.EvaluationError) (moved : Bool) → IsMoved done moved → i.top.returning ≡ true →
         Makes (return_move plan (path_of i) (machine_of plan i) true) (present_pedigree (present_of i) (machine_of plan i)) (machine_of plan new) (silent done) →
         ((kind : FaultKind) → done ≡ Err (error.Fault kind) → new ≡ i) → StaysUnlessMemory i new (silent done) → new.steps ≡ i.steps → OnOk done (length new.below.items < length i.below.items) → GivesBackIfAny plan i new
-    given-back (Ok u) went w returning makes same stays steps fewer =
+    given-back (Ok u) moved w returning makes same stays steps fewer =
         let path = same-path i new stays in
         let sound = stays-instance plan i new h on stays kept less in
         record { straight_run = Then i new (Here i refl) (record { moves = ends-by true returning ∙ makes; path = path; sound = sound }); path = path; sound = sound; steps = steps; frames = omega (arith, fewer) }
-    given-back (Err (error.Fault kind)) went w returning makes same stays steps fewer = subst (GivesBackIfAny plan i) (sym (same kind refl)) (gives-nothing plan i h)
-    given-back (Err error.Memory) went w returning makes same stays steps fewer = absurd w
+    given-back (Err (error.Fault kind)) moved w returning makes same stays steps fewer = subst (GivesBackIfAny plan i) (sym (same kind refl)) (gives-nothing plan i h)
+    given-back (Err error.Memory) moved w returning makes same stays steps fewer = absurd w
 
   module _ {S : Type 0} (after : Event → S → S) (from to : S) (new : InstanceParts) (kept : KeepsNames plan i new) (less : new.rank + new.steps ≤ i.rank + i.steps) where
     ends : Stays i new → IsSentMove after plan i from new to → Shortens i new → EndsFrame after plan i from new to true
@@ -86,23 +86,23 @@ module _ (plan : PlanView) (i : InstanceParts) (h : IsInstance plan i) (on : i.l
         record { between = new; first = sent; path_between = path; sound_between = sound; straight_run = Here new refl; path = path; sound = sound; shorter = shorter }
 
     -- its value went to the frame below
-    pub gave-back : {E : Type 0} (done : Result (Unit {0}) values.EvaluationError) (went : Result Bool E) → IfOk went (IsWent done) → i.top.returning ≡ true →
+    pub gave-back : {E : Type 0} (done : Result (Unit {0}) values.EvaluationError) (moved : Result Bool E) → IfOk moved (IsMoved done) → i.top.returning ≡ true →
         Makes (return_move plan (path_of i) (machine_of plan i) true) (present_pedigree (present_of i) (machine_of plan i)) (machine_of plan new) (silent done) →
         ((kind : FaultKind) → done ≡ Err (error.Fault kind) → new ≡ i) → StaysUnlessMemory i new (silent done) → new.steps ≡ i.steps → OnOk done (length new.below.items < length i.below.items) → to ≡ from →
-        IfOk went (EndsFrame after plan i from new to)
+        IfOk moved (EndsFrame after plan i from new to)
     gave-back done (Err e) w returning makes same stays steps fewer still = tt
-    gave-back (Ok u) (Ok went) w returning makes same stays steps fewer still =
+    gave-back (Ok u) (Ok moved) w returning makes same stays steps fewer still =
         subst (EndsFrame after plan i from new to) (sym w) (ends stays (inl (ends-by true returning ∙ makes, still)) (omega (arith, steps, fewer)))
-    gave-back (Err (error.Fault kind)) (Ok went) w returning makes same stays steps fewer still = subst (EndsFrame after plan i from new to) (sym w) (same kind refl, still)
-    gave-back (Err error.Memory) (Ok went) w returning makes same stays steps fewer still = absurd w
+    gave-back (Err (error.Fault kind)) (Ok moved) w returning makes same stays steps fewer still = subst (EndsFrame after plan i from new to) (sym w) (same kind refl, still)
+    gave-back (Err error.Memory) (Ok moved) w returning makes same stays steps fewer still = absurd w
 
     -- its return was paid
     module _ (off : i.top.returning ≡ false) (is : IsReturning i new) (paid : new.steps + 1 ≡ i.steps) where
       shorter : Shortens i new
       shorter = let frames = ap (λ (x : InstanceParts). length x.below.items) is in omega (arith, paid, frames)
 
-      pub returned-alone : return_move plan (path_of i) (machine_of plan i) false ≡ run_of (move_result.Went effect.Nothing) (machine_of plan new) → to ≡ from → EndsFrame after plan i from new to true
+      pub returned-alone : return_move plan (path_of i) (machine_of plan i) false ≡ run_of (move_result.Moved effect.Nothing) (machine_of plan new) → to ≡ from → EndsFrame after plan i from new to true
       returned-alone moves still = ends (returning-stays i new is) (inl (ends-by false off ∙ moves, still)) shorter
 
-      pub returned-sent : (e : Event) → return_move plan (path_of i) (machine_of plan i) false ≡ run_of (move_result.Went (effect.Emitted e)) (machine_of plan new) → to ≡ after e from → EndsFrame after plan i from new to true
+      pub returned-sent : (e : Event) → return_move plan (path_of i) (machine_of plan i) false ≡ run_of (move_result.Moved (effect.Emitted e)) (machine_of plan new) → to ≡ after e from → EndsFrame after plan i from new to true
       returned-sent e moves sent = ends (returning-stays i new is) (inr (e, ends-by false off ∙ moves, sent)) shorter

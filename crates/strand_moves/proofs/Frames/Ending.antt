@@ -14,7 +14,7 @@ use Rattle.strand_moves.specs.declared.instance_parts.InstanceParts.{InstancePar
 use Rattle.strand_moves.specs.declared.frame.Level.{Level}
 use Rattle.strand_moves.specs.Acts.{Stays, result_of}
 use Rattle.strand_moves.specs.InstanceParts.{frame_of, machine_of, path_of, present_of, scopes_of}
-use Rattle.strand_moves.proofs.Statements.Equations.{faults, went}
+use Rattle.strand_moves.proofs.Statements.Equations.{faults, moved}
 use Rattle.strand_moves.proofs.Frames.CallLemmas.{below-more, scopes-more}
 use Rattle.script_grammar.specs.declared.tree.Function.{Function}
 use Rattle.serial_meaning.specs.Runs.{Run}
@@ -40,10 +40,10 @@ module _ (plan : PlanView) (path : List ℕ) (m : Machine) where
   -- the step of a return, and the sync that it implies
   synced-return : (n : ℕ) → m.steps ≡ suc n → spawns_in (function_at (functions_of plan) m.top.function) ≡ true →
       return_move plan path m false
-      ≡ went (Emitted (event.Sync (here_of path m ++ m.rank ∷ [])) ∷ sync_effects m.top.spawned) (record m { rank = m.rank + 1; steps = n; top = record m.top { returning = true; spawned = false } })
+      ≡ moved (Emitted (event.Sync (here_of path m ++ m.rank ∷ [])) ∷ sync_effects m.top.spawned) (record m { rank = m.rank + 1; steps = n; top = record m.top { returning = true; spawned = false } })
   synced-return n h s =
       rw (h, s)
-      (ap (λ (effects : List Effect). went (Emitted (event.Sync (here_of path m ++ m.rank ∷ [])) ∷ effects) (record m { rank = m.rank + 1; steps = n; top = record m.top { returning = true; spawned = false } })) (append-nil (sync_effects m.top.spawned)))
+      (ap (λ (effects : List Effect). moved (Emitted (event.Sync (here_of path m ++ m.rank ∷ [])) ∷ effects) (record m { rank = m.rank + 1; steps = n; top = record m.top { returning = true; spawned = false } })) (append-nil (sync_effects m.top.spawned)))
 
 module _ (plan : PlanView) (i : InstanceParts) (here : here_of (path_of i) (machine_of plan i) ≡ present_of i) where
   pub value-fault : (kind : FaultKind) → result_of (function_at (functions_of plan) i.top.function) i.top.env.variables ≡ Err kind → return_move plan (path_of i) (machine_of plan i) true ≡ faults kind (present_of i ++ i.rank ∷ [])
@@ -56,15 +56,15 @@ module _ (plan : PlanView) (i : InstanceParts) (here : here_of (path_of i) (mach
 
     pub return-synced : (new : InstanceParts) → spawns_in (function_at (functions_of plan) i.top.function) ≡ true →
         new ≡ record paid { rank = paid.rank + 1; top = record paid.top { returning = true; spawned = false } } →
-        return_move plan (path_of i) (machine_of plan i) false ≡ went (Emitted (event.Sync (present_of paid ++ paid.rank ∷ [])) ∷ sync_effects paid.top.spawned) (machine_of plan new)
+        return_move plan (path_of i) (machine_of plan i) false ≡ moved (Emitted (event.Sync (present_of paid ++ paid.rank ∷ [])) ∷ sync_effects paid.top.spawned) (machine_of plan new)
     return-synced new spawns p =
         let after = rw is-paid at p in
         let m = machine_of plan i in
         let next = record m { rank = m.rank + 1; steps = n; top = record m.top { returning = true; spawned = false } } in
         let effects = Emitted (event.Sync (present_of i ++ i.rank ∷ [])) ∷ sync_effects i.top.spawned in
         rw is-paid
-        (synced-return plan (path_of i) m n one-more spawns ∙ ap (λ (q : List ℕ). went (Emitted (event.Sync (q ++ i.rank ∷ [])) ∷ sync_effects i.top.spawned) next) here
-        ∙ ap (λ (x : InstanceParts). went effects (machine_of plan x)) (sym after))
+        (synced-return plan (path_of i) m n one-more spawns ∙ ap (λ (q : List ℕ). moved (Emitted (event.Sync (q ++ i.rank ∷ [])) ∷ sync_effects i.top.spawned) next) here
+        ∙ ap (λ (x : InstanceParts). moved effects (machine_of plan x)) (sym after))
 
 module _ (plan : PlanView) (i : InstanceParts) (v : Value) (known : result_of (function_at (functions_of plan) i.top.function) i.top.env.variables ≡ Ok v) where
   pub value-received : (rest : List Frame) (caller : Frame) (env : EnvironmentView) (new : InstanceParts) → i.below.items ≡ rest ++ caller ∷ [] → env.variables ≡ with_scalar i.top.target v caller.env.variables →

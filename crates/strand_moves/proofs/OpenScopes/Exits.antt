@@ -16,7 +16,7 @@ use Rattle.strand_moves.specs.declared.instance_parts.InstanceParts.{InstancePar
 use Rattle.strand_moves.specs.Acts.{IsKept, KeepsInstance}
 use Rattle.strand_moves.specs.Moves.{Makes, HasEffects}
 use Rattle.strand_moves.specs.FastPath.{emitted, silent}
-use Rattle.strand_moves.proofs.Statements.Equations.{faults, went}
+use Rattle.strand_moves.proofs.Statements.Equations.{faults, moved}
 
 module _ (run : Run Effect Fault Reached) (strand : List ℕ) (m : Machine) where
   shows-error : {A : Type 0} (h : values.EvaluationError) (defined : Result A FaultKind) → Calculates (Err h) defined → ((kind : FaultKind) → defined ≡ Err kind → run ≡ faults kind strand) → Makes run strand m (Err h)
@@ -46,7 +46,7 @@ module _ (run : Run Effect Fault Reached) (strand : List ℕ) (m : Machine) wher
   emitted-exit (Err y) h defined x g f = let P : values.EvaluationError → Type 0 = λ z. Makes run strand m (Err z) in subst P (sym x) (shows-error h defined g f)
 
   -- by a call that shows these effects
-  pub shows-made : {A : Type 0} (effects : List Effect) (r : Result MoveResult values.EvaluationError) → IfOk r (HasEffects effects) → OnErr r (r ≡ Err error.Memory) → OnOk r A → (A → run ≡ went effects m) → Makes run strand m r
+  pub shows-made : {A : Type 0} (effects : List Effect) (r : Result MoveResult values.EvaluationError) → IfOk r (HasEffects effects) → OnErr r (r ≡ Err error.Memory) → OnOk r A → (A → run ≡ moved effects m) → Makes run strand m r
   shows-made effects (Ok move_result) s f a g = g a ∙ sym (s m)
   shows-made effects (Err (error.Fault kind)) s f a g = absurd (cc)
   shows-made effects (Err error.Memory) s f a g = tt

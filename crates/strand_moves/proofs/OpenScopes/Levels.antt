@@ -20,7 +20,7 @@ use Rattle.strand_moves.specs.Cursors.{IsAfterStatement, statements_left, scope_
 use Rattle.strand_moves.specs.Moves.{acted}
 use Rattle.strand_moves.proofs.Frames.CallLemmas.{is_below}
 use Rattle.strand_moves.specs.InstanceParts.{AreAround, IsInstance, body_of, block_inside, levels_of, machine_of, open_scopes, path_around, path_of, present_of, ranks_after, scopes_of, statements_of}
-use Rattle.strand_moves.proofs.Statements.Equations.{scope, went}
+use Rattle.strand_moves.proofs.Statements.Equations.{scope, moved}
 use Rattle.strand_moves.proofs.OpenScopes.Keeping.{here-is}
 use Rattle.strand_moves.proofs.Statements.Naming.{top-named}
 
@@ -31,17 +31,17 @@ module _ (plan : PlanView) (path : List ℕ) (m : Machine) where
 
     pub joins : m.top.leaving ≡ false →
         end_move plan path m m.top.levels
-        ≡ went (Emitted (event.Sync (here_of path m ++ m.rank ∷ [])) ∷ sync_effects m.top.spawned) (record m { rank = m.rank + 1; top = record m.top { leaving = true; spawned = false } })
+        ≡ moved (Emitted (event.Sync (here_of path m ++ m.rank ∷ [])) ∷ sync_effects m.top.spawned) (record m { rank = m.rank + 1; top = record m.top { leaving = true; spawned = false } })
     joins e =
         end-some false e
-        ∙ ap (λ (effects : List Effect). went (Emitted (event.Sync (here_of path m ++ m.rank ∷ [])) ∷ effects) (record m { rank = m.rank + 1; top = record m.top { leaving = true; spawned = false } })) (append-nil (sync_effects m.top.spawned))
+        ∙ ap (λ (effects : List Effect). moved (Emitted (event.Sync (here_of path m ++ m.rank ∷ [])) ∷ effects) (record m { rank = m.rank + 1; top = record m.top { leaving = true; spawned = false } })) (append-nil (sync_effects m.top.spawned))
 
     pub goes-out : m.top.leaving ≡ true →
         end_move plan path m m.top.levels
-        ≡ went (Closes (here_of path m) ∷ []) (record m { rank = l.rank + 1; top = record m.top { left = l.left; levels = ls; leaving = false } })
+        ≡ moved (Closes (here_of path m) ∷ []) (record m { rank = l.rank + 1; top = record m.top { left = l.left; levels = ls; leaving = false } })
     goes-out e =
         end-some true e
-        ∙ ap (λ (p : List ℕ). went (Closes p ∷ []) (record m { rank = l.rank + 1; top = record m.top { left = l.left; levels = ls; leaving = false } }))
+        ∙ ap (λ (p : List ℕ). moved (Closes p ∷ []) (record m { rank = l.rank + 1; top = record m.top { left = l.left; levels = ls; leaving = false } }))
         (ap (λ (ls : List meaning.Level). inside_of (present path m.below) ls) (sym there))
 
 -- scopes that are open, from the innermost on
@@ -83,7 +83,7 @@ module _ (plan : PlanView) (i : InstanceParts) (h : IsInstance plan i) where
           ∙ ap (λ (x : InstanceParts). let y : InstanceParts = record i { trail = l.trail; rank = l.rank + 1; leaving = false; top = record i.top { levels = x.top.levels; cursor = l.cursor } } in y) (sym e),
     )
 
-    pub out-moves : (new : InstanceParts) → IsOut new → end_move plan (path_of i) (machine_of plan i) (machine_of plan i).top.levels ≡ went (Closes (l.trail.path ++ l.rank ∷ []) ∷ []) (machine_of plan new)
+    pub out-moves : (new : InstanceParts) → IsOut new → end_move plan (path_of i) (machine_of plan i) (machine_of plan i).top.levels ≡ moved (Closes (l.trail.path ++ l.rank ∷ []) ∷ []) (machine_of plan new)
     out-moves new out =
         let m = machine_of plan i in
         let body = body_of plan i.top.function in
@@ -94,8 +94,8 @@ module _ (plan : PlanView) (i : InstanceParts) (h : IsInstance plan i) where
         ap (λ (x : InstanceParts). machine_of plan x) out.1
         ∙ ap (λ (ls : List Level). record m { rank = l.rank + 1; top = record m.top { left = statements_left (block_inside body (reverse ls)) l.cursor; levels = levels_of body (reverse ls); leaving = false } }) out.0 in
         goes-out plan (path_of i) m (record { rank = l.rank; left = statements_left (block_inside body (reverse rest)) l.cursor }) (levels_of body (reverse rest)) levels leaves
-        ∙ ap (λ (p : List ℕ). went (Closes p ∷ []) next) place
-        ∙ ap (λ (n : Machine). went (Closes (l.trail.path ++ l.rank ∷ []) ∷ []) n) (sym machine)
+        ∙ ap (λ (p : List ℕ). moved (Closes p ∷ []) next) place
+        ∙ ap (λ (n : Machine). moved (Closes (l.trail.path ++ l.rank ∷ []) ∷ []) n) (sym machine)
 
     out-scopes : (new : InstanceParts) → IsOut new → open_scopes new ≡ reverse rest ++ scopes_of (reverse i.below.items)
     out-scopes new out =
@@ -136,12 +136,12 @@ module _ (plan : PlanView) (i : InstanceParts) (h : IsInstance plan i) where
     first : (l : Level) × ((rest : List Level) × (reverse i.top.levels.items ≡ l ∷ rest))
     first = some-first (reverse i.top.levels.items) (turned-some i.top.levels.items some)
 
-    pub join-moves : end_move plan (path_of i) (machine_of plan i) (machine_of plan i).top.levels ≡ went (Emitted (event.Sync (present_of i ++ i.rank ∷ [])) ∷ sync_effects i.top.spawned) (machine_of plan joined)
+    pub join-moves : end_move plan (path_of i) (machine_of plan i) (machine_of plan i).top.levels ≡ moved (Emitted (event.Sync (present_of i ++ i.rank ∷ [])) ∷ sync_effects i.top.spawned) (machine_of plan joined)
     join-moves =
         let m = machine_of plan i in
         let body = body_of plan i.top.function in
         joins plan (path_of i) m _ _ (ap (λ (ls : List Level). levels_of body ls) first.1.1) on
-        ∙ ap (λ (p : List ℕ). went (Emitted (event.Sync (p ++ i.rank ∷ [])) ∷ sync_effects i.top.spawned) (machine_of plan joined)) (here-is plan i h)
+        ∙ ap (λ (p : List ℕ). moved (Emitted (event.Sync (p ++ i.rank ∷ [])) ∷ sync_effects i.top.spawned) (machine_of plan joined)) (here-is plan i h)
 
     pub join-kept : statements_left (statements_of plan i.top) i.top.cursor ≡ [] → IsKept plan i joined
     join-kept none =
@@ -196,7 +196,7 @@ module _ (i new : InstanceParts) (inner : Trail) where
       }
 
   pub in-moves : (plan : PlanView) (st : Stmt) (block : List Stmt) → Begins → IsAfterStatement (statements_of plan i.top) i.top.cursor st → out-Act (out-Stmt st).act ≡ act.Scope block → length (present_of i) + 1 < plan.limits.depth →
-      acted plan (present_of i) (machine_of plan i) st (act.Scope block) ≡ went (Opens (present_of i ++ i.rank ∷ []) ∷ []) (machine_of plan new)
+      acted plan (present_of i) (machine_of plan i) st (act.Scope block) ≡ moved (Opens (present_of i ++ i.rank ∷ []) ∷ []) (machine_of plan new)
   in-moves plan st block b after is deep =
       let m = machine_of plan i in
       let body = body_of plan i.top.function in
@@ -208,4 +208,4 @@ module _ (i new : InstanceParts) (inner : Trail) where
       ∙ ap (λ (left : List Stmt). record m { rank = 0; top = record m.top { left = left; levels = levels_of body (reverse new.top.levels.items) } }) (starts ∙ text)
       ∙ ap (λ (ls : List meaning.Level). record m { rank = 0; top = record m.top { left = block; levels = ls } }) levels in
       scope plan (present_of i) m st block (is_below (length (present_of i) + 1) plan.limits.depth deep)
-      ∙ ap (λ (n : Machine). went (Opens (present_of i ++ i.rank ∷ []) ∷ []) n) (sym machine)
+      ∙ ap (λ (n : Machine). moved (Opens (present_of i ++ i.rank ∷ []) ∷ []) n) (sym machine)

@@ -24,7 +24,7 @@ use Rattle.strand_moves.specs.Acts.{loop_begins}
 use Rattle.strand_moves.specs.InstanceParts.{machine_of, present_of}
 use Rattle.strand_moves.specs.Moves.{acted, spawn_to, effects_of}
 use Rattle.strand_moves.proofs.Frames.CallLemmas.{is_below, calls-open}
-use Rattle.strand_moves.proofs.Statements.Equations.{went, spawn}
+use Rattle.strand_moves.proofs.Statements.Equations.{moved, spawn}
 use Rattle.strand_moves.proofs.Statements.LoopEquations.{pfor-none, pfor-some}
 
 -- the pedigree of an instance's strand
@@ -37,7 +37,7 @@ module _ (plan : PlanView) (i : InstanceParts) (st : Stmt) where
       instead ≡ answer_placeholder (function_at (functions_of plan) function) → env.variables ≡ with_scalar target instead i.top.env.variables → received ≡ record i { top = record i.top { env = env } } →
       height ≡ length i.below.items → to ≡ target →
       acted plan (present_of i) (machine_of plan i) st (spawn_to target c)
-      ≡ went (Emitted (event.Spawn (strand_at i)) ∷ Starts (origin.Instance function vs path) (Spawned height to) ∷ []) (machine_of plan (record received { rank = received.rank + 1; top = record received.top { spawned = true } }))
+      ≡ moved (Emitted (event.Spawn (strand_at i)) ∷ Starts (origin.Instance function vs path) (Spawned height to) ∷ []) (machine_of plan (record received { rank = received.rank + 1; top = record received.top { spawned = true } }))
   spawned-child target c vs instead function height path to env received known room as_integer p placeholder e r h t =
       let deep = is_below (length (present_of i) + 1) plan.limits.depth room in
       let put = rw (placeholder, as_integer) at e in
@@ -54,12 +54,12 @@ module _ (plan : PlanView) (i : InstanceParts) (st : Stmt) where
     left = omega arith
 
     pub looped-none : n ≡ 0 → (s : Effects) (passed : InstanceParts) → s ≡ effect.Emitted (event.Loop (strand_at begun)) → passed ≡ passed_on →
-        acted plan (present_of i) (machine_of plan i) st (act.Pfor var lo hi target c) ≡ went (effects_of s) (machine_of plan passed)
+        acted plan (present_of i) (machine_of plan i) st (act.Pfor var lo hi target c) ≡ moved (effects_of s) (machine_of plan passed)
     looped-none none s passed e p =
         rw (e, p, is-begun, ← left) (pfor-none plan (present_of i) (machine_of plan i) st var lo hi target c l h vs n known-lo known-hi known-args counted none begins)
 
     pub looped-some : 0 < n → (s : Effects) (passed : InstanceParts) (function : ℕ) (first : ℤ) (path : List ℕ) (trail : Trail) → function ≡ function_number (functions_of plan) c.name.bytes → first ≡ as_integer l → path ≡ strand_at begun →
         s ≡ effect.Looped (event.Loop (strand_at begun)) (record { child = record { origin = origin.Loop function vs first path (record { lo = 0; hi = n }); trail = trail }; target = target }) → passed ≡ passed_on →
-        acted plan (present_of i) (machine_of plan i) st (act.Pfor var lo hi target c) ≡ went (effects_of s) (machine_of plan passed)
+        acted plan (present_of i) (machine_of plan i) st (act.Pfor var lo hi target c) ≡ moved (effects_of s) (machine_of plan passed)
     looped-some some s passed function first path trail f g a e p =
         rw (e, p, f, g, a, is-begun, ← left) (pfor-some plan (present_of i) (machine_of plan i) st var lo hi target c l h vs n known-lo known-hi known-args counted some begins)

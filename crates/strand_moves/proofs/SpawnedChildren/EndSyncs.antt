@@ -21,8 +21,8 @@ use Rattle.strand_moves.proofs.Frames.Ending.{return-synced}
 use Rattle.strand_moves.proofs.OpenScopes.Keeping.{here-is, keeps-stays}
 use Rattle.strand_moves.proofs.OpenScopes.Levels.{join-kept, join-moves, joined}
 use Rattle.strand_moves.proofs.SpawnedChildren.ChildLemmas.{strand_at}
-use Rattle.strand_moves.proofs.SpawnedChildren.Waiting.{sync-went}
-use Rattle.strand_moves.proofs.Statements.Equations.{went}
+use Rattle.strand_moves.proofs.SpawnedChildren.Waiting.{sync-moved}
+use Rattle.strand_moves.proofs.Statements.Equations.{moved}
 use Rattle.strand_moves.proofs.Statements.Naming.{top-named}
 
 -- a sync keeps an instance where a step was paid for it
@@ -33,7 +33,7 @@ module _ (plan : PlanView) (i : InstanceParts) (sound : IsInstance plan i) (on :
   pub synced-kept : (new : InstanceParts) → new ≡ synced → IsKept plan i new
   synced-kept new passed =
       let kept = top-named plan i synced refl refl refl refl in
-      subst (IsKept plan i) (sym passed) (keeps-stays plan i synced sound on (record { trail = refl; scopes = refl; leaving = refl }) kept (omega (arith, less)) (Ok (move_result.Went effect.Nothing)))
+      subst (IsKept plan i) (sym passed) (keeps-stays plan i synced sound on (record { trail = refl; scopes = refl; leaving = refl }) kept (omega (arith, less)) (Ok (move_result.Moved effect.Nothing)))
 
 module _ (plan : PlanView) (i : InstanceParts) (sound : IsInstance plan i) (on : i.leaving ≡ false) (none : statements_left (statements_of plan i.top) i.top.cursor ≡ []) where
   -- at the end of a scope
@@ -43,8 +43,8 @@ module _ (plan : PlanView) (i : InstanceParts) (sound : IsInstance plan i) (on :
       event.Sync (strand_at i),
       sent,
       end-moves plan i None refl none ∙ join-moves plan i sound some on
-          ∙ ap (λ (x : InstanceParts). went (Emitted (event.Sync (strand_at i)) ∷ sync_effects i.top.spawned) (machine_of plan x)) (sym passed)
-          ∙ sync-went (strand_at i) i.top.spawned w (machine_of plan new) waits,
+          ∙ ap (λ (x : InstanceParts). moved (Emitted (event.Sync (strand_at i)) ∷ sync_effects i.top.spawned) (machine_of plan x)) (sym passed)
+          ∙ sync-moved (strand_at i) i.top.spawned w (machine_of plan new) waits,
     )
 
     pub scope-kept : IsKept plan i new
@@ -64,5 +64,5 @@ module _ (plan : PlanView) (i : InstanceParts) (sound : IsInstance plan i) (on :
       event.Sync (strand_at i),
       sent,
       return-ends ∙ return-synced plan i (here-is plan i sound) (record i { steps = n }) n refl less new spawns passed
-          ∙ sync-went (strand_at i) i.top.spawned w (machine_of plan new) waits,
+          ∙ sync-moved (strand_at i) i.top.spawned w (machine_of plan new) waits,
     )

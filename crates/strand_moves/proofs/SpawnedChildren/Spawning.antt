@@ -66,10 +66,10 @@ module _ (i : InstanceParts) (n : ℕ) (less : n + 1 ≡ i.steps) where
 
   module _ (plan : PlanView) (sound : IsInstance plan i) (st : Stmt) (passed : HasPassedStatement plan i (Some st)) (new : InstanceParts) where
     pub spawn-kept : KeepsNames plan paid new → Stays paid new → Costs paid new → IsKept plan i new
-    spawn-kept named stays few = keeps-paid plan i paid n sound passed.0 refl less new named stays few (Ok (move_result.Went effect.Nothing))
+    spawn-kept named stays few = keeps-paid plan i paid n sound passed.0 refl less new named stays few (Ok (move_result.Moved effect.Nothing))
 
     pub spawn-did : (to : Option Name) (c : CallText) → DoesAs st to c → (shown : Event) (done : Result SpawnedChild values.EvaluationError) (s : SpawnedChild) → done ≡ Ok s → Acts plan st (spawn_to to c) paid new (spawn_as_move shown done) →
-        move plan (path_of i) (unpassed plan i (Some st)) ≡ run_of (move_result.Went (effect.Spawned shown s)) (machine_of plan new)
+        move plan (path_of i) (unpassed plan i (Some st)) ≡ run_of (move_result.Moved (effect.Spawned shown s)) (machine_of plan new)
     spawn-did to c does shown done s is acts =
         let m = machine_of plan i in
         let a = out-Act (out-Stmt st).act in

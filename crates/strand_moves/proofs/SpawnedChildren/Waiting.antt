@@ -27,7 +27,7 @@ use Rattle.strand_moves.proofs.Cursors.Passing.{next-moves}
 use Rattle.strand_moves.proofs.OpenScopes.Exits.{shows-exit, shows-fault}
 use Rattle.strand_moves.proofs.OpenScopes.Keeping.{here-is}
 use Rattle.strand_moves.proofs.SpawnedChildren.ChildLemmas.{strand_at}
-use Rattle.strand_moves.proofs.Statements.Equations.{faults, sync, went}
+use Rattle.strand_moves.proofs.Statements.Equations.{faults, sync, moved}
 use Rattle.strand_moves.proofs.Statements.Paying.{statement-paid}
 
 -- a loop that is left by a `?`
@@ -42,16 +42,16 @@ module _ (run : Run Effect Fault Reached) (strand : List ℕ) (m : Machine) (sho
   wait-fault (Err y) kind e f = shows-fault run strand m (Err y) kind e f
 
 -- a sync that showed its event, as a run
-pub sync-went : (j : List ℕ) (spawned : Bool) (w : Waits) (m : Machine) → w ≡ sync_waits spawned → went (Emitted (event.Sync j) ∷ sync_effects spawned) m ≡ run_of (move_result.Went (waits_after (event.Sync j) w)) m
-sync-went j true w m e = ap (λ (x : Waits). run_of (move_result.Went (waits_after (event.Sync j) x)) m) (sym e)
-sync-went j false w m e = ap (λ (x : Waits). run_of (move_result.Went (waits_after (event.Sync j) x)) m) (sym e)
+pub sync-moved : (j : List ℕ) (spawned : Bool) (w : Waits) (m : Machine) → w ≡ sync_waits spawned → moved (Emitted (event.Sync j) ∷ sync_effects spawned) m ≡ run_of (move_result.Moved (waits_after (event.Sync j) w)) m
+sync-moved j true w m e = ap (λ (x : Waits). run_of (move_result.Moved (waits_after (event.Sync j) x)) m) (sym e)
+sync-moved j false w m e = ap (λ (x : Waits). run_of (move_result.Moved (waits_after (event.Sync j) x)) m) (sym e)
 
 pub sync-shows : (plan : PlanView) (st : Stmt) (old new : InstanceParts) (w : Waits) → w ≡ sync_waits old.top.spawned → new ≡ record old { rank = old.rank + 1; top = record old.top { spawned = false } } →
-    acted plan (present_of old) (machine_of plan old) st act.Sync ≡ run_of (move_result.Went (waits_after (event.Sync (strand_at old)) w)) (machine_of plan new)
+    acted plan (present_of old) (machine_of plan old) st act.Sync ≡ run_of (move_result.Moved (waits_after (event.Sync (strand_at old)) w)) (machine_of plan new)
 sync-shows plan st old new w waits passed =
     sync plan (present_of old) (machine_of plan old) st
-    ∙ ap (λ (x : InstanceParts). went (Emitted (event.Sync (strand_at old)) ∷ sync_effects old.top.spawned) (machine_of plan x)) (sym passed)
-    ∙ sync-went (strand_at old) old.top.spawned w (machine_of plan new) waits
+    ∙ ap (λ (x : InstanceParts). moved (Emitted (event.Sync (strand_at old)) ∷ sync_effects old.top.spawned) (machine_of plan x)) (sym passed)
+    ∙ sync-moved (strand_at old) old.top.spawned w (machine_of plan new) waits
 
 -- a sync or a loop after the step of its statement
 module _ (i : InstanceParts) (n : ℕ) (less : n + 1 ≡ i.steps) (plan : PlanView) (sound : IsInstance plan i) (st : Stmt) (new : InstanceParts) where
@@ -59,7 +59,7 @@ module _ (i : InstanceParts) (n : ℕ) (less : n + 1 ≡ i.steps) (plan : PlanVi
   paid = record i { steps = n }
 
   pub wait-did : (a : Act-F Act Stmt) → out-Act (out-Stmt st).act ≡ a → (shown : Event) (done : Result Waits values.EvaluationError) (w : Waits) → done ≡ Ok w → Acts plan st a paid new (wait_as_move shown done) →
-      move plan (path_of i) (unpassed plan i (Some st)) ≡ run_of (move_result.Went (waits_after shown w)) (machine_of plan new)
+      move plan (path_of i) (unpassed plan i (Some st)) ≡ run_of (move_result.Moved (waits_after shown w)) (machine_of plan new)
   wait-did a is shown done w e acts =
       let m = machine_of plan i in
       let made = statement-paid plan i paid n refl less (here-is plan i sound) st a new (wait_as_move shown done) is acts in

@@ -36,8 +36,8 @@ abbrev pub with_env : Machine → Env → Machine
 with_env m env = record m { top = record m.top { env = env } }
 
 -- how a run goes on, or ends by a fault, from this machine
-abbrev pub went : List Effect → Machine → Run Effect Fault Reached
-went effects m = record { items = effects; ending = Ok (Stands m) }
+abbrev pub moved : List Effect → Machine → Run Effect Fault Reached
+moved effects m = record { items = effects; ending = Ok (Stands m) }
 
 abbrev pub faults : FaultKind → List ℕ → Run Effect Fault Reached
 faults kind strand = record { items = []; ending = Err (record { kind = kind; at = strand }) }
@@ -103,7 +103,7 @@ module _ (plan : PlanView) (path : List ℕ) (m : Machine) (st : Stmt) where
   let-is-set x (right.Spawn at c) = refl
 
   pub set-value : (x : Name) (e : Expr) (v : Value) (env : Env) → value_of e m.top.env ≡ Ok v → env ≡ with_content m.top.env x.bytes (Scalar v) →
-      acted plan path m st (act.Set x (right.Value e)) ≡ went [] (with_env m env)
+      acted plan path m st (act.Set x (right.Value e)) ≡ moved [] (with_env m env)
   unfolding acted
   set-value x e v env h k = rw (h, k) refl
 
@@ -113,30 +113,30 @@ module _ (plan : PlanView) (path : List ℕ) (m : Machine) (st : Stmt) where
   set-value-fault x e kind h = rw h refl
 
   pub set-draw : (x : Name) (at n : ℕ) (env : Env) → n ≡ drawn plan (path ++ m.rank ∷ []) → env ≡ with_content m.top.env x.bytes (Scalar (Int (cast_signed w64 n))) →
-      acted plan path m st (act.Set x (right.Draw at)) ≡ went (Emitted (event.Draw (path ++ m.rank ∷ []) n) ∷ []) (record (with_env m env) { rank = m.rank + 1 })
+      acted plan path m st (act.Set x (right.Draw at)) ≡ moved (Emitted (event.Draw (path ++ m.rank ∷ []) n) ∷ []) (record (with_env m env) { rank = m.rank + 1 })
   unfolding acted
   set-draw x at n env h k = rw (k, h) refl
 
   pub set-new : (x : Name) (at : ℕ) (env : Env) → env ≡ with_content m.top.env x.bytes (Scalar (Id (path ++ m.rank ∷ []))) →
-      acted plan path m st (act.Set x (right.New at)) ≡ went (Emitted (event.New (path ++ m.rank ∷ [])) ∷ []) (record (with_env m env) { rank = m.rank + 1 })
+      acted plan path m st (act.Set x (right.New at)) ≡ moved (Emitted (event.New (path ++ m.rank ∷ [])) ∷ []) (record (with_env m env) { rank = m.rank + 1 })
   unfolding acted
   set-new x at env k = rw k refl
 
-  pub array : (x : Name) (n : Number) (env : Env) → env ≡ with_content m.top.env x.bytes (Array (zeros (count_of n.value))) → acted plan path m st (act.Array x n) ≡ went [] (with_env m env)
+  pub array : (x : Name) (n : Number) (env : Env) → env ≡ with_content m.top.env x.bytes (Array (zeros (count_of n.value))) → acted plan path m st (act.Array x n) ≡ moved [] (with_env m env)
   unfolding acted
   array x n env h = rw h refl
 
-  pub sync : acted plan path m st act.Sync ≡ went (Emitted (event.Sync (path ++ m.rank ∷ [])) ∷ sync_effects m.top.spawned) (record m { rank = m.rank + 1; top = record m.top { spawned = false } })
+  pub sync : acted plan path m st act.Sync ≡ moved (Emitted (event.Sync (path ++ m.rank ∷ [])) ∷ sync_effects m.top.spawned) (record m { rank = m.rank + 1; top = record m.top { spawned = false } })
   unfolding acted
   sync =
-      ap (λ (effects : List Effect). went (Emitted (event.Sync (path ++ m.rank ∷ [])) ∷ effects) (record m { rank = m.rank + 1; top = record m.top { spawned = false } })) (append-nil (sync_effects m.top.spawned))
+      ap (λ (effects : List Effect). moved (Emitted (event.Sync (path ++ m.rank ∷ [])) ∷ effects) (record m { rank = m.rank + 1; top = record m.top { spawned = false } })) (append-nil (sync_effects m.top.spawned))
 
-  pub print : (e : Expr) (v : Value) → value_of e m.top.env ≡ Ok v → acted plan path m st (act.Print e) ≡ went (Emitted (event.Print (path ++ m.rank ∷ []) v) ∷ []) m
+  pub print : (e : Expr) (v : Value) → value_of e m.top.env ≡ Ok v → acted plan path m st (act.Print e) ≡ moved (Emitted (event.Print (path ++ m.rank ∷ []) v) ∷ []) m
   unfolding acted
   print e v h = rw h refl
 
   pub store : (x : Name) (i e : Expr) (k v : Value) (old : ℤ) (env : Env) → value_of i m.top.env ≡ Ok k → at_index (items_of (content_of m.top.env x.bytes)) (as_integer k) ≡ Some old → value_of e m.top.env ≡ Ok v →
-      env ≡ with_content m.top.env x.bytes (Array (set_item (items_of (content_of m.top.env x.bytes)) (as_integer k) v)) → acted plan path m st (act.Store x i e) ≡ went [] (with_env m env)
+      env ≡ with_content m.top.env x.bytes (Array (set_item (items_of (content_of m.top.env x.bytes)) (as_integer k) v)) → acted plan path m st (act.Store x i e) ≡ moved [] (with_env m env)
   unfolding acted
   store x i e k v old env f g h j = rw (f, g, h, j) refl
 
@@ -160,7 +160,7 @@ module _ (plan : PlanView) (path : List ℕ) (m : Machine) (st : Stmt) where
 
   -- what an `if` goes inside to
   pub branch : (e : Expr) (first second : List Stmt) (v : Value) (b : Bool) → value_of e m.top.env ≡ Ok v → is_true v ≡ b →
-      acted plan path m st (act.If e first second) ≡ went [] (record m { top = record m.top { left = (if b then first else second) ++ m.top.left } })
+      acted plan path m st (act.If e first second) ≡ moved [] (record m { top = record m.top { left = (if b then first else second) ++ m.top.left } })
   unfolding acted
   branch e first second v b h k = rw (h, k) refl
 
@@ -169,11 +169,11 @@ module _ (plan : PlanView) (path : List ℕ) (m : Machine) (st : Stmt) where
   branch-fault e first second kind h = rw h refl
 
   pub turn : (e : Expr) (body : List Stmt) (v : Value) → value_of e m.top.env ≡ Ok v → is_true v ≡ true →
-      acted plan path m st (act.While e body) ≡ went [] (record m { top = record m.top { left = body ++ (st ∷ m.top.left) } })
+      acted plan path m st (act.While e body) ≡ moved [] (record m { top = record m.top { left = body ++ (st ∷ m.top.left) } })
   unfolding acted
   turn e body v h k = rw (h, k) refl
 
-  pub no-turn : (e : Expr) (body : List Stmt) (v : Value) → value_of e m.top.env ≡ Ok v → is_true v ≡ false → acted plan path m st (act.While e body) ≡ went [] m
+  pub no-turn : (e : Expr) (body : List Stmt) (v : Value) → value_of e m.top.env ≡ Ok v → is_true v ≡ false → acted plan path m st (act.While e body) ≡ moved [] m
   unfolding acted
   no-turn e body v h k = rw (h, k) refl
 
@@ -184,7 +184,7 @@ module _ (plan : PlanView) (path : List ℕ) (m : Machine) (st : Stmt) where
   -- into a scope
   pub scope : (block : List Stmt) → nat_lt (length path + 1) plan.limits.depth ≡ true →
       acted plan path m st (act.Scope block)
-      ≡ went (Opens (path ++ m.rank ∷ []) ∷ []) (record m { rank = 0; top = record m.top { left = block; levels = record { rank = m.rank; left = m.top.left } ∷ m.top.levels } })
+      ≡ moved (Opens (path ++ m.rank ∷ []) ∷ []) (record m { rank = 0; top = record m.top { left = block; levels = record { rank = m.rank; left = m.top.left } ∷ m.top.levels } })
   unfolding acted
   scope block h = rw h refl
 
@@ -199,7 +199,7 @@ module _ (plan : PlanView) (path : List ℕ) (m : Machine) (st : Stmt) where
 
   pub spawn : (target : Option Name) (c : CallText) (vs : List Value) (env : Env) → values_of c.args m.top.env ≡ Ok vs → nat_lt (length path + 1) plan.limits.depth ≡ true →
       env ≡ with_scalar target (placeholder plan (child c vs)) m.top.env →
-      acted plan path m st (spawn_to target c) ≡ went (Emitted (event.Spawn (path ++ m.rank ∷ [])) ∷ Starts (child c vs) (Spawned (length m.below) target) ∷ []) (record m { rank = m.rank + 1; top = record m.top { env = env; spawned = true } })
+      acted plan path m st (spawn_to target c) ≡ moved (Emitted (event.Spawn (path ++ m.rank ∷ [])) ∷ Starts (child c vs) (Spawned (length m.below) target) ∷ []) (record m { rank = m.rank + 1; top = record m.top { env = env; spawned = true } })
   unfolding acted
   spawn None c vs env h k j = rw (h, k, j) refl
   spawn (Some x) c vs env h k j = rw (h, k, j) refl
@@ -216,7 +216,7 @@ module _ (plan : PlanView) (path : List ℕ) (m : Machine) (st : Stmt) where
   spawn-depth-fault (Some x) c vs h k = rw (h, k) refl
 
   pub call : (target : Option Name) (c : CallText) (vs : List Value) (f : Function) → values_of c.args m.top.env ≡ Ok vs → nat_lt (length m.below) 256 ≡ true → function_at (functions_of plan) (function_number (functions_of plan) c.name.bytes) ≡ Some f →
-      acted plan path m st (call_to target c) ≡ went [] (record m { top = callee target (function_number (functions_of plan) c.name.bytes) f vs; below = m.top ∷ m.below })
+      acted plan path m st (call_to target c) ≡ moved [] (record m { top = callee target (function_number (functions_of plan) c.name.bytes) f vs; below = m.top ∷ m.below })
   unfolding acted
   call None c vs f h k j = rw (h, k, j) refl
   call (Some x) c vs f h k j = rw (h, k, j) refl

@@ -16,7 +16,7 @@ use Rattle.strand_moves.specs.Acts.{Acts, BeginsOne, StaysUnlessMemory}
 use Rattle.strand_moves.specs.Cursors.{IsAfterStatement, statements_left, PassesStatement}
 use Rattle.strand_moves.specs.InstanceParts.{IsInstance, machine_of, path_of, present_of, statements_of}
 use Rattle.strand_moves.specs.Moves.{acted, MovesTrail, present_pedigree}
-use Rattle.strand_moves.specs.FastPath.{HasCalled, HasEmitted, IsDone, IsSilent, IsEmittedTo, IsWent, emitted, is_plain, is_emitting, silent}
+use Rattle.strand_moves.specs.FastPath.{HasCalled, HasEmitted, IsDone, IsSilent, IsEmittedTo, IsMoved, emitted, is_plain, is_emitting, silent}
 use Rattle.strand_moves.proofs.Statements.Equations.{paid-move}
 use Rattle.strand_moves.proofs.Statements.Equations as equations
 use Rattle.strand_moves.proofs.Statements.Going.{moves-on}
@@ -34,41 +34,41 @@ emitted-child plan (Err h) = tt
 
 -- what a call did for a statement, by what it answered
 module _ (st : Stmt) (a : Act-F Act Stmt) (old new : InstanceParts) (is : out-Act (out-Stmt st).act ≡ a) where
-  silent-at : (done : Result (Unit {0}) values.EvaluationError) (went : Bool) → ((plan : PlanView) → IsAfterStatement (statements_of plan old.top) old.top.cursor st → Acts plan st a old new (silent done)) →
-      ((kind : FaultKind) → done ≡ Err (error.Fault kind) → new ≡ old) → IsWent done went → IsSilent st old new went
-  silent-at (Ok u) went acts same w =
+  silent-at : (done : Result (Unit {0}) values.EvaluationError) (moved : Bool) → ((plan : PlanView) → IsAfterStatement (statements_of plan old.top) old.top.cursor st → Acts plan st a old new (silent done)) →
+      ((kind : FaultKind) → done ≡ Err (error.Fault kind) → new ≡ old) → IsMoved done moved → IsSilent st old new moved
+  silent-at (Ok u) moved acts same w =
       subst (IsSilent st old new) (sym w) (λ plan after. ap (λ (b : Act-F Act Stmt). acted plan (present_of old) (machine_of plan old) st b) is ∙ acts plan after)
-  silent-at (Err (error.Fault kind)) went acts same w =
+  silent-at (Err (error.Fault kind)) moved acts same w =
       subst (IsSilent st old new) (sym w)
       (same kind refl, λ plan after plain. (record { kind = kind; at = present_pedigree (present_of old) (machine_of plan old) }, ap (λ (b : Act-F Act Stmt). acted plan (present_of old) (machine_of plan old) st b) is ∙ acts plan after))
-  silent-at (Err error.Memory) went acts same w = absurd w
+  silent-at (Err error.Memory) moved acts same w = absurd w
 
   pub silent-is : {E : Type 0} (done : Result (Unit {0}) values.EvaluationError) (r : Result Bool E) → ((plan : PlanView) → IsAfterStatement (statements_of plan old.top) old.top.cursor st → Acts plan st a old new (silent done)) →
-      ((kind : FaultKind) → done ≡ Err (error.Fault kind) → new ≡ old) → IfOk r (IsWent done) → IfOk r (IsSilent st old new)
-  silent-is done (Ok went) acts same w = silent-at done went acts same w
+      ((kind : FaultKind) → done ≡ Err (error.Fault kind) → new ≡ old) → IfOk r (IsMoved done) → IfOk r (IsSilent st old new)
+  silent-is done (Ok moved) acts same w = silent-at done moved acts same w
   silent-is done (Err e) acts same w = tt
 
 -- the same of a call that did this act, whatever the cursor
 module _ (st : Stmt) (a : Act-F Act Stmt) (old new : InstanceParts) where
-  done-at : (done : Result (Unit {0}) values.EvaluationError) (went : Bool) → ((plan : PlanView) → Acts plan st a old new (silent done)) → ((kind : FaultKind) → done ≡ Err (error.Fault kind) → new ≡ old) → IsWent done went → IsDone st a old new went
-  done-at (Ok u) went acts same w = subst (IsDone st a old new) (sym w) (λ plan. acts plan)
-  done-at (Err (error.Fault kind)) went acts same w =
+  done-at : (done : Result (Unit {0}) values.EvaluationError) (moved : Bool) → ((plan : PlanView) → Acts plan st a old new (silent done)) → ((kind : FaultKind) → done ≡ Err (error.Fault kind) → new ≡ old) → IsMoved done moved → IsDone st a old new moved
+  done-at (Ok u) moved acts same w = subst (IsDone st a old new) (sym w) (λ plan. acts plan)
+  done-at (Err (error.Fault kind)) moved acts same w =
       subst (IsDone st a old new) (sym w) (same kind refl, λ plan plain. (record { kind = kind; at = present_pedigree (present_of old) (machine_of plan old) }, acts plan))
-  done-at (Err error.Memory) went acts same w = absurd w
+  done-at (Err error.Memory) moved acts same w = absurd w
 
   pub done-is : {E : Type 0} (done : Result (Unit {0}) values.EvaluationError) (r : Result Bool E) → ((plan : PlanView) → Acts plan st a old new (silent done)) → ((kind : FaultKind) → done ≡ Err (error.Fault kind) → new ≡ old) →
-      IfOk r (IsWent done) → IfOk r (IsDone st a old new)
-  done-is done (Ok went) acts same w = done-at done went acts same w
+      IfOk r (IsMoved done) → IfOk r (IsDone st a old new)
+  done-is done (Ok moved) acts same w = done-at done moved acts same w
   done-is done (Err e) acts same w = tt
 
   -- the act of the statement does the same
   module _ (same : (plan : PlanView) → acted plan (present_of old) (machine_of plan old) st (out-Act (out-Stmt st).act) ≡ acted plan (present_of old) (machine_of plan old) st a) (kind : is_plain (out-Act (out-Stmt st).act) ≡ is_plain a) where
-    silent-by : (went : Bool) → IsDone st a old new went → IsSilent st old new went
+    silent-by : (moved : Bool) → IsDone st a old new moved → IsSilent st old new moved
     silent-by true d = λ plan after. same plan ∙ d plan
     silent-by false d = (d.0, λ plan after plain. let f = d.1 plan (sym kind ∙ plain) in (f.0, same plan ∙ f.1))
 
     pub done-silent : {E : Type 0} (r : Result Bool E) → IfOk r (IsDone st a old new) → IfOk r (IsSilent st old new)
-    done-silent (Ok went) d = silent-by went d
+    done-silent (Ok moved) d = silent-by moved d
     done-silent (Err x) d = tt
 
 -- the same of a call that showed an event, which the sink took
@@ -103,13 +103,13 @@ module _ {S : Type 0} (after : Event → S → S) (plan : PlanView) (st : Stmt) 
 -- the same of a call
 module _ (plan : PlanView) (st : Stmt) (a : Act-F Act Stmt) (old new : InstanceParts) where
   called-at : (done : Result (Unit {0}) values.EvaluationError) (called : Bool) → Acts plan st a old new (silent done) → ((kind : FaultKind) → done ≡ Err (error.Fault kind) → new ≡ old) → StaysUnlessMemory old new (silent done) → OnOk done (BeginsOne old new) →
-      IsWent done called → HasCalled plan st a old new called
+      IsMoved done called → HasCalled plan st a old new called
   called-at (Ok u) called acts same stays begins w = subst (HasCalled plan st a old new) (sym w) (acts, stays, begins)
   called-at (Err (error.Fault kind)) called acts same stays begins w = subst (HasCalled plan st a old new) (sym w) (same kind refl)
   called-at (Err error.Memory) called acts same stays begins w = absurd w
 
   pub called-is : {E : Type 0} (done : Result (Unit {0}) values.EvaluationError) (r : Result Bool E) → Acts plan st a old new (silent done) → ((kind : FaultKind) → done ≡ Err (error.Fault kind) → new ≡ old) → StaysUnlessMemory old new (silent done) → OnOk done (BeginsOne old new) →
-      IfOk r (IsWent done) → IfOk r (HasCalled plan st a old new)
+      IfOk r (IsMoved done) → IfOk r (HasCalled plan st a old new)
   called-is done (Ok called) acts same stays begins w = called-at done called acts same stays begins w
   called-is done (Err e) acts same stays begins w = tt
 
@@ -129,11 +129,11 @@ module _ (plan : PlanView) (st : Stmt) (a : Act-F Act Stmt) (old new : InstanceP
   pub did-not-call : (called : Bool) → called ≡ false → HasCalled plan st a old new called → HasCalled plan st a old new false
   did-not-call called e h = subst (HasCalled plan st a old new) e h
 
-pub did-silent : (st : Stmt) (old new : InstanceParts) (went : Bool) → went ≡ true → IsSilent st old new went → IsSilent st old new true
-did-silent st old new went e h = subst (IsSilent st old new) e h
+pub did-silent : (st : Stmt) (old new : InstanceParts) (moved : Bool) → moved ≡ true → IsSilent st old new moved → IsSilent st old new true
+did-silent st old new moved e h = subst (IsSilent st old new) e h
 
-pub did-nothing : (st : Stmt) (old new : InstanceParts) (went : Bool) → went ≡ false → IsSilent st old new went → IsSilent st old new false
-did-nothing st old new went e h = subst (IsSilent st old new) e h
+pub did-nothing : (st : Stmt) (old new : InstanceParts) (moved : Bool) → moved ≡ false → IsSilent st old new moved → IsSilent st old new false
+did-nothing st old new moved e h = subst (IsSilent st old new) e h
 
 module _ (plan : PlanView) (i : InstanceParts) where
   abbrev text : List Stmt
@@ -152,13 +152,13 @@ module _ (plan : PlanView) (i : InstanceParts) where
         ∙ ap (λ (p : List ℕ). acted plan p (machine_of plan (with_cursor n cursor)) st (out-Act (out-Stmt st).act)) here
 
     -- a statement that was paid and done
-    pub fast_path-went : (new : InstanceParts) → IsSilent st (with_cursor n cursor) new true → move plan (path_of i) (machine_of plan i) ≡ equations.went [] (machine_of plan new)
-    fast_path-went new acts = passed ∙ acts plan passes.after
+    pub fast_path-moved : (new : InstanceParts) → IsSilent st (with_cursor n cursor) new true → move plan (path_of i) (machine_of plan i) ≡ equations.moved [] (machine_of plan new)
+    fast_path-moved new acts = passed ∙ acts plan passes.after
 
     -- one that showed these effects
     pub fast_path-showed : (effects : List Effect) (new : InstanceParts) →
-        acted plan (present_of (with_cursor n cursor)) (machine_of plan (with_cursor n cursor)) st (out-Act (out-Stmt st).act) ≡ equations.went effects (machine_of plan new) →
-        move plan (path_of i) (machine_of plan i) ≡ equations.went effects (machine_of plan new)
+        acted plan (present_of (with_cursor n cursor)) (machine_of plan (with_cursor n cursor)) st (out-Act (out-Stmt st).act) ≡ equations.moved effects (machine_of plan new) →
+        move plan (path_of i) (machine_of plan i) ≡ equations.moved effects (machine_of plan new)
     fast_path-showed effects new acts = passed ∙ acts
 
   -- a statement is left, so the sync at a scope's end isn't after it

@@ -20,7 +20,7 @@ use Rattle.serial_meaning.specs.declared.origin.Origin.TheVariants as origin
 use Rattle.strand_meaning.specs.Machine.{Looped, Emitted, Starts, Loops, Machine, loop_effects}
 use Rattle.strand_moves.specs.Acts.{loop_begins}
 use Rattle.strand_moves.specs.Moves.{acted}
-use Rattle.strand_moves.proofs.Statements.Equations.{went, faults}
+use Rattle.strand_moves.proofs.Statements.Equations.{moved, faults}
 
 module _ (plan : PlanView) (path : List ℕ) (m : Machine) (st : Stmt) (var : Name) (lo hi : Expr) (target : Option Name) (c : CallText) where
   pub pfor-lo-fault : (kind : FaultKind) → value_of lo m.top.env ≡ Err kind → acted plan path m st (act.Pfor var lo hi target c) ≡ faults kind (path ++ m.rank ∷ [])
@@ -60,7 +60,7 @@ module _ (plan : PlanView) (path : List ℕ) (m : Machine) (st : Stmt) (var : Na
     on-depth f g h = rw (known-lo, known-hi, known-args, ← counted, f, g, h) refl
 
     on-loop : (b : Bool) → nat_lt n (m.steps + 1) ≡ true → has_room target n m.top.env ≡ true → loop_fits plan path n ≡ true → is_zero (n - 0) ≡ b →
-        acted plan path m st (act.Pfor var lo hi target c) ≡ went (Emitted (event.Loop (path ++ m.rank ∷ [])) ∷ loop_effects b range_child (Looped target)) looped_on
+        acted plan path m st (act.Pfor var lo hi target c) ≡ moved (Emitted (event.Loop (path ++ m.rank ∷ [])) ∷ loop_effects b range_child (Looped target)) looped_on
     unfolding acted
     on-loop true f g h e = rw (known-lo, known-hi, known-args, ← counted, f, g, h, e) refl
     on-loop false f g h e = rw (known-lo, known-hi, known-args, ← counted, f, g, h, e) refl
@@ -77,18 +77,18 @@ module _ (plan : PlanView) (path : List ℕ) (m : Machine) (st : Stmt) (var : Na
 
     by_begun : (b1 b2 b3 b : Bool) → nat_lt n (m.steps + 1) ≡ b1 → has_room target n m.top.env ≡ b2 → loop_fits plan path n ≡ b3 → is_zero (n - 0) ≡ b →
         loop_begins plan path n target m.top.env m.steps ≡ Ok tt →
-        acted plan path m st (act.Pfor var lo hi target c) ≡ went (Emitted (event.Loop (path ++ m.rank ∷ [])) ∷ loop_effects b range_child (Looped target)) looped_on
+        acted plan path m st (act.Pfor var lo hi target c) ≡ moved (Emitted (event.Loop (path ++ m.rank ∷ [])) ∷ loop_effects b range_child (Looped target)) looped_on
     by_begun false b2 b3 b f g h i e = let k = rw f at e in absurd (cc)
     by_begun true false b3 b f g h i e = let k = rw (f, g) at e in absurd (cc)
     by_begun true true false b f g h i e = let k = rw (f, g, h) at e in absurd (cc)
     by_begun true true true b f g h i e = on-loop b f g h i
 
     by_count : (b : Bool) → is_zero (n - 0) ≡ b → loop_begins plan path n target m.top.env m.steps ≡ Ok tt →
-        acted plan path m st (act.Pfor var lo hi target c) ≡ went (Emitted (event.Loop (path ++ m.rank ∷ [])) ∷ loop_effects b range_child (Looped target)) looped_on
+        acted plan path m st (act.Pfor var lo hi target c) ≡ moved (Emitted (event.Loop (path ++ m.rank ∷ [])) ∷ loop_effects b range_child (Looped target)) looped_on
     by_count b i = by_begun (nat_lt n (m.steps + 1)) (has_room target n m.top.env) (loop_fits plan path n) b refl refl refl i
 
     pub pfor-none : n ≡ 0 → loop_begins plan path n target m.top.env m.steps ≡ Ok tt →
-        acted plan path m st (act.Pfor var lo hi target c) ≡ went (Emitted (event.Loop (path ++ m.rank ∷ [])) ∷ []) looped_on
+        acted plan path m st (act.Pfor var lo hi target c) ≡ moved (Emitted (event.Loop (path ++ m.rank ∷ [])) ∷ []) looped_on
     pfor-none z = by_count true (rw z refl)
 
     some-count : (k : ℕ) → 0 < k → is_zero k ≡ false
@@ -96,5 +96,5 @@ module _ (plan : PlanView) (path : List ℕ) (m : Machine) (st : Stmt) (var : Na
     some-count (suc k) h = refl
 
     pub pfor-some : 0 < n → loop_begins plan path n target m.top.env m.steps ≡ Ok tt →
-        acted plan path m st (act.Pfor var lo hi target c) ≡ went (Emitted (event.Loop (path ++ m.rank ∷ [])) ∷ Starts range_child (Looped target) ∷ Loops ∷ []) looped_on
+        acted plan path m st (act.Pfor var lo hi target c) ≡ moved (Emitted (event.Loop (path ++ m.rank ∷ [])) ∷ Starts range_child (Looped target) ∷ Loops ∷ []) looped_on
     pfor-some z = by_count false (some-count (n - 0) (omega arith))

@@ -2,7 +2,7 @@ use Rattle.std.proofs.Common.{◌≡◌, ◌∙◌, [], ◌∷◌, sym, ap, subs
 use Rattle.serial_runner.specs.Stacks.{AnswersLowest}
 use Rattle.serial_runner.proofs.ObservedStops.{made}
 use Rattle.strand_machine.proofs.NextStops.Pausing.{ended-stop}
-use Rattle.serial_runner.proofs.Advancing.{went_whole, spawned, waits, has_answers, went_up, known_fault, answer_below, all_ended, ended}
+use Rattle.serial_runner.proofs.Advancing.{resumed_whole, spawned, waits, has_answers, resumed_above, known_fault, answer_below, all_ended, ended}
 use Rattle.serial_runner.proofs.advance.advance.Goals as goal
 
 pub resume_by-requires-clause-waits : goal.resume_by-requires-clause-waits
@@ -19,8 +19,8 @@ returns-in_ok-child-in-Spawn g c =
 
 pub returns-in_ok-task-in-Wait : goal.returns-in_ok-task-in-Wait
 returns-in_ok-task-in-Wait g c =
-    went_up c.args.stack c.requires c.in-Wait.rest (rw c.in-Wait.is at c.in_ok-paused.ensures) _ c.in_ok-task-in-Wait.task (ap (λ left. record { task = c.in_ok-task-in-Wait.task; answers = left }) c.in_ok-task-in-Wait.ensures.none)
-    (went_whole c.args.stack.top.answers c.in-Wait.rest c.in_ok-task-in-Wait.task c.requires.top.whole c.in_ok-task-in-Wait.ensures.went)
+    resumed_above c.args.stack c.requires c.in-Wait.rest (rw c.in-Wait.is at c.in_ok-paused.ensures) _ c.in_ok-task-in-Wait.task (ap (λ left. record { task = c.in_ok-task-in-Wait.task; answers = left }) c.in_ok-task-in-Wait.ensures.none)
+    (resumed_whole c.args.stack.top.answers c.in-Wait.rest c.in_ok-task-in-Wait.task c.requires.top.whole c.in_ok-task-in-Wait.ensures.is_resumed)
 
 pub end_all-requires-clause-known : goal.end_all-requires-clause-known
 end_all-requires-clause-known g c = known_fault c.args.stack c.requires c.into_answer-answer.result.0 c.into_answer-answer.result.1 (ended-stop _ c.in-Ended.rest _ (rw c.in-Ended.is at c.in_ok-paused.ensures) c.into_answer-answer.ensures)

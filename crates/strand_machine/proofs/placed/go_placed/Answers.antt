@@ -1,10 +1,10 @@
-use Rattle.strand_machine.proofs.Moves.Moving.{went-sound, returned-sound, faulted-sound}
+use Rattle.strand_machine.proofs.Moves.Moving.{moved-sound, returned-sound, faulted-sound}
 use Rattle.strand_machine.proofs.placed.go_placed.Goals as goal
 
 pub apply_effects-requires : goal.apply_effects-requires
 apply_effects-requires c =
     let m = c.in-Ok.ensures in
-    went-sound c.args.parts.now.state c.args.instance c.make_placed_move.new.self _ _ c.plan.ensures m.moves c.requires c.steps_are_sound.ensures c.in-Went.effects c.in-Went.is m.path m.sound m.child
+    moved-sound c.args.parts.now.state c.args.instance c.make_placed_move.new.self _ _ c.plan.ensures m.moves c.requires c.steps_are_sound.ensures c.in-Moved.effects c.in-Moved.is m.path m.sound m.child
 
 pub pass-requires : goal.pass-requires
 pass-requires c =

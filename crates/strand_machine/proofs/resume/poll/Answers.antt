@@ -48,4 +48,4 @@ returns-in_ok-left-in-Ready-clause-resumed g c =
     let b = c.args.parts.now.state in
     let w = c.args.parts.now.remaining in
     resumed-on b w c.look.new.self c.take_answers.new.links true c.look.new.self.loads c.in-Ready.ensures.1 c.take_answers.ensures.links (view_of b w) _ refl
-    (of_plan-on b.links.plan b.links.origin w c.requires.sound.of_plan) _ c.in_ok-left-in-Ready.ensures.answers c.in_ok-left-in-Ready.ensures.went c.in-Ready.ensures.0
+    (of_plan-on b.links.plan b.links.origin w c.requires.sound.of_plan) _ c.in_ok-left-in-Ready.ensures.answers c.in_ok-left-in-Ready.ensures.is_resumed c.in-Ready.ensures.0

@@ -11,7 +11,7 @@ use Rattle.strand_machine.specs.Tasks.{IsSound, view_of, remaining_of}
 use Rattle.strand_machine.specs.declared.task_state.TaskState.{TaskState}
 use Rattle.strand_machine.proofs.NextStops.Advancing.{sound_holds}
 use Rattle.strand_machine.proofs.TakenAnswers.Answering.{length-answer-tags, length-tags}
-use Rattle.strand_machine.proofs.TakenAnswers.Cutting.{answers-of, ends-short, kept-state, own-children, short-on, taken-from, takes-whole, went-short, went-whole}
+use Rattle.strand_machine.proofs.TakenAnswers.Cutting.{answers-of, ends-short, kept-state, own-children, short-on, taken-from, takes-whole, is_resumed-short, is_resumed-whole}
 use Rattle.strand_machine.proofs.Moves.Starts.{awaited_parts}
 use Rattle.strand_machine.proofs.TakenAnswers.Taking.{goes-on-sound, goes-on-view}
 use Rattle.strand_machine.proofs.TakenAnswers.Targets.{all-found}
@@ -56,8 +56,8 @@ cut_short-requires-clause-ends g c =
 pub cut_short-requires-clause-unmerged : goal.cut_short-requires-clause-unmerged
 cut_short-requires-clause-unmerged g c = c.in_ok-left.ensures.rest.unmerged
 
-pub returns-then-merging-clause-went : goal.returns-then-merging-clause-went
-returns-then-merging-clause-went g c =
+pub returns-then-merging-clause-is_resumed : goal.returns-then-merging-clause-is_resumed
+returns-then-merging-clause-is_resumed g c =
     let b = c.args.parts.now.state in
     let w = c.args.parts.now.remaining in
     let q = c.take_children-after.ensures.parted in
@@ -66,15 +66,15 @@ returns-then-merging-clause-went g c =
     let next = view_of c.cut_short.new.parts.state c.cut_short.new.parts.remaining in
     let parts = ap (λ (x : Trace). x.unmerged) q.is in
     let h = taken-from b w _ _ c.args.answers after c.take_children-after.ensures.rest c.in_ok-left.ensures.takes in
-    went-short c.args.answers (view_of b w) next (sym h.cut ∙ c.if-merging.true)
+    is_resumed-short c.args.answers (view_of b w) next (sym h.cut ∙ c.if-merging.true)
     (short-on b w q.children bs c.args.answers after parts (own-children b q.children bs (answer_tags c.args.answers) parts q.many c.requires.tags) h next
     (subst (λ (x : TaskState _). IsShort x.links after x.advanced next) c.in_ok-left.ensures.rest.state c.cut_short.ensures.short))
 
 pub returns-then-merging-clause-answers : goal.returns-then-merging-clause-answers
 returns-then-merging-clause-answers g c = let b = c.args.parts.now.state in answers-of b.links.plan b.trace.unmerged c.args.answers c.in_ok-left.ensures.takes.said c.requires.tags
 
-pub returns-clause-went : goal.returns-clause-went
-returns-clause-went g c =
+pub returns-clause-is_resumed : goal.returns-clause-is_resumed
+returns-clause-is_resumed g c =
     let b = c.args.parts.now.state in
     let w = c.args.parts.now.remaining in
     let q = c.take_children-after.ensures.parted in
@@ -88,7 +88,7 @@ returns-clause-went g c =
     let takes = takes-whole b w q.children bs c.args.answers after c.answers_are_evaluations.ensures h whole in
     let state : next.state ≡ record b { trace = trace_of after; values = after.values; waiting = false } =
     c.in_ok-end_wait.ensures.state ∙ ap (λ (x : TaskState _). record x { waiting = false }) (kept-state _ kept c.in_ok-left.ensures.rest) in
-    went-whole c.args.answers (view_of b w) _ whole
+    is_resumed-whole c.args.answers (view_of b w) _ whole
     (ap (λ (x : TaskState _). view_of x next.remaining) state ∙ goes-on-view b w q.children bs (answer_tags c.args.answers) after next.remaining parts q.many c.requires.tags takes c.in_ok-end_wait.ensures.remaining c.requires.sound)
 
 pub returns-clause-answers : goal.returns-clause-answers

@@ -21,7 +21,7 @@ returns-in-Runs-clause-step g c =
     subst (λ (x : Remaining). IfOk c.run.result (λ passed. StepsOn (view_of c.args.parts.now.state x) (made c.run.new.parts passed))) (sym c.in-Runs.is) c.run.ensures.step
 
 pub end_loop-requires : goal.end_loop-requires
-end_loop-requires g c = sound-at c.args.parts.now.state c.args.remaining (remaining.Finished c.in-Finished.value c.in-Finished.gone_on) c.in-Finished.is c.requires
+end_loop-requires g c = sound-at c.args.parts.now.state c.args.remaining (remaining.Finished c.in-Finished.value c.in-Finished.has_waited) c.in-Finished.is c.requires
 
 pub returns-in-Finished-clause-step : goal.returns-in-Finished-clause-step
 returns-in-Finished-clause-step g c =

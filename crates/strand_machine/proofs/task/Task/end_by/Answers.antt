@@ -30,7 +30,7 @@ unreachable-requires g c =
     let a = c.last.inside in
     let p = c.resume_parts.new.parts in
     let view = ap (λ (q : Parts _). view_of q.state q.remaining) c.deref_mut.ensures.value ∙ c.self.view_is in
-    let on = goes-whole _ _ _ c.args.last _ _ c.in_ok-push.ensures.items c.answers.view_is c.requires.whole c.requires.fault c.in_ok-resume_parts.ensures.went in
+    let on = goes-whole _ _ _ c.args.last _ _ c.in_ok-push.ensures.items c.answers.view_is c.requires.whole c.requires.fault c.in_ok-resume_parts.ensures.is_resumed in
     not-none c.args.self _ _ (answer_tags c.args.answers) (tag c.args.last.plan c.args.last.origin) view on c.requires.tags
     (view-err (arc_value a.plan) a.origin a.out a.outcome c.args.last c.last.view_is c.last.invariant c.requires.fault)
     (sym c.end-links.ensures.fault ∙ c.in_default.is)
@@ -39,7 +39,7 @@ pub answer-requires : goal.answer-requires
 answer-requires g c =
     let p = c.resume_parts.new.parts in
     let view = ap (λ (q : Parts _). view_of q.state q.remaining) c.deref_mut.ensures.value ∙ c.self.view_is in
-    let on = goes-whole _ _ _ c.args.last _ _ c.in_ok-push.ensures.items c.answers.view_is c.requires.whole c.requires.fault c.in_ok-resume_parts.ensures.went in
+    let on = goes-whole _ _ _ c.args.last _ _ c.in_ok-push.ensures.items c.answers.view_is c.requires.whole c.requires.fault c.in_ok-resume_parts.ensures.is_resumed in
     let uncut = ap (λ (w : TaskView). w.cut) on ∙ ap (λ (w : TaskView). w.cut) view ∙ c.requires.goes_on in
     let by = answers-by p.state p.remaining _ c.in-Some.fault (holds-sound p.state p.remaining uncut c.in_ok-resume_parts.ensures.holds) c.end-links.ensures.prefix (sym c.end-links.ensures.fault ∙ c.in-Some.is) in
     subst (λ (f : LinksView). IsAnswer f.plan f.origin c.end-links.result.1 (outcome.Fault c.in-Some.fault)) (sym c.end-links.ensures.links) by
@@ -48,7 +48,7 @@ pub returns : goal.returns
 returns g c =
     let p = c.resume_parts.new.parts in
     let view = ap (λ (q : Parts _). view_of q.state q.remaining) c.deref_mut.ensures.value ∙ c.self.view_is in
-    let on = goes-whole _ _ _ c.args.last _ _ c.in_ok-push.ensures.items c.answers.view_is c.requires.whole c.requires.fault c.in_ok-resume_parts.ensures.went in
+    let on = goes-whole _ _ _ c.args.last _ _ c.in_ok-push.ensures.items c.answers.view_is c.requires.whole c.requires.fault c.in_ok-resume_parts.ensures.is_resumed in
     let uncut = ap (λ (w : TaskView). w.cut) on ∙ ap (λ (w : TaskView). w.cut) view ∙ c.requires.goes_on in
     let answer = c.answer.ensures.answer
     ∙ ap (λ (f : LinksView). record { plan = f.plan; origin = f.origin; out = c.end-links.result.1; outcome = outcome.Fault c.in-Some.fault }) c.end-links.ensures.links in

@@ -20,8 +20,8 @@ resume_parts-requires-clause-tags g c =
     let same = ap (λ (q : Parts _). view_of q.state q.remaining) c.deref_mut.ensures.value ∙ c.self.view_is in
     subst (λ (t : TaskView). answer_tags c.args.answers ≡ tags t.task.plan (awaited t.task.trace.unmerged)) (sym same) c.requires.tags
 
-pub returns-clause-went : goal.returns-clause-went
-returns-clause-went g c =
+pub returns-clause-is_resumed : goal.returns-clause-is_resumed
+returns-clause-is_resumed g c =
     let same = ap (λ (q : Parts _). view_of q.state q.remaining) c.deref_mut.ensures.value ∙ c.self.view_is in
     let after = c.resume_parts.new.parts in
-    subst (λ (t : TaskView). IsResumedWith c.args.answers t (view_of after.state after.remaining)) same c.in_ok-left.ensures.went
+    subst (λ (t : TaskView). IsResumedWith c.args.answers t (view_of after.state after.remaining)) same c.in_ok-left.ensures.is_resumed

@@ -15,8 +15,8 @@ returns-in-Call-clause-did c = λ st.
     let x = c.args.x.now in
     let a = act.Set x (right.Call 0 c.in-Call.c) in
     rw c.in-Call.is
-    (called-alike plan st a i c.call.new.self (act.Set x (right.Call c.in-Call.field-0 c.in-Call.c)) (call-at plan (present_of i) (machine_of plan i) st x c.in-Call.field-0 c.in-Call.c) c.went.result
-    (called-is plan st a i c.call.new.self c.call.result c.went.result (c.call.ensures.shows st) c.call.ensures.same c.call.ensures.stays c.call.ensures.begins c.went.ensures))
+    (called-alike plan st a i c.call.new.self (act.Set x (right.Call c.in-Call.field-0 c.in-Call.c)) (call-at plan (present_of i) (machine_of plan i) st x c.in-Call.field-0 c.in-Call.c) c.moved.result
+    (called-is plan st a i c.call.new.self c.call.result c.moved.result (c.call.ensures.shows st) c.call.ensures.same c.call.ensures.stays c.call.ensures.begins c.moved.ensures))
 
 pub call-requires-clause-called : goal.call-requires-clause-called
 call-requires-clause-called c = (in_called (has_slot c.args.slots.now c.args.self.now.top.env.names) (finds_callee (functions_of c.args.plan.now)) c.args.r.now c.in-Call.field-0 c.in-Call.c c.in-Call.is c.requires.right).0

@@ -39,8 +39,8 @@ returns-in-Call-clause-did c =
     let st = c.args.statement.now in
     let a = act.Call c.in-Call.c in
     let is = act-is a st.act (variant.Call c.in-Call.c) c.in-Call.is (variant.rolls-Call c.in-Call.c) in
-    called-alike plan st a i c.call.new.self (out-Act (out-Stmt st).act) (ap (λ (b : Act-F Act Stmt). acted plan (present_of i) (machine_of plan i) st b) is) c.went.result
-    (called-is plan st a i c.call.new.self c.call.result c.went.result (c.call.ensures.shows st) c.call.ensures.same c.call.ensures.stays c.call.ensures.begins c.went.ensures)
+    called-alike plan st a i c.call.new.self (out-Act (out-Stmt st).act) (ap (λ (b : Act-F Act Stmt). acted plan (present_of i) (machine_of plan i) st b) is) c.moved.result
+    (called-is plan st a i c.call.new.self c.call.result c.moved.result (c.call.ensures.shows st) c.call.ensures.same c.call.ensures.stays c.call.ensures.begins c.moved.ensures)
 
 pub calling_right-requires-clause-name : goal.calling_right-requires-clause-name
 calling_right-requires-clause-name c =

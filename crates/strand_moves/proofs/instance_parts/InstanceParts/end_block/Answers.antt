@@ -6,7 +6,7 @@ use Rattle.strand_moves.specs.declared.effects.Effects.{Effects}
 use Rattle.strand_moves.specs.Acts.{IsKept}
 use Rattle.strand_moves.specs.Moves.{effects_of, present_pedigree}
 use Rattle.strand_moves.specs.InstanceParts.{machine_of, path_of, present_of}
-use Rattle.strand_moves.proofs.Statements.Equations.{went}
+use Rattle.strand_moves.proofs.Statements.Equations.{moved}
 use Rattle.strand_moves.proofs.OpenScopes.Levels.{is-out, join-kept, join-moves, out-kept, out-moves, rank-fits}
 use Rattle.strand_moves.proofs.OpenScopes.Exits.{keeps-made, shows-made}
 use Rattle.strand_moves.proofs.OpenScopes.Keeping.{here-is, keeps-where}
@@ -30,7 +30,7 @@ returns-in_ok-go_out-in-Some-clause-shows c =
     let popped : InstanceParts = record i { top = record i.top { levels = c.pop.new.self } } in
     let s = c.in_ok-go_out-in-Some.ensures in
     let out = is-out plan i c.requires.instance rest l there leaves popped c.go_out.new.self refl refl s.passed in
-    out-moves plan i c.requires.instance rest l there leaves c.go_out.new.self out ∙ ap (λ (x : Effects). went (effects_of x) (machine_of plan c.go_out.new.self)) (sym s.effects)
+    out-moves plan i c.requires.instance rest l there leaves c.go_out.new.self out ∙ ap (λ (x : Effects). moved (effects_of x) (machine_of plan c.go_out.new.self)) (sym s.effects)
 
 pub returns-in_ok-go_out-in-Some-clause-keeps : goal.returns-in_ok-go_out-in-Some-clause-keeps
 returns-in_ok-go_out-in-Some-clause-keeps c =
@@ -60,7 +60,7 @@ returns-then-not-is_empty-clause-shows c =
     shows-made (end_move plan (path_of i) m m.top.levels) (present_pedigree (present_of i) m) (machine_of plan c.join_scope.new.self) _ c.join_scope.result s.effects s.fine s.passed
     (λ passed.
     join-moves plan i c.requires.instance is-open_call c.if-self.false
-    ∙ ap (λ (x : InstanceParts). went (Emitted (event.Sync (present_of i ++ i.rank ∷ [])) ∷ sync_effects i.top.spawned) (machine_of plan x)) (sym passed))
+    ∙ ap (λ (x : InstanceParts). moved (Emitted (event.Sync (present_of i ++ i.rank ∷ [])) ∷ sync_effects i.top.spawned) (machine_of plan x)) (sym passed))
 
 pub returns-then-not-is_empty-clause-keeps : goal.returns-then-not-is_empty-clause-keeps
 returns-then-not-is_empty-clause-keeps c =

@@ -12,7 +12,7 @@ use Rattle.strand_moves.specs.Moves.{acted, call_to, present_pedigree}
 use Rattle.strand_moves.proofs.Frames.CallLemmas.{begun-stays, callee-function, callee-target, called-by, called-fault, is_below, is_not_below, calls-open, machine-begun, stands-silent}
 use Rattle.strand_moves.proofs.Frames.Names.{named-begun, own-names, own-names-there, params-stand, target-named}
 use Rattle.strand_moves.proofs.Statements.Naming.{there-named}
-use Rattle.strand_moves.proofs.Statements.Equations.{call, callee, call-args-fault, calls-fault, went}
+use Rattle.strand_moves.proofs.Statements.Equations.{call, callee, call-args-fault, calls-fault, moved}
 use Rattle.strand_moves.proofs.OpenScopes.Exits.{silent-exit}
 use Rattle.strand_moves.proofs.instance_parts.InstanceParts.enter.Goals as goal
 
@@ -67,8 +67,8 @@ returns-clause-shows c = λ st.
     let new = c.open_call.new.self in
     let begun = subst (λ (env : EnvironmentView). IsCallee number env to new.top) {y = record { names = names; variables = bound f.params vs }} known.1.1 opened.top in
     call plan (present_of i) (machine_of plan i) st to text vs f known.1.0 room (ap (λ (n : ℕ). function_at (functions_of plan) n) (sym same) ∙ c.requires.there)
-    ∙ ap (λ (n : ℕ). let m = machine_of plan i in went [] (record m { top = callee to n f vs; below = m.top ∷ m.below })) (sym same)
-    ∙ ap (λ (m : Machine). went [] m) (sym (machine-begun plan number f vs names to i new begun opened.below opened.rank opened.steps opened.leaving c.requires.goes_on c.requires.there))
+    ∙ ap (λ (n : ℕ). let m = machine_of plan i in moved [] (record m { top = callee to n f vs; below = m.top ∷ m.below })) (sym same)
+    ∙ ap (λ (m : Machine). moved [] m) (sym (machine-begun plan number f vs names to i new begun opened.below opened.rank opened.steps opened.leaving c.requires.goes_on c.requires.there))
 
 pub returns-clause-stays : goal.returns-clause-stays
 returns-clause-stays c =

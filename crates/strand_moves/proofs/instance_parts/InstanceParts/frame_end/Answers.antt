@@ -22,7 +22,7 @@ returns-then-self-2 g c =
     let i = c.args.self.now in
     let e = c.give_back.ensures in
     let outside = nothing-in i.top.levels.items (length i.top.levels.items) refl c.is_empty.result (rw c.as_slice.ensures.value at c.is_empty.ensures) c.if-not-is_empty.false in
-    record { did = gave-back c.args.plan.now i c.requires.instance c.if-self.false c.requires.none outside g.S.EventSink.after c.args.sink.now c.args.sink.now c.give_back.new.self e.named (omega (arith, e.rank, e.steps)) c.give_back.result c.went.result c.went.ensures c.if-self-2.true e.shows e.same e.stays e.steps e.fewer refl }
+    record { did = gave-back c.args.plan.now i c.requires.instance c.if-self.false c.requires.none outside g.S.EventSink.after c.args.sink.now c.args.sink.now c.give_back.new.self e.named (omega (arith, e.rank, e.steps)) c.give_back.result c.moved.result c.moved.ensures c.if-self-2.true e.shows e.same e.stays e.steps e.fewer refl }
 
 -- its return was paid, and it goes on to give its value
 
@@ -66,6 +66,40 @@ returns-then-not-syncs g c =
     let one = returned-alone c.args.plan.now i c.requires.instance c.if-self.false c.requires.none outside g.S.EventSink.after c.args.sink.now c.args.sink.now new e.named e.few c.if-self-2.false e.rest e.paid e.shows refl in
     record { did = ends-twice g.S.EventSink.after c.args.plan.now i new c.give_back_if_any.new.self c.args.sink.now c.args.sink.now one c.in_ok-give_back_if_any.ensures }
 
+-- the same after its event
+
+pub give_back_if_any-requires-2-clause-instance : goal.give_back_if_any-requires-2-clause-instance
+give_back_if_any-requires-2-clause-instance g c =
+    let i = c.args.self.now in
+    let new = c.return_alone.new.self in
+    let e = rw c.if-not-syncs.false at c.in-Ok.ensures in
+    let outside = nothing-in i.top.levels.items (length i.top.levels.items) refl c.is_empty.result (rw c.as_slice.ensures.value at c.is_empty.ensures) c.if-not-is_empty.false in
+    let sent = c.in_ok-emit_at.ensures ∙ ap (λ (x : InstanceParts). g.S.EventSink.after (event.Sync (x.trail.path ++ i.rank ∷ [])) c.args.sink.now) e.rest in
+    let one = returned-sent c.args.plan.now i c.requires.instance c.if-self.false c.requires.none outside g.S.EventSink.after c.args.sink.now c.emit_at.new.self new e.named e.few c.if-self-2.false e.rest e.paid (event.Sync (present_of i ++ i.rank ∷ [])) e.shows sent in
+    one.sound
+
+pub give_back_if_any-requires-2-clause-goes_on : goal.give_back_if_any-requires-2-clause-goes_on
+give_back_if_any-requires-2-clause-goes_on g c =
+    let e = rw c.if-not-syncs.false at c.in-Ok.ensures in
+    ap (λ (x : InstanceParts). x.leaving) e.rest ∙ c.if-self.false
+
+pub give_back_if_any-requires-2-clause-none : goal.give_back_if_any-requires-2-clause-none
+give_back_if_any-requires-2-clause-none g c =
+    let e = rw c.if-not-syncs.false at c.in-Ok.ensures in
+    ap (λ (x : InstanceParts). statements_left (statements_of c.args.plan.now x.top) x.top.cursor) e.rest ∙ c.requires.none
+
+pub give_back_if_any-requires-2-clause-outside : goal.give_back_if_any-requires-2-clause-outside
+give_back_if_any-requires-2-clause-outside g c =
+    let i = c.args.self.now in
+    let e = rw c.if-not-syncs.false at c.in-Ok.ensures in
+    let outside = nothing-in i.top.levels.items (length i.top.levels.items) refl c.is_empty.result (rw c.as_slice.ensures.value at c.is_empty.ensures) c.if-not-is_empty.false in
+    ap (λ (x : InstanceParts). x.top.levels.items) e.rest ∙ outside
+
+pub give_back_if_any-requires-2-clause-returning : goal.give_back_if_any-requires-2-clause-returning
+give_back_if_any-requires-2-clause-returning g c =
+    let e = rw c.if-not-syncs.false at c.in-Ok.ensures in
+    ap (λ (x : InstanceParts). x.top.returning) e.rest
+
 pub returns : goal.returns
 returns g c =
     let i = c.args.self.now in
@@ -73,4 +107,5 @@ returns g c =
     let e = rw c.if-not-syncs.false at c.in-Ok.ensures in
     let outside = nothing-in i.top.levels.items (length i.top.levels.items) refl c.is_empty.result (rw c.as_slice.ensures.value at c.is_empty.ensures) c.if-not-is_empty.false in
     let sent = c.in_ok-emit_at.ensures ∙ ap (λ (x : InstanceParts). g.S.EventSink.after (event.Sync (x.trail.path ++ i.rank ∷ [])) c.args.sink.now) e.rest in
-    record { did = returned-sent c.args.plan.now i c.requires.instance c.if-self.false c.requires.none outside g.S.EventSink.after c.args.sink.now c.emit_at.new.self new e.named e.few c.if-self-2.false e.rest e.paid (event.Sync (present_of i ++ i.rank ∷ [])) e.shows sent }
+    let one = returned-sent c.args.plan.now i c.requires.instance c.if-self.false c.requires.none outside g.S.EventSink.after c.args.sink.now c.emit_at.new.self new e.named e.few c.if-self-2.false e.rest e.paid (event.Sync (present_of i ++ i.rank ∷ [])) e.shows sent in
+    record { did = ends-twice g.S.EventSink.after c.args.plan.now i new c.give_back_if_any-2.new.self c.args.sink.now c.emit_at.new.self one c.in_ok-give_back_if_any-2.ensures }

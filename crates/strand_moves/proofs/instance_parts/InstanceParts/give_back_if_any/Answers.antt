@@ -16,4 +16,4 @@ pub returns : goal.returns
 returns c =
     let i = c.args.self.now in
     let e = c.give_back.ensures in
-    given-back c.args.plan.now i c.requires.instance c.requires.goes_on c.requires.none c.requires.outside c.give_back.new.self e.named (omega (arith, e.rank, e.steps)) c.give_back.result _ c.in_ok-went.ensures c.requires.returning e.shows e.same e.stays e.steps e.fewer
+    given-back c.args.plan.now i c.requires.instance c.requires.goes_on c.requires.none c.requires.outside c.give_back.new.self e.named (omega (arith, e.rank, e.steps)) c.give_back.result _ c.in_ok-moved.ensures c.requires.returning e.shows e.same e.stays e.steps e.fewer

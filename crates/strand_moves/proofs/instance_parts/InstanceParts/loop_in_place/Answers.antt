@@ -3,8 +3,8 @@ use Rattle.strand_moves.specs.StraightRuns.{Still}
 use Rattle.strand_moves.proofs.Cursors.Loops.{stands-in-block, still-in-loop}
 use Rattle.strand_moves.proofs.instance_parts.InstanceParts.loop_in_place.Goals as goal
 
-pub returns-in_default-clause-went : goal.returns-in_default-clause-went
-returns-in_default-clause-went g c = record { straight_run = Still c.args.self.now c.args.sink.now refl refl; path = refl; sound = c.requires.instance; stays = stands-in-block c.args.self.now }
+pub returns-in_default-clause-moved : goal.returns-in_default-clause-moved
+returns-in_default-clause-moved g c = record { straight_run = Still c.args.self.now c.args.sink.now refl refl; path = refl; sound = c.requires.instance; stays = stands-in-block c.args.self.now }
 
 pub returns-then-self-block-clause-left : goal.returns-then-self-block-clause-left
 returns-then-self-block-clause-left g c =

@@ -9,8 +9,8 @@ loop-self-init g c = record { straight_run = Still c.args.self.now c.args.sink.n
 
 pub loop-self-preserved-then-plain_move : goal.loop-self-preserved-then-plain_move
 loop-self-preserved-then-plain_move g c =
-    let went = c.if-plain_move.ensures in
-    in-block g.S.EventSink.after c.args.plan.now c.args.self.now c.args.sink.now c.loop-self.self c.loop-self.sink c.loop-self.invariant c.plain_move.new.self went.0 went.1
+    let moved = c.if-plain_move.ensures in
+    in-block g.S.EventSink.after c.args.plan.now c.args.self.now c.args.sink.now c.loop-self.self c.loop-self.sink c.loop-self.invariant c.plain_move.new.self moved.0 moved.1
 
 pub loop-self-preserved : goal.loop-self-preserved
 loop-self-preserved g c =

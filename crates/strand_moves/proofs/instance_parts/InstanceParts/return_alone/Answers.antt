@@ -6,7 +6,7 @@ use Rattle.script_check.specs.Spawns.{spawns_in}
 use Rattle.strand_meaning.specs.Machine.{Emitted, sync_effects}
 use Rattle.strand_moves.specs.declared.instance_parts.InstanceParts.{InstanceParts}
 use Rattle.strand_moves.specs.InstanceParts.{machine_of, present_of}
-use Rattle.strand_moves.proofs.Statements.Equations.{went}
+use Rattle.strand_moves.proofs.Statements.Equations.{moved}
 use Rattle.strand_moves.proofs.Frames.Ending.{return-synced}
 use Rattle.strand_moves.proofs.Frames.Names.{still-named}
 use Rattle.strand_moves.proofs.Statements.Naming.{top-named}
@@ -24,8 +24,8 @@ returns-clause-shows c =
     ap (λ (b : Bool). let x : InstanceParts = record paid { rank = paid.rank + 1; top = record paid.top { returning = true; spawned = b } } in x) alone in
     let spawns = ap (λ (x : InstanceParts). spawns_in (function_at (functions_of plan) x.top.function)) pays.ok in
     return-synced plan i c.requires.here paid paid.steps pays.ok pays.paid new (sym spawns ∙ sym c.has_spawns.ensures ∙ c.if-not-has_spawns.false) is
-    ∙ ap (λ (b : Bool). went (Emitted (event.Sync (present_of paid ++ paid.rank ∷ [])) ∷ sync_effects b) (machine_of plan new)) alone
-    ∙ ap (λ (x : InstanceParts). went (Emitted (event.Sync (present_of x ++ x.rank ∷ [])) ∷ []) (machine_of plan new)) pays.ok
+    ∙ ap (λ (b : Bool). moved (Emitted (event.Sync (present_of paid ++ paid.rank ∷ [])) ∷ sync_effects b) (machine_of plan new)) alone
+    ∙ ap (λ (x : InstanceParts). moved (Emitted (event.Sync (present_of x ++ x.rank ∷ [])) ∷ []) (machine_of plan new)) pays.ok
 
 pub returns-then-not-has_spawns-clause-named : goal.returns-then-not-has_spawns-clause-named
 returns-then-not-has_spawns-clause-named c =

@@ -20,7 +20,7 @@ returns-in-Some-clause-did c = λ st.
 pub returns-in-None-clause-did : goal.returns-in-None-clause-did
 returns-in-None-clause-did c = λ st.
     rw c.in-Value.is
-    (done-is st (act.Set c.args.x.now (right.Value c.in-Value.e)) c.args.self.now c.set_value.new.self c.set_value.result c.went.result (λ plan. c.set_value.ensures.shows plan st) c.set_value.ensures.same c.went.ensures)
+    (done-is st (act.Set c.args.x.now (right.Value c.in-Value.e)) c.args.self.now c.set_value.new.self c.set_value.result c.moved.result (λ plan. c.set_value.ensures.shows plan st) c.set_value.ensures.same c.moved.ensures)
 
 pub plain-requires : goal.plain-requires
 plain-requires c = in_value (has_slot c.args.slots.now c.args.self.now.top.env.names) c.requires.right.0 c.args.r.now c.in-Value.e c.in-Value.is c.requires.right.1

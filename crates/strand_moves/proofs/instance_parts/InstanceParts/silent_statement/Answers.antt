@@ -37,28 +37,28 @@ returns-in-Array-clause-did c =
     let a = act.Array c.in-Array.x c.in-Array.n in
     let st = c.args.statement.now in
     let is = act-is a st.act (variant.Array c.in-Array.x c.in-Array.n) c.in-Array.is (variant.rolls-Array c.in-Array.x c.in-Array.n) in
-    silent-is st a c.args.self.now c.array.new.self is c.array.result c.went.result (λ plan after. c.array.ensures.shows plan st) c.array.ensures.same c.went.ensures
+    silent-is st a c.args.self.now c.array.new.self is c.array.result c.moved.result (λ plan after. c.array.ensures.shows plan st) c.array.ensures.same c.moved.ensures
 
 pub returns-in-Store-clause-did : goal.returns-in-Store-clause-did
 returns-in-Store-clause-did c =
     let a = act.Store c.in-Store.x c.in-Store.i c.in-Store.e in
     let st = c.args.statement.now in
     let is = act-is a st.act (variant.Store c.in-Store.x c.in-Store.i c.in-Store.e) c.in-Store.is (variant.rolls-Store c.in-Store.x c.in-Store.i c.in-Store.e) in
-    silent-is st a c.args.self.now c.store.new.self is c.store.result c.went-in-Store.result (λ plan after. c.store.ensures.shows plan st) c.store.ensures.same c.went-in-Store.ensures
+    silent-is st a c.args.self.now c.store.new.self is c.store.result c.moved-in-Store.result (λ plan after. c.store.ensures.shows plan st) c.store.ensures.same c.moved-in-Store.ensures
 
 pub returns-in-If-clause-did : goal.returns-in-If-clause-did
 returns-in-If-clause-did c =
     let a = act.If c.in-If.e c.in-If.field-1 c.in-If.field-2 in
     let st = c.args.statement.now in
     let is = act-is a st.act (variant.If c.in-If.e c.in-If.field-1 c.in-If.field-2) c.in-If.is (variant.rolls-If c.in-If.e c.in-If.field-1 c.in-If.field-2) in
-    silent-is st a c.args.self.now c.branch-self.new.self is c.branch-self.result c.went-in-If.result (λ plan after. c.branch-self.ensures.shows plan st c.in-If.field-1 c.in-If.field-2 after is) c.branch-self.ensures.same c.went-in-If.ensures
+    silent-is st a c.args.self.now c.branch-self.new.self is c.branch-self.result c.moved-in-If.result (λ plan after. c.branch-self.ensures.shows plan st c.in-If.field-1 c.in-If.field-2 after is) c.branch-self.ensures.same c.moved-in-If.ensures
 
 pub returns-in-While-clause-did : goal.returns-in-While-clause-did
 returns-in-While-clause-did c =
     let a = act.While c.in-While.e c.in-While.field-1 in
     let st = c.args.statement.now in
     let is = act-is a st.act (variant.While c.in-While.e c.in-While.field-1) c.in-While.is (variant.rolls-While c.in-While.e c.in-While.field-1) in
-    silent-is st a c.args.self.now c.while_test.new.self is c.while_test.result c.went-in-While.result (λ plan after. c.while_test.ensures.shows plan st c.in-While.field-1 after is) c.while_test.ensures.same c.went-in-While.ensures
+    silent-is st a c.args.self.now c.while_test.new.self is c.while_test.result c.moved-in-While.result (λ plan after. c.while_test.ensures.shows plan st c.in-While.field-1 after is) c.while_test.ensures.same c.moved-in-While.ensures
 
 pub returns-in-If-clause-cursor : goal.returns-in-If-clause-cursor
 returns-in-If-clause-cursor c = λ no.

@@ -16,7 +16,7 @@ use Rattle.strand_moves.proofs.Cursors.Loops.{around-on}
 use Rattle.strand_moves.proofs.Cursors.Passing.{comes-ended, comes-undone, in-place, passed-sound, straight_run-called, straight_run-ended, straight_run-sent, text-same}
 use Rattle.strand_moves.proofs.Frames.EndMoves.{did-end, did-not-end}
 use Rattle.strand_moves.proofs.Statements.Naming.{top-named}
-use Rattle.strand_moves.proofs.Statements.FastPathLemmas.{did-nothing, did-silent, passed-on, fast_path-went}
+use Rattle.strand_moves.proofs.Statements.FastPathLemmas.{did-nothing, did-silent, passed-on, fast_path-moved}
 use Rattle.strand_moves.proofs.instance_parts.InstanceParts.straight_run.Goals as goal
 
 pub loop-around-init : goal.loop-around-init
@@ -26,7 +26,7 @@ loop-around-init g c = record { straight_run = Still c.args.self.now c.args.sink
 
 pub loop-around-smaller-then-is_fork : goal.loop-around-smaller-then-is_fork
 loop-around-smaller-then-is_fork g c =
-    let before = c.in_ok-around.ensures.went.stays in
+    let before = c.in_ok-around.ensures.moved.stays in
     let frames_before = ap (λ (bs : List Frame). length bs) before.below in
     let there = c.silent_statement.ensures.there in
     let frames = ap (λ (bs : List Frame). length bs) there.below in
@@ -34,7 +34,7 @@ loop-around-smaller-then-is_fork g c =
 
 pub loop-around-smaller-then-branch : goal.loop-around-smaller-then-branch
 loop-around-smaller-then-branch g c =
-    let before = c.in_ok-around.ensures.went.stays in
+    let before = c.in_ok-around.ensures.moved.stays in
     let frames_before = ap (λ (bs : List Frame). length bs) before.below in
     let there = c.silent_statement.ensures.there in
     let frames = ap (λ (bs : List Frame). length bs) there.below in
@@ -42,7 +42,7 @@ loop-around-smaller-then-branch g c =
 
 pub loop-around-smaller-in-Emitting : goal.loop-around-smaller-in-Emitting
 loop-around-smaller-in-Emitting g c =
-    let before = c.in_ok-around.ensures.went.stays in
+    let before = c.in_ok-around.ensures.moved.stays in
     let frames_before = ap (λ (bs : List Frame). length bs) before.below in
     let q = c.silent_statement.ensures.there in
     let gone = subst (HasGone g.S.EventSink.after c.args.plan.now c.in-Some.passed.0.now c.silent_statement.new.self c.loop_in_place.new.sink c.other_statement.new.self c.other_statement.new.sink) c.in-Emitting.is c.in_ok-other_statement.ensures.gone in
@@ -52,7 +52,7 @@ loop-around-smaller-in-Emitting g c =
 
 pub loop-around-smaller : goal.loop-around-smaller
 loop-around-smaller g c =
-    let before = c.in_ok-around.ensures.went.stays in
+    let before = c.in_ok-around.ensures.moved.stays in
     let frames_before = ap (λ (bs : List Frame). length bs) before.below in
     let q = c.silent_statement.ensures.there in
     let gone = subst (HasGone g.S.EventSink.after c.args.plan.now c.in-Some.passed.0.now c.silent_statement.new.self c.loop_in_place.new.sink c.other_statement.new.self c.other_statement.new.sink) c.in-Calling.is c.in_ok-other_statement.ensures.gone in
@@ -62,7 +62,7 @@ loop-around-smaller g c =
 
 pub loop-around-smaller-in_default : goal.loop-around-smaller-in_default
 loop-around-smaller-in_default g c =
-    let before = c.in_ok-around.ensures.went.stays in
+    let before = c.in_ok-around.ensures.moved.stays in
     let frames_before = ap (λ (bs : List Frame). length bs) before.below in
     let ended = did-end g.S.EventSink.after c.args.plan.now _ c.frame_end.new.self c.loop_in_place.new.sink c.frame_end.new.sink _ c.if-not-branch.false c.in_ok-frame_end.ensures.did in
     let shorter = ended.shorter in
@@ -71,7 +71,7 @@ loop-around-smaller-in_default g c =
 pub loop-around-preserved-then-is_fork : goal.loop-around-preserved-then-is_fork
 loop-around-preserved-then-is_fork g c =
     let l = c.loop-around in
-    let was = in-place g.S.EventSink.after c.args.plan.now c.args.self.now c.args.sink.now c.loop-around.self c.loop-around.sink c.loop-around.invariant.straight_run c.loop-around.invariant.path c.loop-around.text.now c.loop-around.block.now c.loop-around.invariant.text c.loop-around.invariant.block c.loop_in_place.new.self c.loop_in_place.new.sink c.in_ok-around.ensures.went in
+    let was = in-place g.S.EventSink.after c.args.plan.now c.args.self.now c.args.sink.now c.loop-around.self c.loop-around.sink c.loop-around.invariant.straight_run c.loop-around.invariant.path c.loop-around.text.now c.loop-around.block.now c.loop-around.invariant.text c.loop-around.invariant.block c.loop_in_place.new.self c.loop_in_place.new.sink c.in_ok-around.ensures.moved in
     let plan = c.args.plan.now in
     let i = c.loop_in_place.new.self in
     let st = c.in-Some.passed.0.now in
@@ -81,7 +81,7 @@ loop-around-preserved-then-is_fork g c =
     let did = did-silent st _ new _ c.if-branch.true c.in_ok-silent_statement.ensures.did in
     let less : i.steps - 1 + 1 ≡ i.steps = omega arith in
     let paid : InstanceParts = record i { steps = i.steps - 1; top = record i.top { cursor = c.pass_in.new.self } } in
-    let moves = fast_path-went plan i st c.pass_in.new.self (i.steps - 1) (here-is plan i was.sound) passes less new did in
+    let moves = fast_path-moved plan i st c.pass_in.new.self (i.steps - 1) (here-is plan i was.sound) passes less new did in
     let stays = q.ensures.stays in
     let there = q.ensures.there in
     let costs = q.ensures.few in
@@ -99,7 +99,7 @@ loop-around-preserved-then-is_fork g c =
 pub loop-around-preserved-then-branch : goal.loop-around-preserved-then-branch
 loop-around-preserved-then-branch g c =
     let l = c.loop-around in
-    let was = in-place g.S.EventSink.after c.args.plan.now c.args.self.now c.args.sink.now c.loop-around.self c.loop-around.sink c.loop-around.invariant.straight_run c.loop-around.invariant.path c.loop-around.text.now c.loop-around.block.now c.loop-around.invariant.text c.loop-around.invariant.block c.loop_in_place.new.self c.loop_in_place.new.sink c.in_ok-around.ensures.went in
+    let was = in-place g.S.EventSink.after c.args.plan.now c.args.self.now c.args.sink.now c.loop-around.self c.loop-around.sink c.loop-around.invariant.straight_run c.loop-around.invariant.path c.loop-around.text.now c.loop-around.block.now c.loop-around.invariant.text c.loop-around.invariant.block c.loop_in_place.new.self c.loop_in_place.new.sink c.in_ok-around.ensures.moved in
     let plan = c.args.plan.now in
     let i = c.loop_in_place.new.self in
     let st = c.in-Some.passed.0.now in
@@ -109,7 +109,7 @@ loop-around-preserved-then-branch g c =
     let did = did-silent st _ new _ c.if-branch.true c.in_ok-silent_statement.ensures.did in
     let less : i.steps - 1 + 1 ≡ i.steps = omega arith in
     let paid : InstanceParts = record i { steps = i.steps - 1; top = record i.top { cursor = c.pass_in.new.self } } in
-    let moves = fast_path-went plan i st c.pass_in.new.self (i.steps - 1) (here-is plan i was.sound) passes less new did in
+    let moves = fast_path-moved plan i st c.pass_in.new.self (i.steps - 1) (here-is plan i was.sound) passes less new did in
     let stays = q.ensures.stays in
     let there = q.ensures.there in
     let same = q.ensures.cursor (sym c.is_fork.ensures ∙ c.if-is_fork.false) in
@@ -130,7 +130,7 @@ loop-around-preserved-then-branch g c =
 pub loop-around-preserved-in-Emitting : goal.loop-around-preserved-in-Emitting
 loop-around-preserved-in-Emitting g c =
     let l = c.loop-around in
-    let was = in-place g.S.EventSink.after c.args.plan.now c.args.self.now c.args.sink.now c.loop-around.self c.loop-around.sink c.loop-around.invariant.straight_run c.loop-around.invariant.path c.loop-around.text.now c.loop-around.block.now c.loop-around.invariant.text c.loop-around.invariant.block c.loop_in_place.new.self c.loop_in_place.new.sink c.in_ok-around.ensures.went in
+    let was = in-place g.S.EventSink.after c.args.plan.now c.args.self.now c.args.sink.now c.loop-around.self c.loop-around.sink c.loop-around.invariant.straight_run c.loop-around.invariant.path c.loop-around.text.now c.loop-around.block.now c.loop-around.invariant.text c.loop-around.invariant.block c.loop_in_place.new.self c.loop_in_place.new.sink c.in_ok-around.ensures.moved in
     let plan = c.args.plan.now in
     let i = c.loop_in_place.new.self in
     let st = c.in-Some.passed.0.now in
@@ -143,11 +143,11 @@ loop-around-preserved-in-Emitting g c =
     let there = gone.1 in
     let same = there.cursor ∙ ap (λ (x : InstanceParts). x.top.cursor) left.0 in
     let less : i.steps - 1 + 1 ≡ i.steps = omega arith in
-    let went = straight_run-sent g.S.EventSink.after plan c.args.self.now c.args.sink.now i c.loop_in_place.new.sink was.straight_run was.sound st c.pass_in.new.self (i.steps - 1) passes less q.new.self left.0 o.new.self o.new.sink did.0 did.1 did.2 o.ensures.named there.stays there.few in
+    let moved = straight_run-sent g.S.EventSink.after plan c.args.self.now c.args.sink.now i c.loop_in_place.new.sink was.straight_run was.sound st c.pass_in.new.self (i.steps - 1) passes less q.new.self left.0 o.new.self o.new.sink did.0 did.1 did.2 o.ensures.named there.stays there.few in
     record {
-      straight_run = went.straight_run;
-      sound = went.sound;
-      path = went.path ∙ was.path;
+      straight_run = moved.straight_run;
+      sound = moved.sound;
+      path = moved.path ∙ was.path;
       text = was.text ∙ sym (text-same plan i o.new.self (there.there.function ∙ q.ensures.there.function) (there.there.levels ∙ q.ensures.there.levels));
       block = c.in-Some.ensures.passes.1 ∙ ap (λ (k : Cursor). block_of c.loop-around.text.now k.entered.items) (sym same);
       around = around-on c.loop-around.text.now (statements_of plan i.top) c.loop-around.block.now i.top.cursor o.new.self.top.cursor _ was.text c.in_ok-around.ensures.left (λ within. ap (λ (k : Cursor). k.entered.items) same ∙ c.pass_in.ensures.stays within);
@@ -156,7 +156,7 @@ loop-around-preserved-in-Emitting g c =
 pub loop-around-preserved : goal.loop-around-preserved
 loop-around-preserved g c =
     let l = c.loop-around in
-    let was = in-place g.S.EventSink.after c.args.plan.now c.args.self.now c.args.sink.now c.loop-around.self c.loop-around.sink c.loop-around.invariant.straight_run c.loop-around.invariant.path c.loop-around.text.now c.loop-around.block.now c.loop-around.invariant.text c.loop-around.invariant.block c.loop_in_place.new.self c.loop_in_place.new.sink c.in_ok-around.ensures.went in
+    let was = in-place g.S.EventSink.after c.args.plan.now c.args.self.now c.args.sink.now c.loop-around.self c.loop-around.sink c.loop-around.invariant.straight_run c.loop-around.invariant.path c.loop-around.text.now c.loop-around.block.now c.loop-around.invariant.text c.loop-around.invariant.block c.loop_in_place.new.self c.loop_in_place.new.sink c.in_ok-around.ensures.moved in
     let plan = c.args.plan.now in
     let i = c.loop_in_place.new.self in
     let st = c.in-Some.passed.0.now in
@@ -167,19 +167,19 @@ loop-around-preserved g c =
     let gone = subst (HasGone g.S.EventSink.after plan st q.new.self c.loop_in_place.new.sink o.new.self o.new.sink) c.in-Calling.is c.in_ok-other_statement.ensures.gone in
     let did = gone.0 in
     let less : i.steps - 1 + 1 ≡ i.steps = omega arith in
-    let went = straight_run-called g.S.EventSink.after plan c.args.self.now c.args.sink.now i c.loop_in_place.new.sink was.straight_run was.sound st c.pass_in.new.self (i.steps - 1) passes less q.new.self left.0 o.new.self o.new.sink gone.1 did.0 o.ensures.named did.1 gone.2 in
-    record { straight_run = went.straight_run; sound = went.sound; path = went.path ∙ was.path; text = c.statements-text-in-Calling.ensures; block = c.loop_around-called.ensures.block; around = c.loop_around-called.ensures.around }
+    let moved = straight_run-called g.S.EventSink.after plan c.args.self.now c.args.sink.now i c.loop_in_place.new.sink was.straight_run was.sound st c.pass_in.new.self (i.steps - 1) passes less q.new.self left.0 o.new.self o.new.sink gone.1 did.0 o.ensures.named did.1 gone.2 in
+    record { straight_run = moved.straight_run; sound = moved.sound; path = moved.path ∙ was.path; text = c.statements-text-in-Calling.ensures; block = c.loop_around-called.ensures.block; around = c.loop_around-called.ensures.around }
 
 pub other_statement-requires-clause-strand : goal.other_statement-requires-clause-strand
 other_statement-requires-clause-strand g c =
-    let was = in-place g.S.EventSink.after c.args.plan.now c.args.self.now c.args.sink.now c.loop-around.self c.loop-around.sink c.loop-around.invariant.straight_run c.loop-around.invariant.path c.loop-around.text.now c.loop-around.block.now c.loop-around.invariant.text c.loop-around.invariant.block c.loop_in_place.new.self c.loop_in_place.new.sink c.in_ok-around.ensures.went in
+    let was = in-place g.S.EventSink.after c.args.plan.now c.args.self.now c.args.sink.now c.loop-around.self c.loop-around.sink c.loop-around.invariant.straight_run c.loop-around.invariant.path c.loop-around.text.now c.loop-around.block.now c.loop-around.invariant.text c.loop-around.invariant.block c.loop_in_place.new.self c.loop_in_place.new.sink c.in_ok-around.ensures.moved in
     let left = did-nothing c.in-Some.passed.0.now _ c.silent_statement.new.self _ c.if-branch.false c.in_ok-silent_statement.ensures.did in
     let strand = was.sound.strand in
     subst (IsStrand c.args.plan.now) (sym left.0) (record { fits = strand.fits; within = strand.within; few = strand.few })
 
 pub other_statement-requires-clause-goes_on : goal.other_statement-requires-clause-goes_on
 other_statement-requires-clause-goes_on g c =
-    let was = in-place g.S.EventSink.after c.args.plan.now c.args.self.now c.args.sink.now c.loop-around.self c.loop-around.sink c.loop-around.invariant.straight_run c.loop-around.invariant.path c.loop-around.text.now c.loop-around.block.now c.loop-around.invariant.text c.loop-around.invariant.block c.loop_in_place.new.self c.loop_in_place.new.sink c.in_ok-around.ensures.went in
+    let was = in-place g.S.EventSink.after c.args.plan.now c.args.self.now c.args.sink.now c.loop-around.self c.loop-around.sink c.loop-around.invariant.straight_run c.loop-around.invariant.path c.loop-around.text.now c.loop-around.block.now c.loop-around.invariant.text c.loop-around.invariant.block c.loop_in_place.new.self c.loop_in_place.new.sink c.in_ok-around.ensures.moved in
     let passes = rw was.text at c.in-Some.ensures.passes.0 in
     c.silent_statement.ensures.stays.leaving ∙ passed-on c.args.plan.now c.loop_in_place.new.self c.in-Some.passed.0.now _ was.sound passes.first
 
@@ -187,30 +187,30 @@ other_statement-requires-clause-goes_on g c =
 
 pub frame_end-requires-clause-instance : goal.frame_end-requires-clause-instance
 frame_end-requires-clause-instance g c =
-    let was = in-place g.S.EventSink.after c.args.plan.now c.args.self.now c.args.sink.now c.loop-around.self c.loop-around.sink c.loop-around.invariant.straight_run c.loop-around.invariant.path c.loop-around.text.now c.loop-around.block.now c.loop-around.invariant.text c.loop-around.invariant.block c.loop_in_place.new.self c.loop_in_place.new.sink c.in_ok-around.ensures.went in
+    let was = in-place g.S.EventSink.after c.args.plan.now c.args.self.now c.args.sink.now c.loop-around.self c.loop-around.sink c.loop-around.invariant.straight_run c.loop-around.invariant.path c.loop-around.text.now c.loop-around.block.now c.loop-around.invariant.text c.loop-around.invariant.block c.loop_in_place.new.self c.loop_in_place.new.sink c.in_ok-around.ensures.moved in
     passed-sound c.args.plan.now c.loop_in_place.new.self c.pass_in.new.self None was.sound (rw was.text at c.in_default.ensures.passes)
 
 pub frame_end-requires-clause-none : goal.frame_end-requires-clause-none
 frame_end-requires-clause-none g c =
-    let was = in-place g.S.EventSink.after c.args.plan.now c.args.self.now c.args.sink.now c.loop-around.self c.loop-around.sink c.loop-around.invariant.straight_run c.loop-around.invariant.path c.loop-around.text.now c.loop-around.block.now c.loop-around.invariant.text c.loop-around.invariant.block c.loop_in_place.new.self c.loop_in_place.new.sink c.in_ok-around.ensures.went in
+    let was = in-place g.S.EventSink.after c.args.plan.now c.args.self.now c.args.sink.now c.loop-around.self c.loop-around.sink c.loop-around.invariant.straight_run c.loop-around.invariant.path c.loop-around.text.now c.loop-around.block.now c.loop-around.invariant.text c.loop-around.invariant.block c.loop_in_place.new.self c.loop_in_place.new.sink c.in_ok-around.ensures.moved in
     let none = rw was.text at c.in_default.ensures.passes in
     none.1
 
 pub loop-around-preserved-in_default : goal.loop-around-preserved-in_default
 loop-around-preserved-in_default g c =
     let l = c.loop-around in
-    let was = in-place g.S.EventSink.after c.args.plan.now c.args.self.now c.args.sink.now c.loop-around.self c.loop-around.sink c.loop-around.invariant.straight_run c.loop-around.invariant.path c.loop-around.text.now c.loop-around.block.now c.loop-around.invariant.text c.loop-around.invariant.block c.loop_in_place.new.self c.loop_in_place.new.sink c.in_ok-around.ensures.went in
+    let was = in-place g.S.EventSink.after c.args.plan.now c.args.self.now c.args.sink.now c.loop-around.self c.loop-around.sink c.loop-around.invariant.straight_run c.loop-around.invariant.path c.loop-around.text.now c.loop-around.block.now c.loop-around.invariant.text c.loop-around.invariant.block c.loop_in_place.new.self c.loop_in_place.new.sink c.in_ok-around.ensures.moved in
     let plan = c.args.plan.now in
     let e = c.frame_end in
     let none = rw was.text at c.in_default.ensures.passes in
     let ended = did-end g.S.EventSink.after plan _ e.new.self c.loop_in_place.new.sink e.new.sink _ c.if-not-branch.false c.in_ok-frame_end.ensures.did in
-    let went = straight_run-ended g.S.EventSink.after plan c.args.self.now c.args.sink.now c.loop_in_place.new.self c.loop_in_place.new.sink was.straight_run was.sound c.pass_in.new.self none e.new.self e.new.sink ended in
-    record { straight_run = went.straight_run; sound = went.sound; path = went.path ∙ was.path; text = c.statements-text-in_default.ensures; block = c.loop_around-below.ensures.block; around = c.loop_around-below.ensures.around }
+    let moved = straight_run-ended g.S.EventSink.after plan c.args.self.now c.args.sink.now c.loop_in_place.new.self c.loop_in_place.new.sink was.straight_run was.sound c.pass_in.new.self none e.new.self e.new.sink ended in
+    record { straight_run = moved.straight_run; sound = moved.sound; path = moved.path ∙ was.path; text = c.statements-text-in_default.ensures; block = c.loop_around-below.ensures.block; around = c.loop_around-below.ensures.around }
 
 pub returns-then-not-branch : goal.returns-then-not-branch
 returns-then-not-branch g c =
     let l = c.loop-around in
-    let was = in-place g.S.EventSink.after c.args.plan.now c.args.self.now c.args.sink.now c.loop-around.self c.loop-around.sink c.loop-around.invariant.straight_run c.loop-around.invariant.path c.loop-around.text.now c.loop-around.block.now c.loop-around.invariant.text c.loop-around.invariant.block c.loop_in_place.new.self c.loop_in_place.new.sink c.in_ok-around.ensures.went in
+    let was = in-place g.S.EventSink.after c.args.plan.now c.args.self.now c.args.sink.now c.loop-around.self c.loop-around.sink c.loop-around.invariant.straight_run c.loop-around.invariant.path c.loop-around.text.now c.loop-around.block.now c.loop-around.invariant.text c.loop-around.invariant.block c.loop_in_place.new.self c.loop_in_place.new.sink c.in_ok-around.ensures.moved in
     let plan = c.args.plan.now in
     let e = c.frame_end in
     let none = rw was.text at c.in_default.ensures.passes in
@@ -229,13 +229,13 @@ loop_in_place-requires-clause-around g c = let was = c.loop-around.invariant in 
 pub returns-then-self-eq0 : goal.returns-then-self-eq0
 returns-then-self-eq0 g c =
     let l = c.loop-around in
-    let was = in-place g.S.EventSink.after c.args.plan.now c.args.self.now c.args.sink.now c.loop-around.self c.loop-around.sink c.loop-around.invariant.straight_run c.loop-around.invariant.path c.loop-around.text.now c.loop-around.block.now c.loop-around.invariant.text c.loop-around.invariant.block c.loop_in_place.new.self c.loop_in_place.new.sink c.in_ok-around.ensures.went in
+    let was = in-place g.S.EventSink.after c.args.plan.now c.args.self.now c.args.sink.now c.loop-around.self c.loop-around.sink c.loop-around.invariant.straight_run c.loop-around.invariant.path c.loop-around.text.now c.loop-around.block.now c.loop-around.invariant.text c.loop-around.invariant.block c.loop_in_place.new.self c.loop_in_place.new.sink c.in_ok-around.ensures.moved in
     record { before = c.loop_in_place.new.self; straight_run = was.straight_run; sound = was.sound; path = was.path; passed = refl; at = rw was.text at c.in-Some.ensures.passes.0 }
 
 pub returns-in-Other : goal.returns-in-Other
 returns-in-Other g c =
     let l = c.loop-around in
-    let was = in-place g.S.EventSink.after c.args.plan.now c.args.self.now c.args.sink.now c.loop-around.self c.loop-around.sink c.loop-around.invariant.straight_run c.loop-around.invariant.path c.loop-around.text.now c.loop-around.block.now c.loop-around.invariant.text c.loop-around.invariant.block c.loop_in_place.new.self c.loop_in_place.new.sink c.in_ok-around.ensures.went in
+    let was = in-place g.S.EventSink.after c.args.plan.now c.args.self.now c.args.sink.now c.loop-around.self c.loop-around.sink c.loop-around.invariant.straight_run c.loop-around.invariant.path c.loop-around.text.now c.loop-around.block.now c.loop-around.invariant.text c.loop-around.invariant.block c.loop_in_place.new.self c.loop_in_place.new.sink c.in_ok-around.ensures.moved in
     let plan = c.args.plan.now in
     let i = c.loop_in_place.new.self in
     let st = c.in-Some.passed.0.now in
@@ -250,11 +250,11 @@ returns-in-Other g c =
 -- the table has the slots of what the next statement names
 
 pub pass_in-requires : goal.pass_in-requires
-pass_in-requires g c = let was = in-place g.S.EventSink.after c.args.plan.now c.args.self.now c.args.sink.now c.loop-around.self c.loop-around.sink c.loop-around.invariant.straight_run c.loop-around.invariant.path c.loop-around.text.now c.loop-around.block.now c.loop-around.invariant.text c.loop-around.invariant.block c.loop_in_place.new.self c.loop_in_place.new.sink c.in_ok-around.ensures.went in was.block
+pass_in-requires g c = let was = in-place g.S.EventSink.after c.args.plan.now c.args.self.now c.args.sink.now c.loop-around.self c.loop-around.sink c.loop-around.invariant.straight_run c.loop-around.invariant.path c.loop-around.text.now c.loop-around.block.now c.loop-around.invariant.text c.loop-around.invariant.block c.loop_in_place.new.self c.loop_in_place.new.sink c.in_ok-around.ensures.moved in was.block
 
 pub silent_statement-requires : goal.silent_statement-requires
 silent_statement-requires g c =
-    let was = in-place g.S.EventSink.after c.args.plan.now c.args.self.now c.args.sink.now c.loop-around.self c.loop-around.sink c.loop-around.invariant.straight_run c.loop-around.invariant.path c.loop-around.text.now c.loop-around.block.now c.loop-around.invariant.text c.loop-around.invariant.block c.loop_in_place.new.self c.loop_in_place.new.sink c.in_ok-around.ensures.went in
+    let was = in-place g.S.EventSink.after c.args.plan.now c.args.self.now c.args.sink.now c.loop-around.self c.loop-around.sink c.loop-around.invariant.straight_run c.loop-around.invariant.path c.loop-around.text.now c.loop-around.block.now c.loop-around.invariant.text c.loop-around.invariant.block c.loop_in_place.new.self c.loop_in_place.new.sink c.in_ok-around.ensures.moved in
     let plan = c.args.plan.now in
     let i = c.loop_in_place.new.self in
     let passes = rw was.text at c.in-Some.ensures.passes.0 in
@@ -266,7 +266,7 @@ other_statement-requires-clause-slots g c = record { table = c.slots-slots.ensur
 
 pub other_statement-requires-clause-finds : goal.other_statement-requires-clause-finds
 other_statement-requires-clause-finds g c =
-    let was = in-place g.S.EventSink.after c.args.plan.now c.args.self.now c.args.sink.now c.loop-around.self c.loop-around.sink c.loop-around.invariant.straight_run c.loop-around.invariant.path c.loop-around.text.now c.loop-around.block.now c.loop-around.invariant.text c.loop-around.invariant.block c.loop_in_place.new.self c.loop_in_place.new.sink c.in_ok-around.ensures.went in
+    let was = in-place g.S.EventSink.after c.args.plan.now c.args.self.now c.args.sink.now c.loop-around.self c.loop-around.sink c.loop-around.invariant.straight_run c.loop-around.invariant.path c.loop-around.text.now c.loop-around.block.now c.loop-around.invariant.text c.loop-around.invariant.block c.loop_in_place.new.self c.loop_in_place.new.sink c.in_ok-around.ensures.moved in
     let plan = c.args.plan.now in
     let i = c.loop_in_place.new.self in
     let st = c.in-Some.passed.0.now in

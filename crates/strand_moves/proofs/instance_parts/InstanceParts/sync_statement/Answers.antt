@@ -6,7 +6,7 @@ use Rattle.strand_moves.specs.declared.instance_parts.InstanceParts.{InstancePar
 use Rattle.strand_moves.specs.InstanceParts.{machine_of, present_of}
 use Rattle.strand_moves.specs.Moves.{acted, present_pedigree}
 use Rattle.strand_moves.proofs.OpenScopes.Exits.{shows-made}
-use Rattle.strand_moves.proofs.Statements.Equations.{sync, went}
+use Rattle.strand_moves.proofs.Statements.Equations.{sync, moved}
 use Rattle.strand_moves.proofs.instance_parts.InstanceParts.sync_statement.Goals as goal
 
 pub returns-clause-shows : goal.returns-clause-shows
@@ -15,7 +15,7 @@ returns-clause-shows c = λ plan st.
     let s = c.sync.ensures in
     let effects = Emitted (event.Sync (present_of i ++ i.rank ∷ [])) ∷ sync_effects i.top.spawned in
     shows-made (acted plan (present_of i) (machine_of plan i) st act.Sync) (present_pedigree (present_of i) (machine_of plan i)) (machine_of plan c.sync.new.self) effects c.sync.result s.effects s.fine s.passed
-    (λ passed. sync plan (present_of i) (machine_of plan i) st ∙ ap (λ (x : InstanceParts). went effects (machine_of plan x)) (sym passed))
+    (λ passed. sync plan (present_of i) (machine_of plan i) st ∙ ap (λ (x : InstanceParts). moved effects (machine_of plan x)) (sym passed))
 
 pub returns-clause-named : goal.returns-clause-named
 returns-clause-named c = c.sync.ensures.named
