@@ -2,7 +2,7 @@
 use Rattle.std.specs.Prelude.{ℕ}
 use Rattle.atomic_table.specs.Seated.{TableId}
 
--- A give: its tag, the name of the join that handed it out, and the table of the counter that its value goes to
+-- A give: its tag, the name of the join that made it, and the table of the counter that its value goes to
 pub record TiedView (K : Type 0) : Type 0 where
   pub tag : K
   pub join : ℕ

@@ -5,5 +5,5 @@ use contract_views::KnownTag;
 /// The name of a join. It has no bytes.
 pub type JoinName = KnownTag<u64>;
 
-/// The name of the join that handed a give out.
+/// The name of the join that made a give.
 pub type HandedBy = KnownTag<JoinName>;

@@ -73,7 +73,7 @@ pub record IsAwaited (nodes : List SpawnNode) (n : ℕ) (l : Link) : Type 0 wher
   pub at : slice_get parent.children l.place ≡ Some child
   pub number : child.number ≡ n
 
--- what an unanswered origin knows of its parent
+-- what holds of an unanswered origin's parent
 abbrev pub IsLinked : List SpawnNode → ℕ → Option Link → Type 0
 IsLinked nodes n None = n ≡ 0
 IsLinked nodes n (Some l) = IsAwaited nodes n l

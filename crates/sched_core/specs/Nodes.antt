@@ -6,7 +6,7 @@ use Rattle.sched_core.specs.declared.node.NodeChild.{NodeChild}
 use Rattle.sched_core.specs.declared.node.Link.{Link}
 use Rattle.sched_core.specs.declared.node.SpawnNode.{SpawnNode}
 
--- an origin that awaits nobody
+-- an origin that awaits no children
 abbrev pub new_node : Origin → Option Link → SpawnNode
 new_node o link = record { origin = o; link = link; children = []; unanswered = 0 }
 

@@ -50,7 +50,7 @@ fn answers_of(children: Items<NodeChild>, alloc: Global) -> Result<Items<Answer>
 }
 
 impl SpawnNode {
-    // An origin that awaits nobody.
+    // An origin that awaits no children.
     pub fn new(alloc: Global, origin: Origin, link: Option<Link>) -> SpawnNode
         ensures { result ≡ new_node origin link }
     {

@@ -88,7 +88,7 @@ impl Worker {
         Ok(())
     }
 
-    // The task goes to the end of the stalled tasks. It is `Memory` also where there are as many as may be.
+    // The task goes to the end of the stalled tasks. The answer is `Memory` also where there are as many as may be.
     pub fn stall(&mut self, rest: Job) -> Result<(), Memory>
         ensures { OnOk result (Stalls rest self.old self.new) }
     {

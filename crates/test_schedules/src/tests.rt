@@ -11,10 +11,10 @@ use std::process::Abort;
 use std::sync::Arc;
 use std::test::Fail;
 
-// Main hands out one child, waits for it and gives its value.
+// Main spawns one child, waits for it and gives its value.
 const ONE_CHILD: &str = "fn f() { return 7; } fn main() { let x = spawn f(); sync; return x; }";
 
-// Main hands out one child, which draws a number, and prints it.
+// Main spawns one child, which draws a number, and prints it.
 const DRAWS: &str =
     "fn f() { let x = draw; return x; } fn main() { let a = spawn f(); sync; print a; return 0; }";
 
@@ -64,7 +64,7 @@ fn make(core: &mut Core, alloc: Global, events: &[CoreEvent]) -> Result<(), Core
 }
 
 // A number's simulation of the script on so many workers.
-fn play(
+fn simulate_script(
     rt: &(impl Abort + AllocGlobal),
     text: &str,
     workers: u32,
@@ -97,7 +97,7 @@ fn printed(answer: &Answer, number: i64) -> bool {
 fn ends_on(rt: &(impl Abort + AllocGlobal), workers: u32, worker: u32) -> Result<bool, Fail>
     requires { (1 ≤ workers) × (workers ≤ 64) }
 {
-    let simulated = play(rt, DRAWS, workers, 0)?;
+    let simulated = simulate_script(rt, DRAWS, workers, 0)?;
     Ok(simulated.worker == worker && printed(&simulated.answer, 128271))
 }
 
@@ -164,7 +164,7 @@ fn words_pick_the_events(rt: HostRuntime) -> Result<(), Fail> {
 #[test]
 fn every_number_gives_mains_answer(rt: HostRuntime) -> Result<(), Fail> {
     for number in 0..10 {
-        let simulated = play(&rt, DRAWS, 3, number)?;
+        let simulated = simulate_script(&rt, DRAWS, 3, number)?;
         assert!(rt; simulated.worker < 3);
         assert!(rt; printed(&simulated.answer, 128271));
     }
@@ -173,7 +173,7 @@ fn every_number_gives_mains_answer(rt: HostRuntime) -> Result<(), Fail> {
 
 #[test]
 fn a_childs_fault_is_mains(rt: HostRuntime) -> Result<(), Fail> {
-    let simulated = play(&rt, DIVIDES, 1, 0)?;
+    let simulated = simulate_script(&rt, DIVIDES, 1, 0)?;
     assert!(rt; simulated.worker == 0);
     assert!(rt; printed(&simulated.answer, 7));
     let divides = match &simulated.answer.outcome {

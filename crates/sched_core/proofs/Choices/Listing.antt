@@ -21,7 +21,7 @@ map-same (x ∷ xs) = ap (λ l. x ∷ l) (map-same xs)
 range-more : (n : ℕ) → range_with_len 0 (n + 1) ≡ range_with_len 0 n ++ n ∷ []
 range-more n = sym (map-same (range_with_len 0 (n + 1))) ∙ map-range_with_len_more (λ (x : ℕ). x) 0 n n (omega arith) ∙ ap (λ l. l ++ n ∷ []) (map-same (range_with_len 0 n))
 
--- what comes of one number more
+-- with one number more
 pub add-many : (g : ℕ → List CoreEvent) (all now next : List CoreEvent) (n : ℕ) → now ≡ all ++ flat_map g (range_with_len 0 n) → next ≡ now ++ g n → next ≡ all ++ flat_map g (range_with_len 0 (n + 1))
 add-many g all now next n h e =
     e ∙ ap (λ l. l ++ g n) h ∙ append_assoc all (flat_map g (range_with_len 0 n)) (g n) ∙ ap (λ l. all ++ l) (sym (ap (flat_map g) (range-more n) ∙ flat-end g (range_with_len 0 n) n))
@@ -32,7 +32,7 @@ add-one c f all now next n test h t e =
     e ∙ ap (λ b. now ++ cond b (f n ∷ []) []) t ∙ ap (λ l. l ++ cond (is_progress c (f n)) (f n ∷ []) []) h ∙ append_assoc all (filter (is_progress c) (map f (range_with_len 0 n))) (cond (is_progress c (f n)) (f n ∷ []) [])
     ∙ ap (λ l. all ++ l) (sym (filter_of_map_range_with_len_more (is_progress c) f 0 n n (omega arith)))
 
--- the places of the stalled tasks are as many numbers from 0
+-- the indexes of the stalled tasks are as many numbers from 0
 pub places-range : (o : Option Worker) → range_with_len 0 (length (stalled_places o)) ≡ stalled_places o
 places-range None = refl
 places-range (Some w) = ap (range_with_len 0) (length-range_with_len 0 (length w.stalled))

@@ -106,7 +106,7 @@ module _ (s : CoreState) (t : IsConsistent s) (none : s.root ≡ None) (w : ℕ)
           mains = mains;
         }
 
-      -- it goes on once main's answer, which isn't there, was taken
+      -- the simulation continues where main's answer, which isn't there, is taken
       pub goes-on : (left : Option AnswerView) → next.root ≡ None → left ≡ None → Continues w s (record next { root = left })
       goes-on left root none_left = record {
         event = e;

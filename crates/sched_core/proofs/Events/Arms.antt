@@ -1,4 +1,4 @@
--- A stop is dealt with as its kind wants.
+-- Each kind of stop is handled.
 use Rattle.std.proofs.Common.{◌≡◌, ℕ, ◌<◌, Result, OnOk, length, slice_index_or, slice_set, sym, subst}
 use Rattle.serial_meaning.specs.declared.keep.All.{All}
 use Rattle.strand_machine.specs.declared.stop.Stop.{Stop}

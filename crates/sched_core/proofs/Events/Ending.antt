@@ -56,7 +56,7 @@ awaits-set begun (x ∷ cs) [] k c a h w = absurd w
 awaits-set begun (x ∷ cs) (o ∷ os) zero c a h w = (ap (λ (y : NodeChild). slice_get begun y.number) (sym (some-one x c h)) ∙ w.0, w.1)
 awaits-set begun (x ∷ cs) (o ∷ os) (suc k) c a h w = (w.0, awaits-set begun cs os k c a h w.1)
 
--- a parent that heard of a child awaits the same origins
+-- a parent that got a child's answer awaits the same origins
 job-answered : (nodes : List SpawnNode) (l : Link) (parent : SpawnNode) (child : NodeChild) (a : AnswerView) → slice_get nodes l.parent ≡ Some parent → slice_get parent.children l.place ≡ Some child →
     (i : Job) → IsJob nodes i → IsJob (slice_set nodes l.parent (child_answered l.place child a parent)) i
 job-answered nodes l parent child a at_parent at i is = by_number (same-or i.number l.parent)

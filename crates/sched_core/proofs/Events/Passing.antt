@@ -20,7 +20,7 @@ use Rattle.sched_core.proofs.Worked.Lists.{get-map, map-remove, everywhere-end, 
 use Rattle.sched_core.proofs.Worked.Ready.{AreAnswersGiven, awaited-same, not-all}
 use Rattle.sched_core.proofs.Events.Taking.{Both, Keeps, changed, core-keeps, free-none, map-end, moves, was-given}
 
--- What a node knows of its children's answers
+-- What holds of the answers in a node
 
 pub answer_given : (plan : PlanView) (given : List Origin) (nodes : List SpawnNode) → AreNodes plan given nodes → (n : ℕ) (node : SpawnNode) → slice_get nodes n ≡ Some node →
     AreAnswersGiven plan given (origins_of nodes) node.children

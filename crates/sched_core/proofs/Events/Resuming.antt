@@ -1,4 +1,4 @@
--- A look by which a task goes on.
+-- A look by which a task continues.
 use Rattle.std.specs.Arc.{arc_value}
 use Rattle.std.proofs.Common.{◌≡◌, ℕ, ◌+◌, ◌≤◌, true, false, [], Some, None, All, Contains, inl, slice_get, slice_set, remove, map, refl, sym, ap, ◌∙◌, subst, arith}
 use Rattle.strand_meaning.proofs.TakenAnswers.AnswersKeepTasks.{none-unmerged}
@@ -59,9 +59,9 @@ module _ (s : CoreState) (t : IsConsistent s) (w place : ℕ) (v : WorkerView) (
         let listed : All (Contains s.given) (machine.awaited (task_in j)) = subst (All (Contains s.given)) (sym (awaited-same (task_in j).trace.unmerged)) all in
         λ k d lt. is-answered false s _ (listed k d lt)
 
-    -- it went on by the answers, of which none is a cut
-    pub went-is : (next : Job) → IsResumedWith (answers_in node.children) j.task next.task → next.task ≡ resumed_view j.task
-    went-is next h =
+    -- it continued with the answers, of which none is a cut
+    pub is_resumed-is : (next : Job) → IsResumedWith (answers_in node.children) j.task next.task → next.task ≡ resumed_view j.task
+    is_resumed-is next h =
         h.whole (none-cut (plan_of s) s.given (origins_of s.nodes.items) node.children (awaited (task_in j).trace.unmerged) awaits (answer_given (plan_of s) s.given s.nodes.items t.nodes j.number node found))
 
 -- what the state is after the look
@@ -89,10 +89,10 @@ module _ (s next : CoreState) (t : IsConsistent s) (none : s.root ≡ None) (w p
       left : (a b : ℕ) → a ≤ 1 → a ≡ 1 + b → b ≡ 0
       left a b f e = omega arith
 
-  module _ (node : SpawnNode) (found : slice_get s.nodes.items j.number ≡ Some node) (zero_left : node.unanswered ≡ 0) (next_job : Job) (went_on : IsResumedWith (answers_in node.children) j.task next_job.task) (number : next_job.number ≡ j.number)
+  module _ (node : SpawnNode) (found : slice_get s.nodes.items j.number ≡ Some node) (zero_left : node.unanswered ≡ 0) (next_job : Job) (resumes : IsResumedWith (answers_in node.children) j.task next_job.task) (number : next_job.number ≡ j.number)
       (p : HasResumed w place j next_job node v s next) where
     task-is : next_job.task ≡ resumed_view j.task
-    task-is = went-is s t w place v there j at node found zero_left next_job went_on
+    task-is = is_resumed-is s t w place v there j at node found zero_left next_job resumes
 
     own : IsJob s.nodes.items j
     own = stalled-job s t w place v there j at

@@ -34,7 +34,7 @@ module _ (s : CoreState) (t : IsConsistent s) (w : ℕ) (v : WorkerView) (there 
   pub own-job : IsJob s.nodes.items j
   own-job = subst (λ o. IfSome o (IsJob s.nodes.items)) current (t.workers w v there).current
 
-  -- its task is sound and stands in no wait
+  -- its task is sound and doesn't wait
   pub going : IsRunning (plan_of s) (origins_of s.nodes.items) (task_in j)
   going =
       let kept = cores.kept (plan_of s) t.led.workers t.led.events (core_of false s) t.valid t.led.leads in

@@ -147,7 +147,7 @@ module _ (s next : CoreState) (t : IsConsistent s) (none : s.root ≡ None) (w :
         more : (b c : ℕ) → is_it (task_in child).origin (task_in child).origin ≡ 1 → 1 ≤ (is_it (task_in child).origin (task_in child).origin + 0) + (b + c)
         more b c e = omega arith
 
-    -- the child wasn't begun before, so nobody has its answer
+    -- the child wasn't begun before, so no node has its answer
     fresh : Contains s.given (task_in child).origin → ⊥
     fresh g =
         let i : load (by_origin (is_it (task_in child).origin)) (worker_of (record v { current = Some child; deque = v.deque ++ rest ∷ [] })) ≤ total (load (by_origin (is_it (task_in child).origin))) (map worker_of next.workers.items) = get-total (load (by_origin (is_it (task_in child).origin))) (map worker_of next.workers.items) w _ at-worker in

@@ -1,4 +1,4 @@
--- A run, by what the code does of it: the task leaves its worker, comes to a stop, and the stop is dealt with.
+-- A run, by what the code does of it: the task leaves its worker, comes to a stop, and the stop is handled.
 use Rattle.std.proofs.Common.{◌≡◌, ℕ, zero, suc, ◌+◌, ◌≤◌, ◌<◌, List, [], ◌∷◌, ◌++◌, Option, Some, None, Contains, slice_get, slice_set, length, refl, sym, ap, ◌∙◌, subst, arith}
 use Rattle.std.proofs.lemmas.Option.{slice_get_within}
 use Rattle.serial_meaning.specs.Answer.{AnswerView}

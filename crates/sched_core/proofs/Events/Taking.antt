@@ -1,4 +1,4 @@
--- Events by which a task goes from one place to another: the core goes on as the machine does, and what holds of it stays.
+-- Events by which a task goes from one place to another: the core takes the machine's step, and keeps its invariant.
 use Rattle.std.specs.Arc.{arc_value}
 use Rattle.std.proofs.Common.{◌≡◌, ℕ, zero, suc, Bool, true, false, ◌&&◌, not, List, [], ◌∷◌, ◌++◌, Option, Some, None, Contains, slice_get, slice_set, map, is_some, refl, sym, ap, ◌∙◌, subst}
 use Rattle.script_check.specs.Valid.{IsValid}
@@ -50,7 +50,7 @@ carry-root p q g h r u a b c x = subst (λ l. IsAnsweredBy p g (main_origin p) l
 pub carry-workers : (n m : List SpawnNode) (ws vs : List WorkerView) → n ≡ m → ws ≡ vs → AreWorkers m vs → AreWorkers n ws
 carry-workers n m ws vs a b x = subst (λ l. AreWorkers n l) (sym b) (subst (λ l. AreWorkers l vs) (sym a) x)
 
--- The plan stays, and the next core is as it should be.
+-- The plan is unchanged, and the next core keeps the invariant.
 pub goes : (e : CoreEvent) (s next : CoreState) → IsConsistent s → s.root ≡ None → plan_of next ≡ plan_of s → Happens e (core_of false s) (core_of false next) →
     AreWorkers next.nodes.items next.workers.items → AreNodes (plan_of next) next.given next.nodes.items → IsAnsweredBy (plan_of next) next.given (main_origin (plan_of next)) next.root → StepsTo e s next
 goes e s next t none plan happens workers nodes root = record { step = step; consistent = consistent }
@@ -94,7 +94,7 @@ both n R S ws mid last p q = record {
 
 -- Where only workers change
 
--- the rest stays
+-- the rest is unchanged
 pub record Keeps (s next : CoreState) : Type 0 where
   pub plan : next.plan ≡ s.plan
   pub nodes : next.nodes.items ≡ s.nodes.items

@@ -34,7 +34,7 @@ module _ (s : CoreState) (t : IsConsistent s) (w place : ℕ) (j : Job) (mid : L
       pub wakes : node.unanswered ≡ 0 → (next_job : Job) → Resumes j next_job s.nodes.items next.nodes.items → WorkerChanges w (SetsCurrent next_job) mid next.workers.items →
           next.plan ≡ s.plan → next.given ≡ s.given → next.root ≡ s.root → next.runs ≡ s.runs → StepsTo (Look w place) s next
       wakes zero_left next_job r takes plan given root runs =
-          resume-goes s next t none w place b.worker b.there free j b.first.0 node found zero_left next_job went r.takes.number (record {
+          resume-goes s next t none w place b.worker b.there free j b.first.0 node found zero_left next_job is_resumed r.takes.number (record {
             workers = b.next_is ∙ ap (slice_set s.workers.items w) after-is;
             nodes = r.after_is ∙ ap (λ (n : SpawnNode). slice_set s.nodes.items j.number (without_children n)) same;
             plan = plan;
@@ -49,8 +49,8 @@ module _ (s : CoreState) (t : IsConsistent s) (w place : ℕ) (j : Job) (mid : L
           same : r.node ≡ node
           same = some-one r.node node (sym r.there ∙ found)
 
-          went : IsResumedWith (answers_in node.children) j.task next_job.task
-          went = subst (λ (n : SpawnNode). IsResumedWith (answers_in n.children) j.task next_job.task) same r.takes.task
+          is_resumed : IsResumedWith (answers_in node.children) j.task next_job.task
+          is_resumed = subst (λ (n : SpawnNode). IsResumedWith (answers_in n.children) j.task next_job.task) same r.takes.task
 
           after-is : b.after ≡ record b.worker { current = Some next_job; stalled = remove b.worker.stalled place }
           after-is = b.second ∙ ap (λ (v : WorkerView). record v { current = Some next_job }) b.first.1

@@ -27,7 +27,7 @@ missing-set [] k c d h a b = absurd (cc)
 missing-set (x ∷ cs) zero c d h a b = let e : missing_one x.answer ≡ missing_one c.answer = ap (λ (y : NodeChild). missing_one y.answer) (some-one x c h) in omega arith
 missing-set (x ∷ cs) (suc k) c d h a b = let e : missing (slice_set cs k d) + 1 ≡ missing cs = missing-set cs k c d h a b in omega arith
 
--- The origin of number n is answered. Its node knows of a parent, or it is main's.
+-- The origin of number n is answered. Its node has a link to a parent, or it is main's.
 module _ (plan : PlanView) (given : List Origin) (nodes : List SpawnNode) (all : AreNodes plan given nodes) (n : ℕ) (node : SpawnNode) (there : slice_get nodes n ≡ Some node) (fresh : Contains given node.origin → ⊥) where
   module _ (once : (j k : ℕ) (x y : SpawnNode) → slice_get nodes j ≡ Some x → slice_get nodes k ≡ Some y → x.origin ≡ y.origin → j ≡ k) where
     abbrev pub more : List Origin
@@ -76,7 +76,7 @@ module _ (plan : PlanView) (given : List Origin) (nodes : List SpawnNode) (all :
             let y = node-after c.number ch.node ch.there in
             record { node = y.0; there = y.1; link = y.3 ∙ ch.link; answer_given = subst (λ p. IsAnsweredBy plan more p c.answer) (sym y.2) answer_given }
 
-        -- a child at another place has another number
+        -- a child at another index has another number
         elsewhere : (k place : ℕ) (c : NodeChild) → IsChild plan given nodes k place c → ((k ≡ l.parent) × (place ≡ l.place) → ⊥) → c.number ≡ n → ⊥
         elsewhere k place c ch two e =
             let same : ch.node ≡ node = some-one ch.node node (sym ch.there ∙ ap (λ m. slice_get nodes m) e ∙ there) in
@@ -177,7 +177,7 @@ module _ (plan : PlanView) (given : List Origin) (nodes : List SpawnNode) (all :
             by_number (inl e) = subst (λ m. IsNode plan more after m x) (sym e.0) (subst (IsNode plan more after l.parent) e.1 parent-is)
             by_number (inr e) = other-is k x e.0 (all k x e.1)
 
-    -- main's answer is heard by nobody
+    -- main's answer goes to no node
     module _ (linked : node.link ≡ None) where
       not-main : (k place : ℕ) (c : NodeChild) → IsChild plan given nodes k place c → c.number ≡ n → ⊥
       not-main k place c ch e =

@@ -79,7 +79,7 @@ replicate-end : {A : Type 0} (k : ℕ) (x : A) → replicate k x ++ x ∷ [] ≡
 replicate-end zero x = refl
 replicate-end (suc k) x = ap (λ l. x ∷ l) (replicate-end k x)
 
--- one free worker more
+-- one more free worker
 pub first_workers-more : (main : TaskView) (n : ℕ) → 1 ≤ n → first_workers main n ++ worker_with None ∷ [] ≡ first_workers main (n + 1)
 first_workers-more main zero h = absurd (omega arith)
 first_workers-more main (suc k) h =

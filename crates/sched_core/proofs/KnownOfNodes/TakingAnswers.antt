@@ -39,7 +39,7 @@ module _ (plan : PlanView) (given : List Origin) (nodes : List SpawnNode) (all :
           )
       by_number (inr two) = (x, get-other nodes n k (without_children node) two ∙ h, refl, refl)
 
-  -- what isn't answered isn't awaited by the task that went on
+  -- what isn't answered isn't awaited by the task that continued
   awaited-stays : (k : ℕ) (x : SpawnNode) (l : Link) → slice_get nodes k ≡ Some x → (Contains given x.origin → ⊥) → IsAwaited nodes k l → IsAwaited after k l
   awaited-stays k x l h open_yet w = by_number (same-or l.parent n)
     where

@@ -1,4 +1,4 @@
--- Places of lists: after a change, an addition and a removal, and under a map.
+-- Positions in lists: after a change, an addition and a removal, and under a map.
 use Rattle.std.proofs.Common.{◌≡◌, ℕ, zero, suc, ◌⊎◌, inl, inr, List, [], ◌∷◌, ◌++◌, Some, None, slice_get, slice_set, remove, length, map, refl, sym, ap, ◌∙◌, subst, arith}
 use Rattle.sched_meaning.proofs.OneCore.OneStep.{some-one}
 use Rattle.sched_core.specs.Consistent.{Everywhere}

@@ -1,4 +1,4 @@
--- Whether a look goes on, by the count of the children that haven't answered.
+-- Whether a look continues its task, by the count of the children that haven't answered.
 use Rattle.std.proofs.Common.{◌≡◌, ℕ, zero, suc, Bool, true, false, ◌&&◌, ◌↔◌, IsTrue, ◌<◌, List, [], ◌∷◌, Option, Some, None, All, length, slice_get, map, refl, sym, ap, ◌∙◌, subst, arith}
 use Rattle.std.proofs.lemmas.Option.{slice_get_within}
 use Rattle.std.specs.List.{list_all}
