@@ -15,8 +15,8 @@ use Rattle.serial_meaning.specs.declared.answer.Outcome.{Outcome}
 use Rattle.meet_block.specs.Joined.{Joined, JoinView}
 use Rattle.strand_machine.specs.Links.{tag}
 use Rattle.strand_machine.specs.Tasks.{TaskView}
-use Rattle.crew.specs.Crews.{AreNewRoots, AreRootAnswers, IsCrewOf}
-use Rattle.crew.specs.Hands.{HandView}
+use Rattle.parallel_runner.specs.Crews.{AreNewRoots, AreRootAnswers, IsCrewOf}
+use Rattle.parallel_runner.specs.Hands.{HandView}
 use Rattle.seed_batch.specs.Batch.{main_answer, seed_lines, batch, batch_text}
 
 -- The answers of the roots of plans are main's

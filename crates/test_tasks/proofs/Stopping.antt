@@ -71,13 +71,13 @@ pub tags_of_two : (plan : PlanView) (a b : AnswerView) (os : List Origin) → a.
 tags_of_two plan a b os e f h = rw (e, f, h) refl
 
 -- A task that took its children's answers awaits none.
-went : (answers : List AnswerView) (t next : TaskView) (c : Bool) → any_cut answers ≡ c → IsResumedWith answers t next → awaited next ≡ []
-went answers t next false e h =
+is_resumed : (answers : List AnswerView) (t next : TaskView) (c : Bool) → any_cut answers ≡ c → IsResumedWith answers t next → awaited next ≡ []
+is_resumed answers t next false e h =
     ap awaited (h.whole e) ∙ ap children.awaited (none-heard t.task.trace.unmerged (evaluations (eval t.task.plan) t.task.trace.unmerged) _ refl)
-went answers t next true e h = ap children.awaited (h.cut e).0.unmerged
+is_resumed answers t next true e h = ap children.awaited (h.cut e).0.unmerged
 
-pub went_on : (answers : List AnswerView) (t next : TaskView) → IsResumedWith answers t next → awaited next ≡ []
-went_on answers t next h = went answers t next (any_cut answers) refl h
+pub resumes : (answers : List AnswerView) (t next : TaskView) → IsResumedWith answers t next → awaited next ≡ []
+resumes answers t next h = is_resumed answers t next (any_cut answers) refl h
 
 pub resumed_on : (t next : TaskView) → IsResumed {K = All} t (On next) → awaited next ≡ []
-resumed_on t next h = went_on h.0 _ next h.2
+resumed_on t next h = resumes h.0 _ next h.2

@@ -1,4 +1,4 @@
-// The turns of hands. That crews answer as one worker does, on any number of workers, is shown by `test_commands`.
+// The turns of hands. That crews answer as one worker does, on any number of workers, is shown by `test_runs`.
 
 use super::{plan, plan_within, same};
 use crew::{Crew, Gate, Hand, Looked, OpenGate, Root, Turn};

@@ -102,7 +102,7 @@ fn ended(rt: &impl Abort, alloc: Global, task: Task) -> Result<(Answer, Give<Ans
 }
 
 // The task after its wait with these answers, those of the two children that it awaits.
-#[tactic(auto, using(crate::proofs::Stopping::tags_of_two, crate::proofs::Stopping::went_on))]
+#[tactic(auto, using(crate::proofs::Stopping::tags_of_two, crate::proofs::Stopping::resumes))]
 fn with_answers(alloc: Global, rest: Task, first: Answer, second: Answer) -> Result<Task, Fail>
     requires waits { rest.task.waiting ≡ true }
     requires first { first.plan ≡ rest.task.plan }
@@ -187,7 +187,7 @@ fn still_waiting(rt: &impl Abort, alloc: Global, task: Task) -> Result<Task, Fai
 
 // The task after its wait, since all of its children have answered.
 #[tactic(auto, using(crate::proofs::Stopping::resumed_on))]
-fn gone_on(rt: &impl Abort, alloc: Global, task: Task) -> Result<Task, Fail>
+fn after_wait(rt: &impl Abort, alloc: Global, task: Task) -> Result<Task, Fail>
     requires { task.task.waiting ≡ true }
     ensures { IfOk result (λ next. awaited next ≡ []) }
 {
@@ -205,7 +205,7 @@ fn with_child(rt: &impl Abort, alloc: Global, rest: Task, child: Task) -> Result
 {
     let (answer, give) = ended(rt, alloc, child)?;
     give.put(answer);
-    gone_on(rt, alloc, rest)
+    after_wait(rt, alloc, rest)
 }
 
 #[tactic(auto, using(crate::proofs::Stopping::one_awaited))]

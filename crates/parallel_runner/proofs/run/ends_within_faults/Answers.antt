@@ -1,0 +1,10 @@
+use Rattle.std.proofs.Common.{subst}
+use Rattle.serial_meaning.specs.Answer.{AnswerView, IsAnswer}
+use Rattle.parallel_runner.proofs.Ending.{ends_within}
+use Rattle.parallel_runner.proofs.run.ends_within_faults.Goals as goal
+
+pub returns : goal.returns
+returns g c =
+    let a = c.args.answer.now in
+    let is : IsAnswer a.plan a.origin a.out a.outcome = subst (λ (x : AnswerView). IsAnswer x.plan x.origin x.out x.outcome) c.answer.view_is c.answer.invariant in
+    ends_within a.plan a.origin a.out a.outcome c.origins_end_within_faults.ensures c.whole_answers_are_evals.ensures c.requires.known is c.requires.whole

@@ -1,0 +1,350 @@
+// A crew in threads.
+ghost use Rattle.std.specs.Prelude.{◌≡◌, ◌≤◌, ◌∷◌, [], IfOk, true};
+ghost use Rattle.std.specs.Arc.{arc_value};
+ghost use Rattle.serial_meaning.specs.Answer.{IsEval};
+ghost use Rattle.serial_meaning.specs.Eval.{main_origin};
+ghost use Rattle.serial_meaning.specs.Laws.{IsOriginOf};
+ghost use Rattle.serial_meaning.specs.Render.{IsWhole};
+ghost use Rattle.strand_meaning.specs.Laws.{IsFaultOf};
+ghost use Rattle.strand_machine.specs.Links.{tag};
+ghost use Rattle.parallel_runner.specs.Crews.{AreRootAnswers};
+
+use crate::any_hand::AnyHand;
+use crate::gate::Gate;
+use crate::hand::{Hand, Hands, Looked, Turn};
+use crate::heap::Heap;
+use crate::memory::Memory;
+use crate::parents::Parents;
+use crate::parking::Parking;
+use crate::root::{Root, Roots};
+use crate::setup::Crew;
+use crate::signals::Signals;
+use crate::threads::{Until, at_each};
+use contract_views::Items;
+use crossbeam_utils::Backoff;
+use meet_block::Look;
+use serial_meaning::{Answer, Keep, Plan, Prints, laws};
+use std::alloc::Global;
+use std::sync::{Arc, Wait};
+use std::thread::Threads;
+
+// Looks at the newest stalled task, since its last child may have answered in the turn before.
+#[inline(always)]
+fn look_newest_on<K: Keep>(alloc: Global, signals: &Signals, hand: &mut Hand<K>) -> Option<Looked> {
+    match hand.look_newest(alloc) {
+        Ok(looked) => Some(looked),
+        Err(_) => {
+            signals.end_turns();
+            None
+        }
+    }
+}
+
+// After a turn in which the current task came to a stop: where it began a child, its rest can be stolen. Else it waits, and a hand
+// that cuts all that it begins is parked for a while.
+#[inline(always)]
+fn keep_turning<R: Wait, K: Keep>(
+    rt: &R,
+    alloc: Global,
+    parking: &mut Parking,
+    parents: &mut Parents,
+    signals: &Signals,
+    hand: &mut Hand<K>,
+    cuts: bool,
+) {
+    match look_newest_on(alloc, signals, hand) {
+        Some(Looked::Waits) if cuts => parking.park_cutting(rt, signals),
+        Some(Looked::Nothing) => {
+            parents.pushed();
+            if !cuts {
+                signals.wake_one();
+            }
+        }
+        _ => {}
+    }
+}
+
+// After a turn that put an answer.
+#[inline(always)]
+fn after_put<K: Keep>(alloc: Global, parents: &mut Parents, signals: &Signals, hand: &mut Hand<K>) {
+    if let Some(Looked::Resumes) = look_newest_on(alloc, signals, hand) {
+        parents.took(signals);
+    } else {
+        parents.ended(signals);
+    }
+}
+
+// Looks at each stalled task that the turn didn't look at, up to one that goes on, and says whether one does. As many more turns would also steal
+// from all other hands each.
+fn look_at_all<K: Keep>(alloc: Global, signals: &Signals, hand: &mut Hand<K>) -> bool {
+    for _ in 1..hand.stalled_count() {
+        match hand.look_oldest(alloc) {
+            Ok(Looked::Waits) => {}
+            Ok(Looked::Resumes) => return true,
+            Ok(Looked::Nothing) => return false,
+            Err(_) => {
+                signals.end_turns();
+                return false;
+            }
+        }
+    }
+    false
+}
+
+// After a turn that found nothing, in a hand whose tasks wait.
+fn wait_stalled<R: Wait, K: Keep>(
+    rt: &R,
+    alloc: Global,
+    parking: &mut Parking,
+    parents: &mut Parents,
+    signals: &Signals,
+    hand: &mut Hand<K>,
+) {
+    parents.found_none(signals);
+    if look_at_all(alloc, signals, hand) {
+        parking.end(signals);
+        parents.took(signals);
+    } else {
+        parking.park_stalled(rt, signals);
+    }
+}
+
+// Whether the turn stole a task, or may have left one for others to steal.
+#[inline(always)]
+fn has_task<K: Keep>(turn: &Result<Turn<K>, Memory>) -> bool {
+    matches!(turn, Ok(Turn::Ran | Turn::Popped | Turn::Stole))
+}
+
+// Makes turns until then, and says whether the run goes on. After a turn that left a task waiting or answered one, all
+// children of the newest stalled task may have answered: then it is the next one, and else it stays stalled.
+//
+// Where all tasks that a hand begins are cut, it is parked after each that it leaves waiting, and neither its pushes nor its steals wake
+// anyone: the hands from which it steals come to the ends of their tasks faster by themselves.
+fn take_turns<R: Wait, G: Gate, K: Keep>(
+    rt: &R,
+    alloc: Global,
+    signals: &Signals,
+    hand: &mut Hand<K>,
+    gate: &G,
+    until: Until,
+) -> bool {
+    let mut heap = Heap::new(alloc);
+    let mut parking = Parking::new();
+    let mut parents = Parents::new();
+    for _ in rt.forever() {
+        if signals.is_stopped() {
+            break;
+        }
+        let turn = hand.turn(alloc, gate);
+        let cuts = hand.cuts();
+        let is_last = matches!(until, Until::Task) && has_task(&turn);
+        match turn {
+            Ok(Turn::Waiting | Turn::Idle) => {}
+            _ if cuts => parking.cut(signals),
+            _ => parking.end(signals),
+        }
+        match turn {
+            Ok(Turn::Ran) => {
+                heap.count_turn();
+                keep_turning(rt, alloc, &mut parking, &mut parents, signals, hand, cuts);
+            }
+            Ok(Turn::Answered(_)) => after_put(alloc, &mut parents, signals, hand),
+            Ok(Turn::Popped) => parents.popped(),
+            Ok(Turn::Resumed | Turn::Stole) => parents.took(signals),
+            Ok(Turn::Waiting) => {
+                wait_stalled(rt, alloc, &mut parking, &mut parents, signals, hand);
+            }
+            Ok(Turn::Idle) => {
+                parents.found_none(signals);
+                parking.park_idle(rt, signals);
+            }
+            Ok(Turn::Ended(_)) => signals.root_ended(),
+            Err(_) => signals.end_turns(),
+        }
+        if is_last {
+            return true;
+        }
+    }
+    false
+}
+
+// The same, whatever the hand's tasks keep.
+fn take_any_turns<R: Wait, G: Gate>(
+    rt: &R,
+    alloc: Global,
+    signals: &Signals,
+    hand: &mut AnyHand,
+    gate: &G,
+    until: Until,
+) -> bool {
+    match hand {
+        AnyHand::All(hand) => take_turns(rt, alloc, signals, hand, gate, until),
+        AnyHand::Prints(hand) => take_turns(rt, alloc, signals, hand, gate, until),
+    }
+}
+
+// Looks until the answer is there.
+fn wait_ready<R: Wait, K: Keep>(rt: &R, root: &mut Root<K>)
+    ensures ready { root.new.children.ready ≡ true }
+    ensures tags { root.new.children.tags ≡ root.old.children.tags }
+{
+    let backoff = Backoff::new();
+    for _ in rt.forever() {
+        if let Look::Ready = root.look() {
+            return;
+        }
+        backoff.snooze();
+    }
+    unreachable!()
+}
+
+// An answer that is no cut is the serial meaning.
+fn is_meant<K: Keep>(answer: &Answer<K>)
+    requires { IsWhole answer.now.outcome }
+    ensures { IsEval answer.now.plan answer.now.origin answer.now.out answer.now.outcome }
+{
+    laws::whole_answers_are_evals();
+    // Read for the proof: an answer keeps by its type how an origin of the plan may end.
+    let _outcome = &answer.outcome;
+}
+
+// Looks until the root's answer is there, and takes it.
+fn roots_answer<R: Wait, K: Keep>(rt: &R, mut root: Root<K>) -> Answer<K>
+    ensures tag { root.children.tags ≡ tag result.plan result.origin ∷ [] }
+    ensures whole { IsWhole result.outcome }
+    ensures meant { IsEval result.plan result.origin result.out result.outcome }
+{
+    wait_ready(rt, &mut root);
+    let answer = root.take();
+    is_meant(&answer);
+    answer
+}
+
+// Where it is the answer of an origin of the plan and no cut, no fault but one of the plan's ends it.
+fn ends_within_faults<K: Keep>(answer: &Answer<K>)
+    requires known { IsOriginOf answer.now.plan answer.now.origin }
+    requires whole { IsWhole answer.now.outcome }
+    ensures { IsFaultOf answer.now.plan answer.now.outcome }
+{
+    laws::origins_end_within_faults();
+    laws::whole_answers_are_evals();
+    // Read for the proof: an answer keeps by its type how an origin of the plan may end.
+    let _outcome = &answer.outcome;
+}
+
+// Makes the turns of all hands, until as many roots have ended as this. Hand 0 works in this thread and each other one in a thread of its
+// own, or not at all where none can be made or there is nothing for it to do. On `Memory` a hand had no memory.
+fn run_hands<R: Threads + Wait + Sync, G: Gate + Sync>(
+    rt: &R,
+    alloc: Global,
+    hands: Vec<AnyHand>,
+    roots: u64,
+    gate: &G,
+) -> Result<(), Memory> {
+    let signals = Signals::new(roots);
+    let shared = &signals;
+    at_each(
+        rt,
+        alloc,
+        hands,
+        &|hand, until| { take_any_turns(rt, alloc, shared, hand, gate, until) },
+    );
+    let is_ended = signals.is_ended();
+    drop(signals);
+    if is_ended { Ok(()) } else { Err(Memory) }
+}
+
+/// Runs main on this many workers, hand 0 in this thread and each other one in a thread of its own. The hands steal
+/// tasks from one another.
+///
+/// A hand for which no thread can be made is left out. It has no task, and the others finish without it.
+#[tactic(auto, using(crate::proofs::Rooted::root_is))]
+pub fn run_crew<R: Threads + Wait + Sync, G: Gate + Sync>(
+    rt: &R,
+    alloc: Global,
+    plan: &Arc<Plan>,
+    workers: u32,
+    gate: &G,
+) -> Result<Answer, Memory>
+    requires { (1 ≤ workers) × (workers ≤ 64) }
+    ensures plan { IfOk result (λ answer. answer.plan ≡ arc_value plan.now) }
+    ensures origin { IfOk result (λ answer. answer.origin ≡ main_origin (arc_value plan.now)) }
+    ensures fault { IfOk result (λ answer. IsFaultOf (arc_value plan.now) answer.outcome) }
+{
+    let (root, hands) = Crew::new(alloc, plan, workers)?;
+    let hands = AnyHand::of_all(alloc, hands)?;
+    run_hands(rt, alloc, hands, 1, gate)?;
+    let answer = roots_answer(rt, root);
+    ends_within_faults(&answer);
+    Ok(answer)
+}
+
+/// The same, with an answer that keeps prints only.
+#[tactic(auto, using(crate::proofs::Rooted::root_is))]
+pub fn run_crew_of_prints<R: Threads + Wait + Sync, G: Gate + Sync>(
+    rt: &R,
+    alloc: Global,
+    plan: &Arc<Plan>,
+    workers: u32,
+    gate: &G,
+) -> Result<Answer<Prints>, Memory>
+    requires { (1 ≤ workers) × (workers ≤ 64) }
+    ensures plan { IfOk result (λ answer. answer.plan ≡ arc_value plan.now) }
+    ensures origin { IfOk result (λ answer. answer.origin ≡ main_origin (arc_value plan.now)) }
+    ensures fault { IfOk result (λ answer. IsFaultOf (arc_value plan.now) answer.outcome) }
+{
+    let (root, hands) = Crew::new_keeping(alloc, plan, workers)?;
+    let hands = AnyHand::of_prints(alloc, hands)?;
+    run_hands(rt, alloc, hands, 1, gate)?;
+    let answer = roots_answer(rt, root);
+    ends_within_faults(&answer);
+    Ok(answer)
+}
+
+// Takes the answers of these roots, each once it is there.
+fn answers_of<R: Wait, K: Keep>(
+    rt: &R,
+    alloc: Global,
+    roots: Vec<Root<K>>,
+) -> Result<Items<Answer<K>>, Memory>
+    ensures { IfOk result (λ answers. AreRootAnswers roots.items answers) }
+{
+    let mut answers = Vec::new(alloc);
+    for root in roots {
+        answers.push(roots_answer(rt, root))?;
+    }
+    Ok(Items(answers))
+}
+
+/// Runs the crew of these roots, which `Crew::many` made, until all have answered, as `run_crew` does. The answers are
+/// in the order of the roots. On `Memory` there are no answers.
+pub fn run_roots<R: Threads + Wait + Sync, G: Gate + Sync>(
+    rt: &R,
+    alloc: Global,
+    roots: Roots,
+    hands: Hands,
+    gate: &G,
+) -> Result<Items<Answer>, Memory>
+    ensures { IfOk result (λ answers. AreRootAnswers roots.0 answers) }
+{
+    let roots = roots.0.0;
+    let hands = AnyHand::of_all(alloc, hands)?;
+    run_hands(rt, alloc, hands, roots.len() as u64, gate)?;
+    answers_of(rt, alloc, roots)
+}
+
+/// The same for roots whose answers keep prints only, which `Crew::many_keeping` made.
+pub fn run_roots_of_prints<R: Threads + Wait + Sync, G: Gate + Sync>(
+    rt: &R,
+    alloc: Global,
+    roots: Roots<Prints>,
+    hands: Hands<Prints>,
+    gate: &G,
+) -> Result<Items<Answer<Prints>>, Memory>
+    ensures { IfOk result (λ answers. AreRootAnswers roots.0 answers) }
+{
+    let roots = roots.0.0;
+    let hands = AnyHand::of_prints(alloc, hands)?;
+    run_hands(rt, alloc, hands, roots.len() as u64, gate)?;
+    answers_of(rt, alloc, roots)
+}
