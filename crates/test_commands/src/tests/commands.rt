@@ -1,10 +1,12 @@
 // The commands and their words, and what the streams do to them.
 
-use super::{DRAWS, Host, ONE, Printed, call, compare, generated, prints, refuses, same, words};
 use engine::{OpenGate, pedrun};
 use ped_io::{MemSink, MemSource};
 use std::alloc::{AllocError, Global};
 use std::test::Fail;
+use test_calls::{
+    DRAWS, Host, ONE, Printed, call, compare, generated, prints, refuses, same, words,
+};
 
 // The words, and what is printed.
 static HASHES: [(&str, &str); 5] = [
@@ -137,7 +139,7 @@ static GENERATED: [&str; 3] = [
 fn generated_scripts_are_canonical(rt: HostRuntime) -> Result<(), Fail> {
     for &line in &GENERATED {
         let script = generated(&rt, line)?;
-        assert!(rt; script.as_str().starts_with("fn "), "{line}");
+        same(line, script.as_str().starts_with("fn "), true)?;
         prints(&rt, "fmt", script.as_str(), script.as_str())?;
         prints(&rt, "check", script.as_str(), "ok\n")?;
     }
@@ -232,11 +234,9 @@ fn run_reading<R: Host>(rt: &R, planned: u64) -> Result<Printed, Fail> {
 #[test]
 fn a_failed_read_is_told(rt: HostRuntime) -> Result<(), Fail> {
     for planned in 0..5 {
-        let printed = run_reading(&rt, planned)?;
-        compare(&rt, "run", &printed, 4, "", "read fault\n");
+        compare("run", run_reading(&rt, planned)?, 4, "", "read fault\n")?;
     }
-    compare(&rt, "run", &run_reading(&rt, 5)?, 0, "1\n", "");
-    Ok(())
+    compare("run", run_reading(&rt, 5)?, 0, "1\n", "")
 }
 
 const THREE_DRAWS: &str = "run --gamma 1";
@@ -264,11 +264,10 @@ static FRONTS: [(u64, &str); 3] = [(0, ""), (1, "21\n2"), (2, "21\n210\n9")];
 fn a_failed_write_is_told(rt: HostRuntime) -> Result<(), Fail> {
     for &(planned, front) in &FRONTS {
         let printed = run_writing(&rt, planned)?;
-        compare(&rt, THREE_DRAWS, &printed, 5, front, "write fault\n");
+        compare(THREE_DRAWS, printed, 5, front, "write fault\n")?;
     }
     let printed = run_writing(&rt, 3)?;
-    compare(&rt, THREE_DRAWS, &printed, 0, "21\n210\n903\n", "");
-    Ok(())
+    compare(THREE_DRAWS, printed, 0, "21\n210\n903\n", "")
 }
 
 // A line that can't be written changes no status.
@@ -288,8 +287,7 @@ fn a_failing_error_output_changes_no_status(rt: HostRuntime) -> Result<(), Fail>
         &mut err,
         &OpenGate,
     );
-    same(&rt, "status", status.code(), 2);
-    same(&rt, "out", out.bytes(), b"".as_slice());
-    same(&rt, "err", err.bytes(), b"".as_slice());
-    Ok(())
+    same("status", status.code(), 2)?;
+    same("out", out.bytes(), b"".as_slice())?;
+    same("err", err.bytes(), b"".as_slice())
 }

@@ -1,7 +1,7 @@
 // Work and span of scripts, by the command.
 
-use super::{FAULTY_CHILD, ROLLS, TWO_DRAWS, ends, generated, prints};
 use std::test::Fail;
+use test_calls::{FAULTY_CHILD, ROLLS, TWO_DRAWS, ends, generated, prints};
 
 // A script, the status, and what is printed and told. A child and a loop's iterations are side by side with their parent, until its sync or
 // the loop's end. A fault comes after the two lines.

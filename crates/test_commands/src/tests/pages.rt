@@ -1,8 +1,8 @@
 // Outputs of 65536 bytes, as many as wait at most to be written, and of one more.
 
-use super::{Host, Printed, call, same};
 use engine::OpenGate;
 use std::test::Fail;
+use test_calls::{Host, Printed, call, same};
 
 // A script that prints 65530 bytes, in lines of ten, and then this number.
 fn script<R: AllocGlobal>(rt: &R, last: &str) -> Result<String, Fail> {
@@ -28,11 +28,17 @@ fn second_failing<R: Host>(rt: &R, line: &str, last: &str) -> Result<Printed, Fa
 }
 
 // The call of this line ended with this status, and 65536 bytes were written, of which these are the last.
-fn wrote_page<R: Host>(rt: &R, line: &str, printed: &Printed, code: u8, end: &str, refusal: &str) {
-    same(rt, line, printed.code, code);
-    same(rt, line, printed.out.len(), 65536);
-    assert!(rt; printed.out.as_str().ends_with(end), "{line}");
-    same(rt, line, printed.err.as_str(), refusal);
+fn wrote_page(
+    line: &str,
+    printed: Printed,
+    code: u8,
+    end: &str,
+    refusal: &str,
+) -> Result<(), Fail> {
+    same(line, printed.code, code)?;
+    same(line, printed.out.len(), 65536)?;
+    same(line, printed.out.as_str().ends_with(end), true)?;
+    same(line, printed.err.as_str(), refusal)
 }
 
 static CALLS: [&str; 4] = [
@@ -46,7 +52,7 @@ static CALLS: [&str; 4] = [
 fn as_much_as_may_wait_is_one_write(rt: HostRuntime) -> Result<(), Fail> {
     for &line in &CALLS {
         let printed = second_failing(&rt, line, "12345")?;
-        wrote_page(&rt, line, &printed, 0, "\n12345\n", "");
+        wrote_page(line, printed, 0, "\n12345\n", "")?;
     }
     Ok(())
 }
@@ -56,7 +62,7 @@ fn as_much_as_may_wait_is_one_write(rt: HostRuntime) -> Result<(), Fail> {
 fn one_byte_more_is_a_second_write(rt: HostRuntime) -> Result<(), Fail> {
     for &line in &CALLS {
         let printed = second_failing(&rt, line, "123456")?;
-        wrote_page(&rt, line, &printed, 5, "\n123456", "write fault\n");
+        wrote_page(line, printed, 5, "\n123456", "write fault\n")?;
     }
     Ok(())
 }

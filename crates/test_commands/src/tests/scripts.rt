@@ -1,8 +1,8 @@
 // Which scripts are refused, and the longest and largest that are taken.
 
-use super::{ONE, PENDING_SYNCED, SQUARES, compare, plain, prints, refuses, same};
 use std::alloc::Global;
 use std::test::Fail;
+use test_calls::{ONE, PENDING_SYNCED, SQUARES, compare, plain, prints, refuses, same};
 
 const LONGEST: usize = 1048576;
 
@@ -40,7 +40,7 @@ fn refusals_have_their_places(rt: HostRuntime) -> Result<(), Fail> {
 fn a_byte_beyond_ascii_is_refused(rt: HostRuntime) -> Result<(), Fail> {
     for line in ["run", "check", "fmt"] {
         let printed = plain(&rt, line, b"\xff")?;
-        compare(&rt, line, &printed, 3, "", "script: not ASCII at byte 0\n");
+        compare(line, printed, 3, "", "script: not ASCII at byte 0\n")?;
     }
     Ok(())
 }
@@ -127,7 +127,7 @@ fn fronts_are_refused_by_what_is_missing(rt: HostRuntime) -> Result<(), Fail> {
     for length in 0..script.len() {
         let refusal = line_of_front(rt.alloc(), length)?;
         let printed = plain(&rt, "run", &script[..length])?;
-        compare(&rt, "run", &printed, 3, "", refusal.as_str());
+        compare("run", printed, 3, "", refusal.as_str())?;
     }
     Ok(())
 }
@@ -137,8 +137,8 @@ fn fronts_of_a_script_are_refused(rt: HostRuntime) -> Result<(), Fail> {
     let script = SQUARES.as_bytes();
     for length in 0..script.len() {
         let printed = plain(&rt, "run", &script[..length])?;
-        same(&rt, length, printed.code, 3);
-        same(&rt, length, printed.out.as_str(), "");
+        same(length, printed.code, 3)?;
+        same(length, printed.out.as_str(), "")?;
     }
     Ok(())
 }
@@ -229,9 +229,8 @@ fn the_longest_script_runs(rt: HostRuntime) -> Result<(), Fail> {
     let mut script = ONE.as_bytes().to_vec(rt.alloc())?;
     script.resize(LONGEST, b' ')?;
     let printed = plain(&rt, "run", &script)?;
-    compare(&rt, "run", &printed, 0, "1\n", "");
+    compare("run", printed, 0, "1\n", "")?;
     script.push(b' ')?;
     let printed = plain(&rt, "run", &script)?;
-    compare(&rt, "run", &printed, 3, "", "script: too long\n");
-    Ok(())
+    compare("run", printed, 3, "", "script: too long\n")
 }

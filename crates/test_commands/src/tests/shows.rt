@@ -1,7 +1,7 @@
 // One script in both forms, by each command that prints it. In plain form a run keeps its prints alone, and in log form all events.
 
-use super::{FAULTY_CHILD, ends, prints};
 use std::test::Fail;
+use test_calls::{FAULTY_CHILD, ends, prints};
 
 // It makes an object at 0, and its children draw at 1.0 and 2.0.
 const ROLLED: &str =

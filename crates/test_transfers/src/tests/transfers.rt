@@ -69,7 +69,7 @@ fn the_limit_is_the_longest_length(rt: HostRuntime) -> Result<(), Fail> {
 }
 
 // Whether 10000 bytes are not read where this read fails.
-fn is_cut_short(alloc: Global, planned: u64) -> Result<bool, AllocError> {
+fn read_fails(alloc: Global, planned: u64) -> Result<bool, AllocError> {
     let mut source = source(alloc, &bytes(alloc, 10000)?, 1048576, planned)?;
     Ok(read_all(alloc, &mut source, 10000).is_err())
 }
@@ -78,10 +78,7 @@ fn is_cut_short(alloc: Global, planned: u64) -> Result<bool, AllocError> {
 fn a_read_is_offered_4096_bytes(rt: HostRuntime) -> Result<(), Fail> {
     // 4096, 4096, 1808 and 0 bytes
     for (planned, fails) in [(3, true), (4, false)] {
-        assert!(rt;
-            is_cut_short(rt.alloc(), planned)? == fails,
-            "read {planned}"
-        );
+        assert!(rt; read_fails(rt.alloc(), planned)? == fails, "read {planned}");
     }
     Ok(())
 }

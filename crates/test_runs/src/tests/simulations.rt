@@ -1,8 +1,10 @@
 // Simulations: which worker ends main, and what stands after its line.
 
-use super::{FAULTY_CHILD, Host, SQUARES, TWO_DRAWS, call, compare, ends, plain, prints};
 use engine::OpenGate;
 use std::test::Fail;
+use test_calls::{
+    FAULTY_CHILD, Host, SQUARES, TWO_DRAWS, call, compare, ends, plain, prints, same,
+};
 
 const ONE_CHILD: &str =
     "fn f() { let x = draw; return x; } fn main() { let a = spawn f(); sync; print a; return 0; }";
@@ -86,13 +88,14 @@ fn simulate_all<R: Host>(rt: &R, script: &str) -> Result<(), Fail> {
         for number in 0..4u64 {
             let line = format!(in alloc; "sim --workers {workers} --number {number}")?;
             let printed = plain(rt, line.as_str(), script.as_bytes())?;
-            assert_eq!(rt; printed.code, run.code, "{line}");
-            assert!(rt; printed.out.as_str().starts_with("worker "), "{line}");
-            assert_eq!(rt;
+            let line = line.as_str();
+            same(line, printed.code, run.code)?;
+            same(line, printed.out.as_str().starts_with("worker "), true)?;
+            same(
+                line,
                 lines_after_first(printed.out.as_str()),
                 run.out.as_str(),
-                "{line}"
-            );
+            )?;
         }
     }
     Ok(())
@@ -115,12 +118,12 @@ fn a_simulation_tells_faults_of_its_streams(rt: HostRuntime) -> Result<(), Fail>
         let script = ONE_CHILD.as_bytes().to_vec(alloc)?;
         let writes = vec![in alloc; planned]?;
         let printed = call(&rt, line, script, 4, Vec::new(alloc), writes, &OpenGate)?;
-        compare(&rt, line, &printed, 5, front, "write fault\n");
+        compare(line, printed, 5, front, "write fault\n")?;
     }
     let script = ONE_CHILD.as_bytes().to_vec(alloc)?;
     let reads = vec![in alloc; 1u64]?;
     let printed = call(&rt, line, script, 8, reads, Vec::new(alloc), &OpenGate)?;
-    compare(&rt, line, &printed, 4, "", "read fault\n");
+    compare(line, printed, 4, "", "read fault\n")?;
     ends(
         &rt,
         line,

@@ -1,13 +1,14 @@
 // Runs on workers: they work at once, and write the same however they share the work.
 
-use super::{
-    FAULT_BEFORE_ANOTHER, FAULTY_CHILD, Host, SQUARES, TWO_DRAWS, compare, ends, generated, guarded,
-};
 use engine::Gate;
 use serial_meaning::Origin;
 use std::hint;
 use std::sync::atomic::{AtomicBool, AtomicU64, Ordering};
 use std::test::Fail;
+use test_calls::{
+    FAULT_BEFORE_ANOTHER, FAULTY_CHILD, Host, SQUARES, TWO_DRAWS, compare, ends, generated,
+    guarded, same,
+};
 
 const WORKERS: [u32; 5] = [1, 2, 3, 8, 64];
 
@@ -108,8 +109,8 @@ fn workers_work_at_once(rt: HostRuntime) -> Result<(), Fail> {
     for &(children, line, script, output) in &AT_ONCE {
         let gate = Together(Meeting::of(children));
         let printed = guarded(&rt, line, script.as_bytes(), &gate)?;
-        assert!(rt; gate.0.took_place(), "{line}");
-        compare(&rt, line, &printed, 0, output, "");
+        same(line, gate.0.took_place(), true)?;
+        compare(line, printed, 0, output, "")?;
     }
     Ok(())
 }
@@ -138,9 +139,8 @@ fn an_answer_is_put_before_its_task_leaves(rt: HostRuntime) -> Result<(), Fail> 
     let gate = HeldAtItsEnd(Meeting::of(1));
     let line = "run --workers 2";
     let printed = guarded(&rt, line, CHILD_AFTER_A_SYNC.as_bytes(), &gate)?;
-    assert!(rt; gate.0.took_place());
-    compare(&rt, line, &printed, 0, "1\n2\n", "");
-    Ok(())
+    same(line, gate.0.took_place(), true)?;
+    compare(line, printed, 0, "1\n2\n", "")
 }
 
 // The words, on each number of workers, so many times.

@@ -1,7 +1,7 @@
 // Replayed strands.
 
-use super::{FAULTY_CHILD, ROLLS, ends};
 use std::test::Fail;
+use test_calls::{FAULTY_CHILD, ROLLS, ends};
 
 const FAULTY_CHILD_AWAITED: &str =
     "fn bad() { let z = 0; return 1 / z; } fn main() { spawn bad(); sync; print 1; return 0; }";

@@ -1,12 +1,12 @@
 // Batches of seeds, by the command.
 
 use super::workers::Meeting;
-use super::{
-    DRAWS, Host, ONE, TWO_DRAWS, compare, ends, generated, guarded, plain, prints, refuses,
-};
 use engine::Gate;
 use serial_meaning::Origin;
 use std::test::Fail;
+use test_calls::{
+    DRAWS, Host, ONE, TWO_DRAWS, compare, ends, generated, guarded, plain, prints, refuses, same,
+};
 
 const PRINTS: &str = "fn main() { print 1; print 2; print 3; return 0; }";
 
@@ -114,7 +114,6 @@ impl Gate for RunsTogether {
 fn two_seeds_run_at_once(rt: HostRuntime) -> Result<(), Fail> {
     let gate = RunsTogether(Meeting::of(2));
     let printed = guarded(&rt, "batch --seeds 1,2 --workers 2", ONE.as_bytes(), &gate)?;
-    assert!(rt; gate.0.took_place());
-    compare(&rt, "batch", &printed, 0, "seed 1\n1\nseed 2\n1\n", "");
-    Ok(())
+    same("gate", gate.0.took_place(), true)?;
+    compare("batch", printed, 0, "seed 1\n1\nseed 2\n1\n", "")
 }

@@ -1,10 +1,10 @@
 // What runs print, and by which faults they end. `serial` goes by one worker by itself.
 
-use super::{
-    DRAWS, FAULTY_CHILD, ONE, PENDING_SYNCED, ROLLS, SQUARES, SUM, TWO_DRAWS, ends, prints,
-};
 use std::alloc::{AllocError, Global};
 use std::test::Fail;
+use test_calls::{
+    DRAWS, FAULTY_CHILD, ONE, PENDING_SYNCED, ROLLS, SQUARES, SUM, TWO_DRAWS, ends, prints,
+};
 
 const SPAWNED: &str =
     "fn f() { let x = draw; return x; } fn main() { print 1; spawn f(); sync; return 0; }";
@@ -294,7 +294,7 @@ fn numbers_and_fault(alloc: Global) -> Result<String, AllocError> {
     Ok(output)
 }
 
-// Each of 511 tasks would hand out two children more.
+// Each of 511 tasks would spawn two children more.
 #[test]
 fn a_fault_ends_all_tasks_below_at_once(rt: HostRuntime) -> Result<(), Fail> {
     let output = numbers_and_fault(rt.alloc())?;

@@ -13,8 +13,8 @@ fn checked(rt: &impl Abort, alloc: Global, text: &[u8]) -> Option<Checked> {
     check(alloc, script).ok()
 }
 
-// A script, the offset of a variable's name in it, and the variable's place.
-static PLACES: [(&str, usize, u16); 16] = [
+// A script, the offset of a variable's name in it, and the variable's slot.
+static SLOTS: [(&str, usize, u16); 16] = [
     (
         "fn main() { let x = 1; let yy = x; yy = x + yy; return yy; }",
         32,
@@ -98,14 +98,14 @@ static PLACES: [(&str, usize, u16); 16] = [
 ];
 
 #[test]
-fn each_name_has_its_place(rt: HostRuntime) {
-    for &(text, at, place) in &PLACES {
+fn each_name_has_its_slot(rt: HostRuntime) {
+    for &(text, at, slot) in &SLOTS {
         let checked = checked(&rt, rt.alloc(), text.as_bytes()).expect(&rt, text);
-        same(&rt, text, checked.slots().get(at).copied(), Some(place));
+        same(&rt, text, checked.slots().get(at).copied(), Some(slot));
     }
 }
 
-// A script, the number of a function in it, a place, and the name of the variable there.
+// A script, the number of a function in it, a slot, and the name of the variable there.
 static NAMES: [(&str, u32, usize, &str); 7] = [
     (
         "fn f(a, b) { let c = b; return a; } fn main() { let c = call f(1, 2); return c; }",
@@ -152,11 +152,11 @@ static NAMES: [(&str, u32, usize, &str); 7] = [
 ];
 
 #[test]
-fn each_place_has_a_name(rt: HostRuntime) {
-    for &(text, function, place, name) in &NAMES {
+fn each_slot_has_a_name(rt: HostRuntime) {
+    for &(text, function, slot, name) in &NAMES {
         let checked = checked(&rt, rt.alloc(), text.as_bytes()).expect(&rt, text);
         let names = checked.names(function).expect(&rt, text);
-        let found = names.as_slice().get(place).expect(&rt, text);
+        let found = names.as_slice().get(slot).expect(&rt, text);
         same(&rt, text, found.as_slice() == name.as_bytes(), true);
     }
 }

@@ -1,7 +1,7 @@
 // Scopes: what scripts of version 2 print, their strands, their work and span.
 
-use super::{ends, prints};
 use std::test::Fail;
+use test_calls::{ends, prints};
 
 const PRINT_THEN_DRAW: &str =
     "version 2\nfn main() { scope { print 1; } let x = draw; print x; return 0; }";
