@@ -18,7 +18,7 @@ use std::thread::Threads;
 use std::time::Clock;
 
 // Calls f, which ends the progress, beside a thread that shows it.
-fn beside_ticker<R: Threads + Wait + Sync + Clock + Eprint, F: FnOnce() -> T, T>(
+fn with_ticker<R: Threads + Wait + Sync + Clock + Eprint, F: FnOnce() -> T, T>(
     rt: &R,
     progress: &Progress<'_, R>,
     f: F,
@@ -51,7 +51,7 @@ pub fn answer_with_progress<
         (change ⟦<RecordedSink<'o, R, K> as Sink>⟧.written ⟦<RecordedSink<'o, R, K> as Sink>⟧.faults streams.entry.out result.1.out)
         (change ⟦<RecordedSink<'e, R, E> as Sink>⟧.written ⟦<RecordedSink<'e, R, E> as Sink>⟧.faults streams.entry.err result.1.err) result.0 }
 {
-    beside_ticker(rt, progress, move || {
+    with_ticker(rt, progress, move || {
         let mut streams = streams;
         let status = answer_on_terminal(rt, alloc, words, &mut streams, progress);
         progress.end();

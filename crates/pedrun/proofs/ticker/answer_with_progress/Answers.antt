@@ -8,7 +8,7 @@ use Rattle.pedrun.proofs.ticker.answer_with_progress.Goals as goal
 -- What the closure returns is the status and the streams of its call.
 pub returns : goal.returns
 returns g c =
-    let said = c.beside_ticker.ensures.said-raw.1.1.1.1.1 in
+    let said = c.with_ticker.ensures.said-raw.1.1.1.1.1 in
     subst
     (λ r. AnswersWithNotes (map string_bytes c.args.words.now)
     (change (λ (s : RecordedSource g.row.R.Denot g.row.S.Denot). g.S.Source.left s.inner) (λ s. g.S.Source.faults s.inner) c.args.streams.script r.1.script)
