@@ -222,7 +222,7 @@ static EARLY: [&str; 3] = [
 fn what_stands_after_a_known_fault_is_not_run(rt: HostRuntime) -> Result<(), Fail> {
     let alloc = rt.alloc();
     let mut output = String::from_str(alloc, "fault 0")?;
-    for _ in 1..12 {
+    for _ in 1..24 {
         output.push_str(".0")?;
     }
     output.push_str(": depth\n")?;
@@ -232,7 +232,7 @@ fn what_stands_after_a_known_fault_is_not_run(rt: HostRuntime) -> Result<(), Fai
         )?;
         repeats(
             &rt,
-            "run --depth 12",
+            "run --depth 24",
             2,
             script.as_str(),
             1,
