@@ -6,4 +6,4 @@ use contract_views::KnownTag;
 pub type JoinName = KnownTag<u64>;
 
 /// The name of the join that made a give.
-pub type HandedBy = KnownTag<JoinName>;
+pub type MadeBy = KnownTag<JoinName>;

@@ -19,8 +19,8 @@ abbrev pub Counts : {T E : Type 0} → ℕ → ℕ → Result T E → Type 0
 Counts before now result = MatchResult result (λ _. now ≡ before) (λ _. now ≡ next_count before)
 
 -- The result is the answer: what was given is given on, and it fails exactly where the answer does.
-abbrev pub HandsOn : {T E F : Type 0} → Result T E → Result T F → Type 0
-HandsOn answer result = MatchResult answer (λ n. MatchResult result (λ m. m ≡ n) (λ _. ⊥)) (λ _. IsErr result)
+abbrev pub KeepsAnswer : {T E F : Type 0} → Result T E → Result T F → Type 0
+KeepsAnswer answer result = MatchResult answer (λ n. MatchResult result (λ m. m ≡ n) (λ _. ⊥)) (λ _. IsErr result)
 
 -- The same, where it is a failure too to take none.
 abbrev pub TakesOrFails : {E F : Type 0} → Result ℕ E → Result ℕ F → Type 0

@@ -1,7 +1,7 @@
 // A source over a reader of std, and a sink over a writer.
 ghost use Rattle.std.specs.Prelude.{◌≡◌, ◌<◌, length};
 ghost use Rattle.std.specs.Io.{ReadsAtMost};
-ghost use Rattle.ped_io.specs.Causes.{Counts, HandsOn, HasCause, TakesOrFails};
+ghost use Rattle.ped_io.specs.Causes.{Counts, KeepsAnswer, HasCause, TakesOrFails};
 ghost use Rattle.ped_io.specs.Streams.{Reads, TakesSome, Writes};
 
 use crate::stream::{Failed, Sink, Source};
@@ -9,7 +9,7 @@ use std::io::{self, ErrorKind, Read, Write};
 
 // A reader's or a writer's answer, with its failure counted.
 fn counted(answer: io::Result<usize>, faults: &mut u64) -> Result<usize, Failed>
-    ensures told { HandsOn answer result }
+    ensures told { KeepsAnswer answer result }
     ensures cause { HasCause faults.old faults.new result }
     ensures count { Counts faults.old faults.new result }
 {

@@ -144,11 +144,11 @@ fn values_are_taken_by_number(rt: HostRuntime) -> Result<(), Memory> {
 }
 
 #[test]
-fn a_child_owes_until_it_has_put(rt: HostRuntime) -> Result<(), Memory> {
+fn a_child_is_pending_until_it_has_put(rt: HostRuntime) -> Result<(), Memory> {
     let alloc = rt.alloc();
     let mut join: Join<Square> = Join::new(alloc)?;
     let give = join.hand(alloc, &8)?;
-    same(&rt, "one owes", join.look(), Look::NotYet(1));
+    same(&rt, "one is pending", join.look(), Look::NotYet(1));
     give.put(square_of(8));
     let Look::Ready = join.look() else {
         panic!(rt; "it has put");
@@ -170,11 +170,11 @@ fn a_look_reads_the_counters_in_order(rt: HostRuntime) -> Result<(), Memory> {
         jobs.push(job)?;
     }
     let last = hand(alloc, &mut join, 16)?;
-    same(&rt, "all owe", join.look(), Look::NotYet(16));
+    same(&rt, "all pending", join.look(), Look::NotYet(16));
     run_all(jobs);
-    same(&rt, "one owes", join.look(), Look::NotYet(1));
+    same(&rt, "one is pending", join.look(), Look::NotYet(1));
     run(last);
-    same(&rt, "none owes", join.look(), Look::Ready);
+    same(&rt, "none is pending", join.look(), Look::Ready);
     Ok(())
 }
 
@@ -183,7 +183,7 @@ fn a_hand_after_a_look_opens_a_counter(rt: HostRuntime) -> Result<(), Memory> {
     let alloc = rt.alloc();
     let mut join: Join<Square> = Join::new(alloc)?;
     let first = join.hand(alloc, &2)?;
-    same(&rt, "one owes", join.look(), Look::NotYet(1));
+    same(&rt, "one is pending", join.look(), Look::NotYet(1));
     let second = join.hand(alloc, &3)?;
     first.put(square_of(2));
     second.put(square_of(3));
@@ -238,6 +238,6 @@ fn each_end_goes_to_another_thread(rt: HostRuntime) -> Result<(), Memory> {
     })
     .map_err(|_| Memory)?
     .join(&rt);
-    same(&rt, "one owes", looked, Look::NotYet(1));
+    same(&rt, "one is pending", looked, Look::NotYet(1));
     Ok(())
 }

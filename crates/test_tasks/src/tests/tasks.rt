@@ -63,7 +63,7 @@ fn stop(alloc: Global, task: Task) -> Result<Stop, Fail>
 }
 
 // The child that the task begins next, and the rest, which awaits it too.
-fn handed_out(rt: &impl Abort, alloc: Global, task: Task) -> Result<(Task, Task), Fail>
+fn spawned_child(rt: &impl Abort, alloc: Global, task: Task) -> Result<(Task, Task), Fail>
     requires { IsIdle task }
     ensures child { IfOk result (λ r. IsIdle r.0 × (r.0.task.plan ≡ task.task.plan)) }
     ensures rest { IfOk result (λ r. IsIdle r.1 × (r.1.task.plan ≡ task.task.plan)) }
@@ -71,7 +71,7 @@ fn handed_out(rt: &impl Abort, alloc: Global, task: Task) -> Result<(Task, Task)
 {
     match stop(alloc, task)? {
         Stop::Spawn { child, rest } => Ok((child, rest)),
-        _ => panic!(rt; "it hands out a child"),
+        _ => panic!(rt; "it spawns a child"),
     }
 }
 
@@ -165,8 +165,8 @@ fn a_task_takes_its_childrens_answers_at_a_wait(rt: HostRuntime) -> Result<(), F
     let alloc = rt.alloc();
     let text = "fn f(n) { return n; }
          fn main() { let a = spawn f(7); let b = spawn f(5); sync; return a * 10 + b; }";
-    let (first, rest) = handed_out(&rt, alloc, main_of(&rt, text)?)?;
-    let (second, rest) = handed_out(&rt, alloc, rest)?;
+    let (first, rest) = spawned_child(&rt, alloc, main_of(&rt, text)?)?;
+    let (second, rest) = spawned_child(&rt, alloc, rest)?;
     let rest = at_wait(&rt, alloc, rest)?;
     let task = with_both(&rt, alloc, rest, first, second)?;
     awaits_none(&task);
@@ -215,7 +215,7 @@ fn a_task_goes_on_once_its_child_has_answered(rt: HostRuntime) -> Result<(), Fai
     let text = "fn f() { return 7; } fn main() { let a = spawn f(); sync; print a; return 0; }";
     let main = main_of(&rt, text)?;
     assert!(rt; main.is_fresh());
-    let (child, rest) = handed_out(&rt, alloc, main)?;
+    let (child, rest) = spawned_child(&rt, alloc, main)?;
     assert!(rt; child.is_fresh() && !rest.is_fresh());
     awaits_only(&rest, &child);
     let rest = at_wait(&rt, alloc, rest)?;
@@ -234,7 +234,7 @@ fn a_task_waits_at_the_end_of_a_scope(rt: HostRuntime) -> Result<(), Fail> {
     let text =
         "version 2\nfn f() { return 7; } fn main() { let a = 0; scope { a = spawn f(); } return a; }";
     let main = main_task(alloc, &plan_within(&rt, text, 3)?)?;
-    let (child, rest) = handed_out(&rt, alloc, main)?;
+    let (child, rest) = spawned_child(&rt, alloc, main)?;
     awaits_only(&rest, &child);
     let rest = at_wait(&rt, alloc, rest)?;
     let rest = with_child(&rt, alloc, rest, child)?;
