@@ -7,7 +7,7 @@ use Rattle.serial_meaning.specs.Answer.{AnswerTag}
 use Rattle.serial_meaning.specs.Plan.{PlanView}
 use Rattle.serial_meaning.specs.declared.origin.Origin.{Origin}
 
--- The names of a task's joins: of its parent's, which handed out its give, and of its own, for its children. A detached task has neither.
+-- The names of a task's joins: of its parent's, which made its give, and of its own, for its children. A detached task has neither.
 pub record JoinNames : Type 0 where
   pub parents : Option ℕ
   pub own : Option ℕ
@@ -54,7 +54,7 @@ abbrev pub HasPassed : List ℕ → List ℕ → Type 0
 HasPassed before after = (passed : ℕ) × (after ≡ before ++ replicate passed 0)
 
 abbrev pub HasStopped : List ℕ → List ℕ → Type 0
-HasStopped before after = (passed owing : ℕ) × (1 ≤ owing) × (after ≡ before ++ (replicate passed 0 ++ owing ∷ []))
+HasStopped before after = (passed pending : ℕ) × (1 ≤ pending) × (after ≡ before ++ (replicate passed 0 ++ pending ∷ []))
 
 abbrev pub LooksAtChildren : LinksView → LinksView → Look → Type 0
 LooksAtChildren before after Ready = HasPassed before.loads after.loads × (after ≡ record before { ready = true; loads = after.loads })

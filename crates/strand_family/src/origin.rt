@@ -78,17 +78,17 @@ pub fn iteration_args(
     iteration_args_in(first, rest, k, Items(Vec::new(alloc)))
 }
 
-/// The same, in this empty list.
+/// The same, as the items of `list`, which has none yet: its memory is used again.
 pub fn iteration_args_in(
     first: i64,
     rest: &[Value],
     k: u64,
-    room: Items<Value>,
+    list: Items<Value>,
 ) -> Result<Items<Value>, Memory>
-    requires { room ≡ [] }
+    requires { list ≡ [] }
     ensures { IfOk result (λ args. args ≡ Int (int_wrapping_add w64 first (pos k)) ∷ rest.now) }
 {
-    let mut args = room.0;
+    let mut args = list.0;
     args.push(Value::Int(first.wrapping_add_unsigned(k)))?;
     for value in rest {
         args.push(value.share()?)?;
@@ -97,16 +97,24 @@ pub fn iteration_args_in(
 }
 
 /// A loop's origin with only these of its iterations.
+#[inline(always)]
 pub fn part_of(alloc: Global, origin: &Origin, range: IterRange) -> Result<Origin, Memory>
     ensures { IfOk result (λ part. part ≡ loop_part origin.now range) }
 {
-    let mut part = share_origin(alloc, origin)?;
-    if let Origin::Loop {
-        range: iterations,
-        ..
-    } = &mut part
-    {
-        *iterations = range;
+    match origin {
+        Origin::Instance { .. } => share_origin(alloc, origin),
+        Origin::Loop {
+            function,
+            rest,
+            first,
+            path,
+            ..
+        } => Ok(Origin::Loop {
+            function: *function,
+            rest: share_values(alloc, rest.as_slice())?,
+            first: *first,
+            path: path.share()?,
+            range,
+        }),
     }
-    Ok(part)
 }
