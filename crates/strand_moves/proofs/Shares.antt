@@ -22,13 +22,12 @@ use Rattle.strand_values.specs.contracts.target.Target as target
 use Rattle.strand_values.specs.contracts.target.Target.TheInside as target_inside
 use Rattle.strand_moves.proofs.cursor.Cursor.TheSendSync as cursor_shared
 use Rattle.strand_moves.proofs.effects.Child.TheSendSync as child_shared
-use Rattle.strand_moves.proofs.frame.Level.TheSendSync as level_shared
+use Rattle.strand_moves.proofs.levels.Levels.TheSendSync as levels_shared
 use Rattle.strand_moves.specs.contracts.effects.Effects as effects
 use Rattle.strand_moves.specs.contracts.effects.LoopedChild as looped
 use Rattle.strand_moves.specs.contracts.effects.MoveResult as move_result
 use Rattle.strand_moves.specs.contracts.effects.SpawnedChild as spawned
 use Rattle.strand_moves.specs.contracts.frame.Frame as frame
-use Rattle.strand_moves.specs.contracts.frame.Level as level
 use Rattle.strand_moves.specs.contracts.instance.Instance as instance
 use Rattle.strand_moves.specs.contracts.instance_parts.InstanceParts as instance_parts
 use Rattle.strand_moves.specs.contracts.instance_pool.InstancePool as instance_pool
@@ -85,7 +84,7 @@ moved_sends = variants_send move_result.enum ((effects_sends, tt), ((value_share
 
 frame_sends : IsSend frame.the_row
 frame_sends = declared_send frame.the_type
-    (number_sends, (bool_sends, (bool_sends, (Vec-send level.the_row level_shared.the_send, (cursor_shared.the_send, (environment_sends, (fault_sends, (maybe_target_sends, tt))))))))
+    (number_sends, (bool_sends, (bool_sends, (levels_shared.the_send, (cursor_shared.the_send, (environment_sends, (fault_sends, (maybe_target_sends, tt))))))))
 
 parts_send : IsSend instance_parts.the_row
 parts_send = declared_send instance_parts.the_type (trail_shared.the_send, (word_sends, (word_sends, (bool_sends, (frame_sends, (Vec-send frame.the_row frame_sends, tt))))))
@@ -154,7 +153,7 @@ moved_syncs = variants_sync move_result.enum ((effects_syncs, tt), ((value_share
 
 frame_syncs : IsSync frame.the_row
 frame_syncs = declared_sync frame.the_type
-    (number_syncs, (bool_syncs, (bool_syncs, (Vec-sync level.the_row level_shared.the_sync, (cursor_shared.the_sync, (environment_syncs, (fault_syncs, (maybe_target_syncs, tt))))))))
+    (number_syncs, (bool_syncs, (bool_syncs, (levels_shared.the_sync, (cursor_shared.the_sync, (environment_syncs, (fault_syncs, (maybe_target_syncs, tt))))))))
 
 parts_sync : IsSync instance_parts.the_row
 parts_sync = declared_sync instance_parts.the_type (trail_shared.the_sync, (word_syncs, (word_syncs, (bool_syncs, (frame_syncs, (Vec-sync frame.the_row frame_syncs, tt))))))

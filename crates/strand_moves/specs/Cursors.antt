@@ -1,5 +1,5 @@
 -- Which statements of a function's body, or of a scope's block, are left, by the blocks that were entered and the index in the innermost one.
-use Rattle.std.specs.Prelude.{◌≡◌, ℕ, ◌-◌, ◌<◌, List, [], ◌∷◌, ◌++◌, Option, Some, None, length, slice_get, drop}
+use Rattle.std.specs.Prelude.{◌≡◌, ℕ, ◌-◌, ◌<◌, List, [], ◌∷◌, ◌++◌, Option, Some, None, length, slice_get, drop, ◌⊎◌}
 use Rattle.script_grammar.specs.declared.tree.Expr.{Expr}
 use Rattle.script_grammar.specs.declared.tree.Stmt.{Stmt, out-Stmt}
 use Rattle.script_grammar.specs.declared.tree.Act.{Act, out-Act}
@@ -66,6 +66,24 @@ pub record IsAfterStatement (body : List Stmt) (c : Cursor) (st : Stmt) : Type 0
 pub record PassesStatement (body : List Stmt) (old new : Cursor) (st : Stmt) : Type 0 where
   pub first : statements_left body old ≡ st ∷ statements_left body new
   pub after : IsAfterStatement body new st
+
+-- The cursor enters a block of the statement after which it stood.
+pub record Enters (old new : Cursor) : Type 0 where
+  pub last : Entered
+  pub entered : new.entered.items ≡ old.entered.items ++ last ∷ []
+  pub from : entered_at last.branch last.back ≡ old.next - 1
+  pub first : new.next ≡ 0
+
+-- the same, or it stays
+abbrev pub MayEnter : Cursor → Cursor → Type 0
+MayEnter old new = (new ≡ old) ⊎ Enters old new
+
+-- The innermost block is one of this statement.
+pub record HasEntered (body : List Stmt) (c : Cursor) (st : Stmt) : Type 0 where
+  pub around : List Entered
+  pub last : Entered
+  pub entered : c.entered.items ≡ around ++ last ∷ []
+  pub there : slice_get (block_of body around) (entered_at last.branch last.back) ≡ Some st
 
 -- The innermost block is the body of a loop with this condition.
 pub record IsInLoop (body : List Stmt) (c : Cursor) (e : Expr) : Type 0 where

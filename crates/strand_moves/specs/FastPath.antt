@@ -24,7 +24,7 @@ use Rattle.strand_moves.specs.declared.effects.Effects.TheVariants as effect
 use Rattle.strand_moves.specs.declared.fast_path.Form.{Form}
 use Rattle.strand_moves.specs.declared.fast_path.Form.TheVariants as form
 use Rattle.strand_moves.specs.Acts.{BeginsOne, Costs, Stays}
-use Rattle.strand_moves.specs.Cursors.{IsAfterStatement}
+use Rattle.strand_moves.specs.Cursors.{IsAfterStatement, statements_left}
 use Rattle.strand_moves.specs.InstanceParts.{IsInstance, machine_of, path_of, present_of, statements_of}
 use Rattle.strand_moves.specs.Moves.{acted, run_of}
 use Rattle.strand_moves.specs.StraightRuns.{SilentRun}
@@ -175,7 +175,7 @@ abbrev pub Shortens : InstanceParts → InstanceParts → Type 0
 Shortens old new = 2 * new.steps + length new.below.items < 2 * old.steps + length old.below.items
 
 -- Either the value of a frame went to the one below, which showed nothing, or nothing changed.
-pub record GivesBackIfAny (plan : PlanView) (old new : InstanceParts) : Type 0 where
+pub record MayGiveBack (plan : PlanView) (old new : InstanceParts) : Type 0 where
   pub straight_run : SilentRun plan old new
   pub path : path_of new ≡ path_of old
   pub sound : IsInstance plan new
@@ -193,22 +193,8 @@ pub record MakesEnd {S : Type 0} (after : Event → S → S) (plan : PlanView) (
   pub sound : IsInstance plan new
   pub shorter : Shortens old new
 
--- Either a frame made moves of its end, after which the instance goes on, or nothing changed.
+-- Either a frame made moves of its end, after which the straight run goes on; or nothing changed, or it made a move after which no statement is left.
 abbrev pub EndsFrame : {S : Type 0} → (Event → S → S) → PlanView → InstanceParts → S → InstanceParts → S → Bool → Type 0
 EndsFrame after plan old from new to true = MakesEnd after plan old from new to
-EndsFrame after plan old from new to false = (new ≡ old) × (to ≡ from)
-
--- an `if` or a `while`
-abbrev pub is_fork : Act-F Act Stmt → Bool
-is_fork (act.Let x r) = false
-is_fork (act.Array x n) = false
-is_fork (act.Set x r) = false
-is_fork (act.Store x i e) = false
-is_fork (act.Spawn c) = false
-is_fork (act.Call c) = false
-is_fork act.Sync = false
-is_fork (act.Print e) = false
-is_fork (act.If e a b) = true
-is_fork (act.While e a) = true
-is_fork (act.Pfor x lo hi target c) = false
-is_fork (act.Scope a) = false
+EndsFrame after plan old from new to false =
+    ((new ≡ old) × (to ≡ from)) ⊎ (MakesEnd after plan old from new to × (statements_left (statements_of plan new.top) new.top.cursor ≡ []))

@@ -6,6 +6,7 @@ pub mod Moves
 pub mod FastPath
 pub mod StraightRuns
 pub mod InstanceParts
+pub mod Levels
 pub mod Spawns
 pub mod Waits
 pub mod Standing

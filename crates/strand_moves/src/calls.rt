@@ -206,6 +206,7 @@ impl InstanceParts {
     }
 
     // The instance's value, where its next move is to end by it and meets no fault.
+    #[inline(always)]
     pub(crate) fn last_value(
         &self,
         plan: &Plan,

@@ -1,12 +1,11 @@
 // Positions in a block: a function's body, or a scope's block.
 
-ghost use Rattle.std.specs.Prelude.{◌≡◌, ◌<◌, length, false, List, [], ◌∷◌, ◌++◌, IfOk, MatchOption, if◌then◌else◌};
+ghost use Rattle.std.specs.Prelude.{◌≡◌, ◌<◌, length, false, List, [], ◌∷◌, ◌++◌, IfOk, OnOk, MatchOption, if◌then◌else◌};
 ghost use Rattle.std.specs.Option.{option_copied};
 ghost use Rattle.script_grammar.specs.declared.tree.Stmt.{Stmt, out-Stmt};
 ghost use Rattle.script_grammar.specs.declared.tree.Act.{out-Act};
 ghost use Rattle.strand_moves.specs.declared.cursor.Branch.TheVariants as branch;
-ghost use Rattle.strand_moves.specs.FastPath.{is_fork};
-ghost use Rattle.strand_moves.specs.Cursors.{branch_of, block_in, block_of, IsAround, statements_left, scope_after, scope_of, IsAfterStatement, PassesStatement};
+ghost use Rattle.strand_moves.specs.Cursors.{branch_of, block_in, block_of, Enters, HasEntered, IsAround, statements_left, scope_after, scope_of, IsAfterStatement, PassesStatement};
 
 use crate::memory::Memory;
 use crate::narrow::narrowed;
@@ -42,27 +41,19 @@ pub(crate) struct Cursor {
 fn branch_in<'a>(statement: &'a Stmt, branch: Branch) -> &'a [Stmt]
     ensures { result.now ≡ branch_of (out-Act (out-Stmt statement.now).act) branch }
 {
-    match &statement.act {
-        Act::If(_, yes, no) => match branch {
-            Branch::Yes => yes.as_slice(),
-            Branch::No => no.as_slice(),
-            Branch::LoopBody => &[],
+    match branch {
+        Branch::Yes => match &statement.act {
+            Act::If(_, yes, _) => yes.as_slice(),
+            _ => &[],
         },
-        Act::While(_, body) => match branch {
-            Branch::LoopBody => body.as_slice(),
-            Branch::Yes | Branch::No => &[],
+        Branch::No => match &statement.act {
+            Act::If(_, _, no) => no.as_slice(),
+            _ => &[],
         },
-        _ => &[],
-    }
-}
-
-// Whether a statement may enter a block: it is an `if` or a `while`.
-pub(crate) fn is_fork(statement: &Stmt) -> bool
-    ensures { result ≡ is_fork (out-Act (out-Stmt statement.now).act) }
-{
-    match &statement.act {
-        Act::If(_, _, _) | Act::While(_, _) => true,
-        _ => false,
+        Branch::LoopBody => match &statement.act {
+            Act::While(_, body) => body.as_slice(),
+            _ => &[],
+        },
     }
 }
 
@@ -139,53 +130,71 @@ impl Cursor {
         (block_in(block, *last), None)
     }
 
+    // The block of this statement that the cursor has just entered, with the condition if it is a loop's body.
+    #[inline(always)]
+    pub(crate) fn entered_block<'a>(&self, statement: &'a Stmt) -> (&'a [Stmt], Option<&'a Expr>)
+        ensures block { (body : List Stmt) → HasEntered body self.now statement.now → result.0.now ≡ block_of body self.now.entered.items }
+        ensures around { (body : List Stmt) → HasEntered body self.now statement.now → IsAround body self.now (option_copied result.1) }
+    {
+        let [.., last] = self.entered.as_slice() else {
+            return (&[], None);
+        };
+        let block = branch_in(statement, last.branch);
+        if let Branch::LoopBody = last.branch {
+            if let Act::While(condition, _) = &statement.act {
+                return (block, Some(condition));
+            }
+        }
+        (block, None)
+    }
+
     // Moves past the next statement of this body, and returns it.
     pub(crate) fn pass_next<'a>(&mut self, body: &'a [Stmt]) -> Option<&'a Stmt>
         ensures { MatchOption result ((statements_left body.now self.old ≡ []) × (statements_left body.now self.new ≡ [])) (λ st. PassesStatement body.now self.old self.new st.now) }
     {
         let block = self.block(body);
-        match self.pass_statement(body, block) {
-            Some(passed) => Some(passed.0),
-            None => None,
-        }
+        self.pass_out(body, block)
     }
 
-    // The same where the caller has the innermost block. Also returns the block in which the cursor then is.
+    // The same where the caller has the innermost block, with the condition if it is known to be a loop's body. Also
+    // returns these of where the cursor then is.
     #[inline(always)]
     pub(crate) fn pass_in<'a>(
         &mut self,
         body: &'a [Stmt],
         block: &'a [Stmt],
-    ) -> Option<(&'a Stmt, &'a [Stmt])>
-        requires { block.now ≡ block_of body.now self.old.entered.items }
-        ensures passes { MatchOption result ((statements_left body.now self.old ≡ []) × (statements_left body.now self.new ≡ [])) (λ r. PassesStatement body.now self.old self.new r.0.now × (r.1.now ≡ block_of body.now self.new.entered.items)) }
-        ensures stays { self.old.next < length block.now → self.new.entered.items ≡ self.old.entered.items }
+        around: Option<&'a Expr>,
+    ) -> Option<(&'a Stmt, &'a [Stmt], Option<&'a Expr>)>
+        requires block { block.now ≡ block_of body.now self.old.entered.items }
+        requires around { IsAround body.now self.old (option_copied around) }
+        ensures { MatchOption result ((statements_left body.now self.old ≡ []) × (statements_left body.now self.new ≡ []))
+            (λ r. PassesStatement body.now self.old self.new r.0.now × (r.1.now ≡ block_of body.now self.new.entered.items) × IsAround body.now self.new (option_copied r.2)) }
     {
         if let Some(statement) = block.get(self.next) {
             self.next += 1;
-            return Some((statement, block));
+            return Some((statement, block, around));
         }
         if self.entered.as_slice().is_empty() {
             return None;
         }
-        self.pass_statement(body, block)
+        let Some(statement) = self.pass_out(body, block) else {
+            return None;
+        };
+        let inside = self.loop_around(body);
+        Some((statement, inside.0, inside.1))
     }
 
     // The same, also where that block has no statement left.
     #[inline(always)]
-    fn pass_statement<'a>(
-        &mut self,
-        body: &'a [Stmt],
-        block: &'a [Stmt],
-    ) -> Option<(&'a Stmt, &'a [Stmt])>
+    fn pass_out<'a>(&mut self, body: &'a [Stmt], block: &'a [Stmt]) -> Option<&'a Stmt>
         requires { block.now ≡ block_of body.now self.old.entered.items }
-        ensures { MatchOption result ((statements_left body.now self.old ≡ []) × (statements_left body.now self.new ≡ [])) (λ r. PassesStatement body.now self.old self.new r.0.now × (r.1.now ≡ block_of body.now self.new.entered.items)) }
+        ensures { MatchOption result ((statements_left body.now self.old ≡ []) × (statements_left body.now self.new ≡ [])) (λ st. PassesStatement body.now self.old self.new st.now) }
     {
         let mut block = block;
         loop {
             if let Some(statement) = block.get(self.next) {
                 self.next += 1;
-                return Some((statement, block));
+                return Some(statement);
             }
             match self.entered.pop() {
                 Some(last) => self.next = last.back as usize,
@@ -215,8 +224,9 @@ impl Cursor {
 
     // Enters a block of the `if` that it has just passed.
     pub(crate) fn enter(&mut self, yes: bool) -> Result<(), Memory>
-        ensures { IfOk result (λ _. (body : List Stmt) (st : Stmt) → IsAfterStatement body self.old st →
+        ensures left { IfOk result (λ _. (body : List Stmt) (st : Stmt) → IsAfterStatement body self.old st →
             statements_left body self.new ≡ branch_of (out-Act (out-Stmt st).act) (if yes then branch.Yes else branch.No) ++ statements_left body self.old) }
+        ensures enters { OnOk result (Enters self.old self.new) }
     {
         let back = narrowed(self.next)?;
         self.entered.push(Entered {
@@ -229,8 +239,9 @@ impl Cursor {
 
     // Enters the body of the loop that it has just passed. After the body it is before the loop again.
     pub(crate) fn enter_loop(&mut self) -> Result<(), Memory>
-        ensures { IfOk result (λ _. (body : List Stmt) (st : Stmt) → IsAfterStatement body self.old st →
+        ensures left { IfOk result (λ _. (body : List Stmt) (st : Stmt) → IsAfterStatement body self.old st →
             statements_left body self.new ≡ branch_of (out-Act (out-Stmt st).act) branch.LoopBody ++ (st ∷ statements_left body self.old)) }
+        ensures enters { OnOk result (Enters self.old self.new) }
     {
         let back = narrowed(self.next.saturating_sub(1))?;
         self.entered.push(Entered {

@@ -7,20 +7,20 @@ ghost use Rattle.script_grammar.specs.declared.tree.Act.{out-Act};
 ghost use Rattle.script_grammar.specs.declared.tree.Act.TheOpen as act;
 ghost use Rattle.script_grammar.specs.declared.tree.Stmt.{Stmt, out-Stmt};
 ghost use Rattle.serial_meaning.specs.Plan.{PlanView};
-ghost use Rattle.strand_values.specs.Environments.{FindsName};
+ghost use Rattle.script_grammar.specs.declared.tree.Right.TheVariants as right;
+ghost use Rattle.strand_values.specs.Environments.{FindsExpression, FindsName};
 ghost use Rattle.strand_moves.specs.Found.{AreSlots, FindsRight, FindsRightVariables, FindsStatement, FindsVariables};
 ghost use Rattle.strand_moves.specs.Acts.{Costs, Stays};
-ghost use Rattle.strand_moves.specs.Cursors.{statements_left};
+ghost use Rattle.strand_moves.specs.Cursors.{MayEnter, statements_left};
 ghost use Rattle.strand_moves.specs.InstanceParts.{IsInstance, IsStrand, KeepsNames, statements_of};
-ghost use Rattle.strand_moves.specs.FastPath.{HasCalled, HasEmitted, EndsFrame, GivesBackIfAny, HasGone, IsDone, IsSilent, IsEmittedTo, IsMoved, StaysThere, emitted, is_fork, silent};
+ghost use Rattle.strand_moves.specs.FastPath.{HasCalled, HasEmitted, EndsFrame, MayGiveBack, HasGone, IsDone, IsSilent, IsEmittedTo, IsMoved, StaysThere, emitted, silent};
 ghost use Rattle.strand_moves.specs.StraightRuns.{ComesToStatement};
 
-use crate::cursor::is_fork;
 use crate::effects::{Effects, MoveResult};
 use crate::event_sink::EventSink;
 use crate::instance_parts::InstanceParts;
 use crate::memory::Memory;
-use script_grammar::{Act, Expr, Name, Right, Stmt};
+use script_grammar::{Act, Expr, Name, Number, Right, Stmt};
 use serial_meaning::{Event, EventKind, Plan};
 use std::alloc::Global;
 use strand_values::{EnvironmentPool, EvaluationError};
@@ -128,9 +128,7 @@ impl InstanceParts {
         let mut around = innermost.1;
         loop {
             around = self.loop_in_place(alloc, plan, block, around, sink)?;
-            // whether the next statement stands in a block around this one
-            let left = self.top.cursor.next >= block.len();
-            let Some(passed) = self.top.cursor.pass_in(text, block) else {
+            let Some(passed) = self.top.cursor.pass_in(text, block, around) else {
                 if !self.frame_end(alloc, plan, sink, pool)? {
                     return Ok(None);
                 }
@@ -146,17 +144,22 @@ impl InstanceParts {
             }
             self.steps -= 1;
             if self.silent_statement(alloc, slots, statement)? {
-                if is_fork(statement) || left {
-                    let inside = self.top.cursor.loop_around(text);
+                if self.top.cursor.next == 0 {
+                    // one of its blocks was entered
+                    let inside = self.top.cursor.entered_block(statement);
                     block = inside.0;
                     around = inside.1;
                     continue;
                 }
                 block = passed.1;
+                around = passed.2;
                 continue;
             }
             match self.other_statement(alloc, plan, slots, statement, sink, pool)? {
-                Form::Emitting => block = passed.1,
+                Form::Emitting => {
+                    block = passed.1;
+                    around = passed.2;
+                }
                 Form::Calling => {
                     text = self.top.statements(plan);
                     let called = self.top.cursor.loop_around(text);
@@ -202,7 +205,8 @@ impl InstanceParts {
     }
 
     // Where a frame has no statement left: the step of its return, unless it waits at a sync, and its value for the
-    // frame below. Returns whether one of these was done; otherwise nothing changes.
+    // frame below. Returns whether the straight run goes on. Otherwise nothing changed, or the instance's last return was
+    // paid.
     fn frame_end<S: EventSink>(
         &mut self,
         alloc: Global,
@@ -230,28 +234,27 @@ impl InstanceParts {
         let Ok(syncs) = self.return_alone(plan) else {
             return Ok(false);
         };
-        if !syncs {
-            self.give_back_if_any(plan, pool)?;
-            return Ok(true);
+        if syncs {
+            sink.emit_at(alloc, &self.trail.path, rank, EventKind::Sync)?;
         }
-        sink.emit_at(alloc, &self.trail.path, rank, EventKind::Sync)?;
-        self.give_back_if_any(plan, pool)?;
+        if self.below.is_empty() {
+            return Ok(false);
+        }
+        self.give_back_paid(plan, pool)?;
         Ok(true)
     }
 
-    // Gives the value of a frame whose return is paid to the frame below, where there is one and no fault is met.
+    // Gives the value of a frame whose return is paid to the frame below, where no fault is met.
     #[inline(always)]
-    fn give_back_if_any(&mut self, plan: &Plan, pool: &mut EnvironmentPool) -> Result<(), Memory>
+    fn give_back_paid(&mut self, plan: &Plan, pool: &mut EnvironmentPool) -> Result<(), Memory>
         requires instance { IsInstance plan.now self.old }
         requires goes_on { self.old.leaving ≡ false }
         requires none { statements_left (statements_of plan.now self.old.top) self.old.top.cursor ≡ [] }
         requires outside { self.old.top.levels.items ≡ [] }
         requires returning { self.old.top.returning ≡ true }
-        ensures { IfOk result (λ _. GivesBackIfAny plan.now self.old self.new) }
+        requires below { self.old.below.items ≡ [] → ⊥ }
+        ensures { IfOk result (λ _. MayGiveBack plan.now self.old self.new) }
     {
-        if self.below.is_empty() {
-            return Ok(());
-        }
         moved(self.give_back(plan, pool))?;
         Ok(())
     }
@@ -267,7 +270,7 @@ impl InstanceParts {
         requires { FindsVariables slots.now self.old.top.env statement.now }
         ensures did { IfOk result (IsSilent statement.now self.old self.new) }
         ensures there { StaysThere self.old self.new }
-        ensures cursor { is_fork (out-Act (out-Stmt statement.now).act) ≡ false → self.new.top.cursor ≡ self.old.top.cursor }
+        ensures cursor { IfOk result (λ _. MayEnter self.old.top.cursor self.new.top.cursor) }
         ensures stays { Stays self.old self.new }
         ensures few { Costs self.old self.new }
         ensures named { (plan : PlanView) → KeepsNames plan self.old self.new }
@@ -275,12 +278,64 @@ impl InstanceParts {
         match &statement.act {
             Act::Let(x, r) => self.silent_right(slots, x, r),
             Act::Set(x, r) => self.silent_right(slots, x, r),
-            Act::Array(x, n) => moved(self.array(alloc, slots, x, *n)),
-            Act::Store(x, i, e) => moved(self.store(slots, x, i, e)),
-            Act::If(e, _, _) => moved(self.branch(slots, e)),
+            Act::Array(x, n) => self.silent_array(alloc, slots, x, *n),
+            Act::Store(x, i, e) => self.silent_store(slots, x, i, e),
+            Act::If(e, yes, no) => moved(self.branch(slots, e, yes, no)),
             Act::While(e, _) => moved(self.while_test(slots, e)),
             _ => Ok(false),
         }
+    }
+
+    // The same for `let a[n]`. Where it stands in `silent_statement`, the room for its answer is cleared before each
+    // statement; so with the next two.
+    #[inline(never)]
+    fn silent_array(
+        &mut self,
+        alloc: Global,
+        slots: &[u16],
+        x: &Name,
+        n: Number,
+    ) -> Result<bool, Memory>
+        requires { FindsName slots.now self.old.top.env x.now }
+        ensures did { (st : Stmt) → IfOk result (IsDone st (act.Array x.now n) self.old self.new) }
+        ensures there { StaysThere self.old self.new }
+        ensures cursor { self.new.top.cursor ≡ self.old.top.cursor }
+        ensures stays { Stays self.old self.new }
+        ensures few { Costs self.old self.new }
+        ensures named { (plan : PlanView) → KeepsNames plan self.old self.new }
+    {
+        moved(self.array(alloc, slots, x, n))
+    }
+
+    // The same for `a[I] = E`.
+    #[inline(never)]
+    fn silent_store(&mut self, slots: &[u16], x: &Name, i: &Expr, e: &Expr) -> Result<bool, Memory>
+        requires name { FindsName slots.now self.old.top.env x.now }
+        requires index { FindsExpression slots.now self.old.top.env i.now }
+        requires value { FindsExpression slots.now self.old.top.env e.now }
+        ensures did { (st : Stmt) → IfOk result (IsDone st (act.Store x.now i.now e.now) self.old self.new) }
+        ensures there { StaysThere self.old self.new }
+        ensures cursor { self.new.top.cursor ≡ self.old.top.cursor }
+        ensures stays { Stays self.old self.new }
+        ensures few { Costs self.old self.new }
+        ensures named { (plan : PlanView) → KeepsNames plan self.old self.new }
+    {
+        moved(self.store(slots, x, i, e))
+    }
+
+    // The same for `let x = E` and `x = E`, whatever the value.
+    #[inline(never)]
+    fn silent_value(&mut self, slots: &[u16], x: &Name, e: &Expr) -> Result<bool, Memory>
+        requires name { FindsName slots.now self.old.top.env x.now }
+        requires value { FindsExpression slots.now self.old.top.env e.now }
+        ensures did { (st : Stmt) → IfOk result (IsDone st (act.Set x.now (right.Value e.now)) self.old self.new) }
+        ensures there { StaysThere self.old self.new }
+        ensures cursor { self.new.top.cursor ≡ self.old.top.cursor }
+        ensures stays { Stays self.old self.new }
+        ensures few { Costs self.old self.new }
+        ensures named { (plan : PlanView) → KeepsNames plan self.old self.new }
+    {
+        moved(self.set_value(slots, x, e))
     }
 
     // The same for `let x = R` and `x = R`.
@@ -301,7 +356,7 @@ impl InstanceParts {
                     self.top.env.set_number(slots, x, number);
                     Ok(true)
                 }
-                None => moved(self.set_value(slots, x, e)),
+                None => self.silent_value(slots, x, e),
             },
             _ => Ok(false),
         }

@@ -7,6 +7,7 @@ ghost use Rattle.strand_moves.specs.Acts.{IsCallee};
 ghost use Rattle.strand_moves.specs.InstanceParts.{block_inside, body_of, statements_of};
 
 use crate::cursor::Cursor;
+use crate::levels::Levels;
 use dotmix::Trail;
 use script_grammar::{Name, Stmt};
 use serial_meaning::{Fault, Plan};
@@ -34,7 +35,7 @@ pub(crate) struct Frame {
     // Whether it spawned since its last sync.
     pub(crate) spawned: bool,
     // Its open scopes, the outermost first.
-    pub(crate) levels: Vec<Level>,
+    pub(crate) levels: Levels,
     // The position in the innermost scope, or in the function's body.
     pub(crate) cursor: Cursor,
     pub(crate) env: Environment,
@@ -53,7 +54,7 @@ impl Frame {
             function: number,
             returning: false,
             spawned: false,
-            levels: Vec::new(alloc),
+            levels: Levels::none(),
             cursor: Cursor::new(alloc),
             env,
             faulted: None,
@@ -73,7 +74,8 @@ impl Frame {
             faulted,
             ..
         } = self;
-        drop((levels, cursor));
+        levels.discard();
+        drop(cursor);
         drop(faulted);
         env.discard(pool);
     }

@@ -1,12 +1,13 @@
 // Instances.
 
-ghost use Rattle.std.specs.Prelude.{◌≡◌, ◌<◌, [], ◌∷◌, None, Some, Ok, Err, IfOk, length};
+ghost use Rattle.std.specs.Prelude.{◌≡◌, ◌<◌, [], ◌∷◌, None, Some, Ok, Err, IfOk, IfSome, length};
 ghost use Rattle.std.specs.Option.{option_copied};
 ghost use Rattle.dotmix.specs.Trails.{FitsGamma};
 ghost use Rattle.serial_meaning.specs.Plan.{PlanView, functions_of};
 ghost use Rattle.strand_meaning.specs.Machine.{Stands, function_begun, move};
 ghost use Rattle.strand_meaning.specs.Found.{FindsAt, FindsInnermost, functions_in};
 ghost use Rattle.strand_meaning.specs.Task.{frame_with_answer, changed, with_values};
+ghost use Rattle.strand_moves.specs.declared.effects.MoveResult.TheVariants as move_result;
 
 use crate::effects::{MoveResult, SpawnedChild, Waits};
 use crate::event_sink::EventSink;
@@ -144,6 +145,16 @@ impl Instance {
         ensures sound { IfOk result (λ _. IsInstance plan.now self.new) }
     {
         self.parts.wait_end(alloc, plan, sink)
+    }
+
+    /// The value by which the instance ends, where its next move is that end and meets no fault.
+    #[inline(always)]
+    pub fn last_value(&self, plan: &Plan, next: Option<&Stmt>) -> Result<Option<Value>, Memory>
+        requires sound { IsInstance plan.now self.now }
+        requires passed { HasPassedStatement plan.now self.now (option_copied next) }
+        ensures { IfOk result (λ last. IfSome last (λ v. move plan.now (path_of self.now) (unpassed plan.now self.now (option_copied next.entry)) ≡ run_of (move_result.Returned v) (machine_of plan.now self.now))) }
+    {
+        self.parts.last_value(plan, next)
     }
 
     /// The next move. After `Memory` the instance must not be used any more.

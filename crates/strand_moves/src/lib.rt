@@ -15,6 +15,7 @@ mod frame;
 mod instance;
 mod instance_parts;
 mod instance_pool;
+mod levels;
 mod memory;
 mod narrow;
 mod place;

@@ -69,7 +69,6 @@ impl InstanceParts {
         }
     }
 
-    #[inline(never)]
     pub(crate) fn set_value(
         &mut self,
         slots: &[u16],

@@ -62,7 +62,7 @@ impl InstanceParts {
             rank: mem::replace(&mut self.rank, 0),
             cursor: mem::replace(&mut self.top.cursor, Cursor::new(alloc)),
         };
-        self.top.levels.push(level)?;
+        self.top.levels.push(alloc, level)?;
         Ok(())
     }
 

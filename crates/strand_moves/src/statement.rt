@@ -2,7 +2,7 @@
 // a straight run wants no result, only whether the statement was done. What isn't done there is done here. Both make the same calls
 // for a kind, such as `array` and `branch`.
 
-ghost use Rattle.std.specs.Prelude.{◌≡◌, ◌<◌, ◌+◌, ◌^◌, false, List, Err, IfOk};
+ghost use Rattle.std.specs.Prelude.{◌≡◌, ◌<◌, ◌+◌, ◌^◌, false, List, Err, IfOk, OnOk, if◌then◌else◌};
 ghost use Rattle.script_grammar.specs.declared.tree.Stmt.{Stmt, out-Stmt};
 ghost use Rattle.script_grammar.specs.declared.tree.Act.{out-Act};
 ghost use Rattle.script_grammar.specs.declared.tree.Act.TheOpen as act;
@@ -13,7 +13,7 @@ ghost use Rattle.strand_values.specs.declared.evaluation_error.EvaluationError.T
 ghost use Rattle.strand_values.specs.Environments.{FindsExpression, FindsName};
 ghost use Rattle.strand_moves.specs.Found.{AreSlots, FindsStatement};
 ghost use Rattle.strand_moves.specs.Acts.{Acts, Costs, KeepsInstance, Stays};
-ghost use Rattle.strand_moves.specs.Cursors.{IsAfterStatement};
+ghost use Rattle.strand_moves.specs.Cursors.{IsAfterStatement, MayEnter};
 ghost use Rattle.strand_moves.specs.InstanceParts.{IsInstance, KeepsNames, machine_of, path_of, present_of, statements_of};
 ghost use Rattle.strand_moves.specs.Moves.{Makes, MovesTrail, present_pedigree};
 ghost use Rattle.strand_moves.specs.FastPath.{StaysThere, emitted, silent};
@@ -21,10 +21,19 @@ ghost use Rattle.strand_moves.specs.FastPath.{StaysThere, emitted, silent};
 use crate::effects::MoveResult;
 use crate::fast_path::{emitted, silent};
 use crate::instance_parts::InstanceParts;
+use contract_views::Items;
 use script_grammar::{Act, Expr, Name, Number, Stmt};
 use serial_meaning::{Event, FaultKind, Plan};
 use std::alloc::Global;
 use strand_values::{EnvironmentPool, EvaluationError, count_of};
+
+// The block of an `if` that its condition picks.
+#[inline(always)]
+fn picked<'a>(holds: bool, yes: &'a Items<Stmt>, no: &'a Items<Stmt>) -> &'a [Stmt]
+    ensures { result.now ≡ (if holds then yes.now else no.now) }
+{
+    if holds { yes.as_slice() } else { no.as_slice() }
+}
 
 impl InstanceParts {
     // A statement that the cursor has just passed: its step, and then what it does.
@@ -62,7 +71,7 @@ impl InstanceParts {
             )),
             Act::Sync => self.sync_statement(),
             Act::Print(e) => emitted(self.print(slots, e)),
-            Act::If(e, _, _) => silent(self.branch(slots, e)),
+            Act::If(e, yes, no) => silent(self.branch(slots, e, yes, no)),
             Act::While(e, _) => silent(self.while_test(slots, e)),
             Act::Pfor {
                 var: _,
@@ -75,7 +84,6 @@ impl InstanceParts {
         }
     }
 
-    #[inline(never)]
     pub(crate) fn array(
         &mut self,
         alloc: Global,
@@ -96,7 +104,6 @@ impl InstanceParts {
         Ok(())
     }
 
-    #[inline(never)]
     pub(crate) fn store(
         &mut self,
         slots: &[u16],
@@ -144,18 +151,29 @@ impl InstanceParts {
         Ok(Event::Print(self.pedigree()?, value))
     }
 
+    // An `if` with these blocks. One that is empty isn't entered.
     #[inline(always)]
-    pub(crate) fn branch(&mut self, slots: &[u16], e: &Expr) -> Result<(), EvaluationError>
+    pub(crate) fn branch(
+        &mut self,
+        slots: &[u16],
+        e: &Expr,
+        yes: &Items<Stmt>,
+        no: &Items<Stmt>,
+    ) -> Result<(), EvaluationError>
         requires { FindsExpression slots.now self.old.top.env e.now }
-        ensures shows { (plan : PlanView) (st : Stmt) (yes no : List Stmt) → IsAfterStatement (statements_of plan self.old.top) self.old.top.cursor st →
-            out-Act (out-Stmt st).act ≡ act.If e.now yes no → Acts plan st (act.If e.now yes no) self.old self.new (silent result) }
+        ensures shows { (plan : PlanView) (st : Stmt) → IsAfterStatement (statements_of plan self.old.top) self.old.top.cursor st →
+            out-Act (out-Stmt st).act ≡ act.If e.now yes.now no.now → Acts plan st (act.If e.now yes.now no.now) self.old self.new (silent result) }
         ensures same { (kind : FaultKind) → result ≡ Err (Fault kind) → self.new ≡ self.old }
         ensures there { StaysThere self.old self.new }
+        ensures cursor { OnOk result (MayEnter self.old.top.cursor self.new.top.cursor) }
         ensures stays { Stays self.old self.new }
         ensures few { Costs self.old self.new }
         ensures named { (plan : PlanView) → KeepsNames plan self.old self.new }
     {
         let holds = self.top.env.holds(slots, e)?;
+        if picked(holds, yes, no).is_empty() {
+            return Ok(());
+        }
         self.top.cursor.enter(holds)?;
         Ok(())
     }
@@ -167,6 +185,7 @@ impl InstanceParts {
             out-Act (out-Stmt st).act ≡ act.While e.now body → Acts plan st (act.While e.now body) self.old self.new (silent result) }
         ensures same { (kind : FaultKind) → result ≡ Err (Fault kind) → self.new ≡ self.old }
         ensures there { StaysThere self.old self.new }
+        ensures cursor { OnOk result (MayEnter self.old.top.cursor self.new.top.cursor) }
         ensures stays { Stays self.old self.new }
         ensures few { Costs self.old self.new }
         ensures named { (plan : PlanView) → KeepsNames plan self.old self.new }

@@ -82,6 +82,10 @@ left-branch body c d st true after h k =
 left-branch body c d st false after h k =
     left-entered body c d (record { branch = branch.No; back = c.next }) st h k after.there ∙ ap (λ (l : List Stmt). branch_of (out-Act (out-Stmt st).act) branch.No ++ l) (left-is body c)
 
+pub from-branch : (yes : Bool) (n : ℕ) → entered_at (if yes then branch.Yes else branch.No) n ≡ n - 1
+from-branch true n = refl
+from-branch false n = refl
+
 pub left-turn : (body : List Stmt) (c d : Cursor) (st : Stmt) → IsAfterStatement body c st → d.entered.items ≡ c.entered.items ++ record { branch = branch.LoopBody; back = c.next - 1 } ∷ [] → d.next ≡ 0 →
     statements_left body d ≡ branch_of (out-Act (out-Stmt st).act) branch.LoopBody ++ (st ∷ statements_left body c)
 left-turn body c d st after h k =

@@ -24,6 +24,13 @@ module _ (plan : PlanView) (i : InstanceParts) (st : Stmt) (e : Expr) (v : Value
   abbrev within : List Stmt
   within = statements_of plan i.top
 
+  -- a block without statements, which is passed at once
+  pub branch-past : (first second : List Stmt) (b : Bool) → b ≡ is_true v → (if b then first else second) ≡ [] →
+      acted plan (present_of i) (machine_of plan i) st (act.If e first second) ≡ moved [] (machine_of plan i)
+  branch-past first second b h none =
+      let m = machine_of plan i in
+      branch plan (present_of i) m st e first second v b known (sym h) ∙ ap (λ (l : List Stmt). moved [] (record m { top = record m.top { left = l ++ m.top.left } })) none
+
   abbrev pub with_cursor : InstanceParts
   with_cursor = record i { top = record i.top { cursor = cursor } }
 

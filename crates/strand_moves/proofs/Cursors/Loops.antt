@@ -1,7 +1,7 @@
 -- Moves that a loop's body makes in place, and the step by which the loop goes round.
 use Rattle.std.proofs.Common.{◌≡◌, ℕ, suc, ◌+◌, ◌-◌, ◌<◌, ◌≤◌, Bool, true, false, inl, inr, List, [], ◌∷◌, ◌++◌, Option, Some, None, IfSome, Ok, length, take, drop, get_or, slice_get, refl, sym, ap, subst, ◌∙◌, arith}
 use Rattle.std.proofs.Common.{ℤ}
-use Rattle.std.proofs.lemmas.List.{drop_all, drop_more, take-append-drop}
+use Rattle.std.proofs.lemmas.List.{drop_all, drop_more, length-append, take-append-drop}
 use Rattle.script_grammar.specs.declared.tree.Expr.{Expr}
 use Rattle.script_grammar.specs.declared.tree.Name.{Name}
 use Rattle.script_grammar.specs.declared.tree.Right.TheVariants as right
@@ -25,12 +25,12 @@ use Rattle.strand_moves.specs.declared.effects.Effects.TheVariants as effect
 use Rattle.strand_moves.specs.declared.effects.MoveResult.TheVariants as move_result
 use Rattle.strand_moves.specs.declared.instance_parts.InstanceParts.{InstanceParts}
 use Rattle.strand_moves.specs.Acts.{Acts, Costs, Stays}
-use Rattle.strand_moves.specs.Cursors.{IsAround, IsInLoop, IsStillIn, block_in, block_of, branch_at, branch_of, entered_at, left_around, statements_left}
+use Rattle.strand_moves.specs.Cursors.{HasEntered, IsAfterStatement, IsAround, IsInLoop, IsStillIn, MayEnter, block_in, block_of, branch_at, branch_of, entered_at, left_around, statements_left}
 use Rattle.strand_moves.specs.InstanceParts.{IsInstance, KeepsNames, machine_of, path_of, present_of, statements_of}
 use Rattle.strand_moves.specs.Moves.{acted, run_of}
 use Rattle.strand_moves.specs.FastPath.{Draws, GivesValue, IsSilent, StaysThere, emitted}
 use Rattle.strand_moves.specs.StraightRuns.{GoesOnInBlock, IsMoveInBlock, IsSilentMove, IsSentInBlock, More, StaysInBlock, Still}
-use Rattle.strand_moves.proofs.Cursors.CursorLemmas.{block_of-more, left_around-more, passes, rest-next, rest_of}
+use Rattle.strand_moves.proofs.Cursors.CursorLemmas.{block_of-more, branch-there, left_around-more, passes, rest-next, rest_of}
 use Rattle.strand_moves.proofs.Cursors.Passing.{straight_run-over, straight_run-sent, text-same}
 use Rattle.strand_moves.proofs.OpenScopes.Keeping.{here-is, same-path, stays-instance}
 use Rattle.strand_moves.proofs.Statements.Assigning.{number-acts}
@@ -78,6 +78,45 @@ module _ (body : List Stmt) (c : Cursor) (es : List Entered) (d : Entered) (oute
   last-loop loop e inner of_loop there is =
       let within = ap (λ (b : List Stmt). slice_get b last.back) (sym outer-is) ∙ there in
       (loop-block body c (take (length es - 1) es) last entered loop e inner of_loop within is, in-loop body c (take (length es - 1) es) last entered loop e inner of_loop within is)
+
+at-end : (es : List Entered) (e d : Entered) → get_or (es ++ e ∷ []) (length es) d ≡ e
+at-end [] e d = refl
+at-end (x ∷ es) e d = at-end es e d
+
+-- by the last of a cursor's blocks, which it has just entered
+module _ (body : List Stmt) (c : Cursor) (st : Stmt) (h : HasEntered body c st) (es : List Entered) (d : Entered) (same : es ≡ c.entered.items) where
+  pub entered-some : 1 ≤ length es
+  entered-some = let long = ap (λ (l : List Entered). length l) (same ∙ h.entered) ∙ length-append h.around (h.last ∷ []) in omega (arith, long)
+
+  last-is : get_or es (length es - 1) d ≡ h.last
+  last-is =
+      let long = length-append h.around (h.last ∷ []) in
+      let at : length (h.around ++ h.last ∷ []) - 1 ≡ length h.around = omega (arith, long) in
+      ap (λ (l : List Entered). get_or l (length l - 1) d) (same ∙ h.entered) ∙ ap (λ (n : ℕ). get_or (h.around ++ h.last ∷ []) n d) at ∙ at-end h.around h.last d
+
+  pub entered-block : (block : List Stmt) → block ≡ branch_of (out-Act (out-Stmt st).act) (get_or es (length es - 1) d).branch → block ≡ block_of body c.entered.items
+  entered-block block is =
+      is ∙ ap (λ (e : Entered). branch_of (out-Act (out-Stmt st).act) e.branch) last-is ∙ sym (branch-there (block_of body h.around) h.last st h.there)
+      ∙ innermost-is body c h.around h.last h.entered
+
+  pub entered-loop : (e : Expr) (inner : List Stmt) → (get_or es (length es - 1) d).branch ≡ branch.LoopBody → out-Act (out-Stmt st).act ≡ act.While e inner → IsInLoop body c e
+  entered-loop e inner of_loop is =
+      let of : h.last.branch ≡ branch.LoopBody = sym (ap (λ (x : Entered). x.branch) last-is) ∙ of_loop in
+      let there : slice_get (block_of body h.around) h.last.back ≡ Some st = ap (λ (b : Branch). slice_get (block_of body h.around) (entered_at b h.last.back)) (sym of) ∙ h.there in
+      in-loop body c h.around h.last h.entered st e inner of there is
+
+-- by where a statement that may enter a block left the cursor
+module _ (body : List Stmt) (old new : Cursor) (st : Stmt) (after : IsAfterStatement body old st) where
+  pub came-inside : new.next ≡ 0 → MayEnter old new → HasEntered body new st
+  came-inside first (inl same) =
+      let some = after.some in
+      let moved : new.next ≡ old.next = ap (λ (c : Cursor). c.next) same in
+      absurd (omega (arith, first, some, moved))
+  came-inside first (inr e) = record { around = old.entered.items; last = e.last; entered = e.entered; there = ap (λ (n : ℕ). slice_get (block_of body old.entered.items) n) e.from ∙ after.there }
+
+  pub stayed-outside : (new.next ≡ 0 → ⊥) → MayEnter old new → new ≡ old
+  stayed-outside on (inl same) = same
+  stayed-outside on (inr e) = absurd (on e.first)
 
 pub same-loop : (body : List Stmt) (c d : Cursor) (e : Expr) → d.entered.items ≡ c.entered.items → IsInLoop body c e → IsInLoop body d e
 same-loop body c d e same h =
@@ -228,10 +267,15 @@ module _ (plan : PlanView) (old new : InstanceParts) where
   still-block block s h =
       h ∙ ap (λ (es : List Entered). block_of (statements_of plan old.top) es) (sym s.entered) ∙ ap (λ (body : List Stmt). block_of body new.top.cursor.entered.items) (sym (text-same plan old new s.function s.levels))
 
--- where a statement of the loop's body is left, a cursor that passes it stays in the loop
-pub around-on : (own body block : List Stmt) (c d : Cursor) (o : Option Expr) → own ≡ body → IsStillIn body block c o → (c.next < length block → d.entered.items ≡ c.entered.items) → IsAround own d o
-around-on own body block c d None same h on = tt
-around-on own body block c d (Some e) same h on = subst (λ (t : List Stmt). IsInLoop t d e) (sym same) (same-loop body c d e (on h.1) h.0)
+-- a cursor in the same block
+pub same-around : (body : List Stmt) (c d : Cursor) (o : Option Expr) → d.entered.items ≡ c.entered.items → IsAround body c o → IsAround body d o
+same-around body c d None same h = tt
+same-around body c d (Some e) same h = same-loop body c d e same h
+
+-- by what is left of a loop's body
+pub still-around : (own body block : List Stmt) (c : Cursor) (o : Option Expr) → own ≡ body → IsStillIn body block c o → IsAround own c o
+still-around own body block c None same h = tt
+still-around own body block c (Some e) same h = subst (λ (t : List Stmt). IsInLoop t c e) (sym same) h.0
 
 -- what follows where there is something
 pub if-some : {A : Type 0} {P Q : A → Type 0} (o : Option A) → ((a : A) → P a → Q a) → IfSome o P → IfSome o Q

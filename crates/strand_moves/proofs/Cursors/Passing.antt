@@ -155,9 +155,12 @@ module _ {S : Type 0} (after : Event → S → S) (plan : PlanView) (first : Ins
 
   -- and where the straight run ends there
   pub comes-ended : path_of i ≡ path_of first → (last : InstanceParts) (heard : S) → EndsFrame after plan (passed_by plan i cursor) sent last heard false → ComesToStatement after plan first start last heard None
-  comes-ended path last heard h =
+  comes-ended path last heard (inl h) =
       subst (λ (x : InstanceParts). ComesToStatement after plan first start x heard None) (sym h.0)
       (record { before = i; straight_run = subst (λ (x : S). StraightRun after plan first start i x) (sym h.1) straight_run; sound = sound; path = path; passed = refl; at = none })
+  comes-ended path last heard (inr h) =
+      let on = straight_run-ended last heard h.0 in
+      record { before = last; straight_run = on.straight_run; sound = on.sound; path = on.path ∙ path; passed = refl; at = (h.1, h.1) }
 
 module _ {S : Type 0} (after : Event → S → S) (plan : PlanView) (first : InstanceParts) (start : S) (i : InstanceParts) (sent : S) (straight_run : StraightRun after plan first start i sent) (sound : IsInstance plan i) (st : Stmt) (cursor : Cursor) (n : ℕ) (passes : PassesStatement (statements_of plan i.top) i.top.cursor cursor st) (less : n + 1 ≡ i.steps) where
   abbrev paid : InstanceParts

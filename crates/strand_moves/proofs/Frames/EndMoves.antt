@@ -15,7 +15,7 @@ use Rattle.strand_moves.specs.declared.effects.MoveResult.TheVariants as move_re
 use Rattle.strand_moves.specs.Acts.{StaysUnlessMemory, Stays}
 use Rattle.strand_moves.specs.Cursors.{statements_left}
 use Rattle.strand_moves.specs.Moves.{Makes, present_pedigree, run_of}
-use Rattle.strand_moves.specs.FastPath.{EndsFrame, GivesBackIfAny, IsSentMove, IsMoved, MakesEnd, Shortens, silent}
+use Rattle.strand_moves.specs.FastPath.{EndsFrame, MayGiveBack, IsSentMove, IsMoved, MakesEnd, Shortens, silent}
 use Rattle.strand_moves.specs.StraightRuns.{Here, SilentRun, Then}
 use Rattle.strand_moves.specs.InstanceParts.{IsInstance, KeepsNames, body_of, levels_of, machine_of, open_scopes, path_of, present_of, statements_of}
 use Rattle.strand_moves.proofs.OpenScopes.Keeping.{same-path, stays-instance}
@@ -36,7 +36,7 @@ module _ {S : Type 0} (after : Event → S → S) (plan : PlanView) (old new : I
   pub did-not-end : (did : Bool) → did ≡ false → EndsFrame after plan old from new to did → EndsFrame after plan old from new to false
   did-not-end did e h = subst (EndsFrame after plan old from new to) e h
 
-pub gives-nothing : (plan : PlanView) (i : InstanceParts) → IsInstance plan i → GivesBackIfAny plan i i
+pub gives-nothing : (plan : PlanView) (i : InstanceParts) → IsInstance plan i → MayGiveBack plan i i
 gives-nothing plan i sound = record { straight_run = Here i refl; path = refl; sound = sound; steps = refl; frames = omega arith }
 
 -- one straight run of silent moves after another
@@ -44,7 +44,7 @@ more-silent : (plan : PlanView) (first between new : InstanceParts) → SilentRu
 more-silent plan first between new h (Here _ e) = subst (SilentRun plan first) (sym e) h
 more-silent plan first between new h (Then before _ k m) = Then before new (more-silent plan first between before h k) m
 
-pub ends-twice : {S : Type 0} (after : Event → S → S) (plan : PlanView) (old between new : InstanceParts) (from to : S) → MakesEnd after plan old from between to → GivesBackIfAny plan between new → MakesEnd after plan old from new to
+pub ends-twice : {S : Type 0} (after : Event → S → S) (plan : PlanView) (old between new : InstanceParts) (from to : S) → MakesEnd after plan old from between to → MayGiveBack plan between new → MakesEnd after plan old from new to
 ends-twice after plan old between new from to h g =
     record {
       between = h.between;
@@ -70,12 +70,12 @@ module _ (plan : PlanView) (i : InstanceParts) (h : IsInstance plan i) (on : i.l
   module _ (new : InstanceParts) (kept : KeepsNames plan i new) (less : new.rank + new.steps ≤ i.rank + i.steps) where
     pub given-back : (done : Result (Unit {0}) values.EvaluationError) (moved : Bool) → IsMoved done moved → i.top.returning ≡ true →
         Makes (return_move plan (path_of i) (machine_of plan i) true) (present_pedigree (present_of i) (machine_of plan i)) (machine_of plan new) (silent done) →
-        ((kind : FaultKind) → done ≡ Err (error.Fault kind) → new ≡ i) → StaysUnlessMemory i new (silent done) → new.steps ≡ i.steps → OnOk done (length new.below.items < length i.below.items) → GivesBackIfAny plan i new
+        ((kind : FaultKind) → done ≡ Err (error.Fault kind) → new ≡ i) → StaysUnlessMemory i new (silent done) → new.steps ≡ i.steps → OnOk done (length new.below.items < length i.below.items) → MayGiveBack plan i new
     given-back (Ok u) moved w returning makes same stays steps fewer =
         let path = same-path i new stays in
         let sound = stays-instance plan i new h on stays kept less in
         record { straight_run = Then i new (Here i refl) (record { moves = ends-by true returning ∙ makes; path = path; sound = sound }); path = path; sound = sound; steps = steps; frames = omega (arith, fewer) }
-    given-back (Err (error.Fault kind)) moved w returning makes same stays steps fewer = subst (GivesBackIfAny plan i) (sym (same kind refl)) (gives-nothing plan i h)
+    given-back (Err (error.Fault kind)) moved w returning makes same stays steps fewer = subst (MayGiveBack plan i) (sym (same kind refl)) (gives-nothing plan i h)
     given-back (Err error.Memory) moved w returning makes same stays steps fewer = absurd w
 
   module _ {S : Type 0} (after : Event → S → S) (from to : S) (new : InstanceParts) (kept : KeepsNames plan i new) (less : new.rank + new.steps ≤ i.rank + i.steps) where
@@ -93,7 +93,7 @@ module _ (plan : PlanView) (i : InstanceParts) (h : IsInstance plan i) (on : i.l
     gave-back done (Err e) w returning makes same stays steps fewer still = tt
     gave-back (Ok u) (Ok moved) w returning makes same stays steps fewer still =
         subst (EndsFrame after plan i from new to) (sym w) (ends stays (inl (ends-by true returning ∙ makes, still)) (omega (arith, steps, fewer)))
-    gave-back (Err (error.Fault kind)) (Ok moved) w returning makes same stays steps fewer still = subst (EndsFrame after plan i from new to) (sym w) (same kind refl, still)
+    gave-back (Err (error.Fault kind)) (Ok moved) w returning makes same stays steps fewer still = subst (EndsFrame after plan i from new to) (sym w) (inl (same kind refl, still))
     gave-back (Err error.Memory) (Ok moved) w returning makes same stays steps fewer still = absurd w
 
     -- its return was paid

@@ -1,5 +1,5 @@
 -- Moves that show nothing, or an event alone.
-use Rattle.std.proofs.Common.{◌≡◌, ℕ, suc, ◌+◌, Bool, true, false, List, [], ◌∷◌, Result, Ok, Err, IfOk, refl, sym, ap, subst, ◌∙◌, arith}
+use Rattle.std.proofs.Common.{◌≡◌, ℕ, suc, ◌+◌, Bool, true, false, inl, List, [], ◌∷◌, Result, Ok, Err, IfOk, refl, sym, ap, subst, ◌∙◌, arith}
 use Rattle.std.specs.Prelude.{OnOk}
 use Rattle.script_grammar.specs.declared.tree.Stmt.{Stmt, out-Stmt}
 use Rattle.script_grammar.specs.declared.tree.Act.{Act, out-Act}
@@ -13,7 +13,7 @@ use Rattle.strand_values.specs.declared.evaluation_error.EvaluationError.TheVari
 use Rattle.strand_moves.specs.declared.cursor.Cursor.{Cursor}
 use Rattle.strand_moves.specs.declared.instance_parts.InstanceParts.{InstanceParts}
 use Rattle.strand_moves.specs.Acts.{Acts, BeginsOne, StaysUnlessMemory}
-use Rattle.strand_moves.specs.Cursors.{IsAfterStatement, statements_left, PassesStatement}
+use Rattle.strand_moves.specs.Cursors.{IsAfterStatement, MayEnter, statements_left, PassesStatement}
 use Rattle.strand_moves.specs.InstanceParts.{IsInstance, machine_of, path_of, present_of, statements_of}
 use Rattle.strand_moves.specs.Moves.{acted, MovesTrail, present_pedigree}
 use Rattle.strand_moves.specs.FastPath.{HasCalled, HasEmitted, IsDone, IsSilent, IsEmittedTo, IsMoved, emitted, is_plain, is_emitting, silent}
@@ -47,6 +47,19 @@ module _ (st : Stmt) (a : Act-F Act Stmt) (old new : InstanceParts) (is : out-Ac
       ((kind : FaultKind) → done ≡ Err (error.Fault kind) → new ≡ old) → IfOk r (IsMoved done) → IfOk r (IsSilent st old new)
   silent-is done (Ok moved) acts same w = silent-at done moved acts same w
   silent-is done (Err e) acts same w = tt
+
+-- where the cursor is after it
+module _ (old new : InstanceParts) {E : Type 0} where
+  pub stays-there : (r : Result Bool E) → new.top.cursor ≡ old.top.cursor → IfOk r (λ _. MayEnter old.top.cursor new.top.cursor)
+  stays-there (Ok moved) same = inl same
+  stays-there (Err e) same = tt
+
+  pub may-enter : (done : Result (Unit {0}) values.EvaluationError) (r : Result Bool E) → IfOk r (IsMoved done) → ((kind : FaultKind) → done ≡ Err (error.Fault kind) → new ≡ old) → OnOk done (MayEnter old.top.cursor new.top.cursor) →
+      IfOk r (λ _. MayEnter old.top.cursor new.top.cursor)
+  may-enter done (Err e) w same on = tt
+  may-enter (Ok u) (Ok moved) w same on = on
+  may-enter (Err (error.Fault kind)) (Ok moved) w same on = inl (ap (λ (x : InstanceParts). x.top.cursor) (same kind refl))
+  may-enter (Err error.Memory) (Ok moved) w same on = absurd w
 
 -- the same of a call that did this act, whatever the cursor
 module _ (st : Stmt) (a : Act-F Act Stmt) (old new : InstanceParts) where

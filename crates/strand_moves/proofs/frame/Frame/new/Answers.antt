@@ -5,5 +5,5 @@ use Rattle.strand_moves.proofs.frame.Frame.new.Goals as goal
 pub returns : goal.returns
 returns c = record {
   env = refl;
-  begins = λ plan. rw (c.new.ensures.items, c.new-2.ensures (body_of plan c.args.number)) refl;
+  begins = λ plan. rw (c.none.ensures, c.new.ensures (body_of plan c.args.number)) refl;
 }

@@ -1,13 +1,10 @@
 use Rattle.script_check.specs.Slots.{has_slot}
 use Rattle.std.proofs.Common.{refl, w64, rules, SFits}
 use Rattle.std.proofs.lemmas.Int.{to_z-of_z}
-use Rattle.script_grammar.specs.declared.tree.Act.TheOpen as act
-use Rattle.script_grammar.specs.declared.tree.Right.TheVariants as right
 use Rattle.strand_moves.specs.declared.instance_parts.InstanceParts.{InstanceParts}
 use Rattle.strand_moves.proofs.Statements.FoundParts.{in_value}
 use Rattle.strand_moves.proofs.Statements.Naming.{names-stay, top-named}
 use Rattle.strand_moves.proofs.Statements.Assigning.{number-acts}
-use Rattle.strand_moves.proofs.Statements.FastPathLemmas.{done-is}
 use Rattle.strand_moves.proofs.instance_parts.InstanceParts.silent_right.Goals as goal
 
 pub returns-in-Some-clause-did : goal.returns-in-Some-clause-did
@@ -19,14 +16,13 @@ returns-in-Some-clause-did c = λ st.
 
 pub returns-in-None-clause-did : goal.returns-in-None-clause-did
 returns-in-None-clause-did c = λ st.
-    rw c.in-Value.is
-    (done-is st (act.Set c.args.x.now (right.Value c.in-Value.e)) c.args.self.now c.set_value.new.self c.set_value.result c.moved.result (λ plan. c.set_value.ensures.shows plan st) c.set_value.ensures.same c.moved.ensures)
+    rw c.in-Value.is (c.silent_value.ensures.did st)
 
 pub plain-requires : goal.plain-requires
 plain-requires c = in_value (has_slot c.args.slots.now c.args.self.now.top.env.names) c.requires.right.0 c.args.r.now c.in-Value.e c.in-Value.is c.requires.right.1
 
-pub set_value-requires-clause-value : goal.set_value-requires-clause-value
-set_value-requires-clause-value c = in_value (has_slot c.args.slots.now c.args.self.now.top.env.names) c.requires.right.0 c.args.r.now c.in-Value.e c.in-Value.is c.requires.right.1
+pub silent_value-requires-clause-value : goal.silent_value-requires-clause-value
+silent_value-requires-clause-value c = in_value (has_slot c.args.slots.now c.args.self.now.top.env.names) c.requires.right.0 c.args.r.now c.in-Value.e c.in-Value.is c.requires.right.1
 
 pub returns-in-Some-clause-there : goal.returns-in-Some-clause-there
 returns-in-Some-clause-there c =
@@ -39,4 +35,4 @@ returns-in-Some-clause-named c = λ plan.
     top-named plan i new refl refl refl (names-stay c.set_number.new.self i.top.env _ c.set_number.ensures)
 
 pub returns-in-None-clause-named : goal.returns-in-None-clause-named
-returns-in-None-clause-named c = c.set_value.ensures.named
+returns-in-None-clause-named c = c.silent_value.ensures.named

@@ -91,10 +91,10 @@ returns-in-If-clause-shows c =
     let plan = c.args.plan.now in
     let p = c.pay.new.self in
     let st = c.args.statement.now in
-    let is = act-is (act.If c.in-If.e c.in-If.field-1 c.in-If.field-2) st.act (variant.If c.in-If.e c.in-If.field-1 c.in-If.field-2) c.in-If.is (variant.rolls-If c.in-If.e c.in-If.field-1 c.in-If.field-2) in
+    let is = act-is (act.If c.in-If.e c.in-If.yes c.in-If.no) st.act (variant.If c.in-If.e c.in-If.yes c.in-If.no) c.in-If.is (variant.rolls-If c.in-If.e c.in-If.yes c.in-If.no) in
     let after = paid-after plan c.args.self.now p p.steps c.in_ok-pay.ensures.ok c.in_ok-pay.ensures.paid st c.requires.after in
-    statement-paid plan c.args.self.now p p.steps c.in_ok-pay.ensures.ok c.in_ok-pay.ensures.paid (here-is plan c.args.self.now c.requires.instance) st (act.If c.in-If.e c.in-If.field-1 c.in-If.field-2) c.branch-self.new.self c.silent-in-If.result is
-    (rw c.silent-in-If.ensures (c.branch-self.ensures.shows plan st c.in-If.field-1 c.in-If.field-2 after is))
+    statement-paid plan c.args.self.now p p.steps c.in_ok-pay.ensures.ok c.in_ok-pay.ensures.paid (here-is plan c.args.self.now c.requires.instance) st (act.If c.in-If.e c.in-If.yes c.in-If.no) c.branch-self.new.self c.silent-in-If.result is
+    (rw c.silent-in-If.ensures (c.branch-self.ensures.shows plan st after is))
 
 pub returns-in-While-clause-shows : goal.returns-in-While-clause-shows
 returns-in-While-clause-shows c =
@@ -301,9 +301,9 @@ pub branch-self-requires : goal.branch-self-requires
 branch-self-requires c =
     let p = c.pay.new.self in
     let st = c.args.statement.now in
-    let is = act-is (act.If c.in-If.e c.in-If.field-1 c.in-If.field-2) st.act (variant.If c.in-If.e c.in-If.field-1 c.in-If.field-2) c.in-If.is (variant.rolls-If c.in-If.e c.in-If.field-1 c.in-If.field-2) in
+    let is = act-is (act.If c.in-If.e c.in-If.yes c.in-If.no) st.act (variant.If c.in-If.e c.in-If.yes c.in-If.no) c.in-If.is (variant.rolls-If c.in-If.e c.in-If.yes c.in-If.no) in
     let found = paid-finds c.args.plan.now c.args.slots.now c.args.self.now p p.steps c.in_ok-pay.ensures.ok st c.requires.finds in
-    in_if (has_slot c.args.slots.now p.top.env.names) (finds_callee (functions_of c.args.plan.now)) st found c.in-If.e c.in-If.field-1 c.in-If.field-2 is
+    in_if (has_slot c.args.slots.now p.top.env.names) (finds_callee (functions_of c.args.plan.now)) st found c.in-If.e c.in-If.yes c.in-If.no is
 
 pub while_test-requires : goal.while_test-requires
 while_test-requires c =

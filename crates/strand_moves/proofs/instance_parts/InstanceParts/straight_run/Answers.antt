@@ -12,7 +12,7 @@ use Rattle.script_grammar.specs.declared.tree.Stmt.{Stmt}
 use Rattle.strand_moves.specs.InstanceParts.{IsStrand, statements_of}
 use Rattle.strand_moves.proofs.OpenScopes.Keeping.{here-is, stays-instance, same-path}
 use Rattle.strand_moves.proofs.Cursors.FoundStatements.{next-found}
-use Rattle.strand_moves.proofs.Cursors.Loops.{around-on}
+use Rattle.strand_moves.proofs.Cursors.Loops.{came-inside, same-around, stayed-outside, still-around}
 use Rattle.strand_moves.proofs.Cursors.Passing.{comes-ended, comes-undone, in-place, passed-sound, straight_run-called, straight_run-ended, straight_run-sent, text-same}
 use Rattle.strand_moves.proofs.Frames.EndMoves.{did-end, did-not-end}
 use Rattle.strand_moves.proofs.Statements.Naming.{top-named}
@@ -24,8 +24,8 @@ loop-around-init g c = record { straight_run = Still c.args.self.now c.args.sink
 
 -- by each arm: a step is paid, and a call's frame counts less
 
-pub loop-around-smaller-then-is_fork : goal.loop-around-smaller-then-is_fork
-loop-around-smaller-then-is_fork g c =
+pub loop-around-smaller-then-self-eq0-2 : goal.loop-around-smaller-then-self-eq0-2
+loop-around-smaller-then-self-eq0-2 g c =
     let before = c.in_ok-around.ensures.moved.stays in
     let frames_before = ap (λ (bs : List Frame). length bs) before.below in
     let there = c.silent_statement.ensures.there in
@@ -68,8 +68,8 @@ loop-around-smaller-in_default g c =
     let shorter = ended.shorter in
     omega (arith, before.few, frames_before, shorter)
 
-pub loop-around-preserved-then-is_fork : goal.loop-around-preserved-then-is_fork
-loop-around-preserved-then-is_fork g c =
+pub loop-around-preserved-then-self-eq0-2 : goal.loop-around-preserved-then-self-eq0-2
+loop-around-preserved-then-self-eq0-2 g c =
     let l = c.loop-around in
     let was = in-place g.S.EventSink.after c.args.plan.now c.args.self.now c.args.sink.now c.loop-around.self c.loop-around.sink c.loop-around.invariant.straight_run c.loop-around.invariant.path c.loop-around.text.now c.loop-around.block.now c.loop-around.invariant.text c.loop-around.invariant.block c.loop_in_place.new.self c.loop_in_place.new.sink c.in_ok-around.ensures.moved in
     let plan = c.args.plan.now in
@@ -77,7 +77,7 @@ loop-around-preserved-then-is_fork g c =
     let st = c.in-Some.passed.0.now in
     let q = c.silent_statement in
     let new = q.new.self in
-    let passes = rw was.text at c.in-Some.ensures.passes.0 in
+    let passes = rw was.text at c.in-Some.ensures.0 in
     let did = did-silent st _ new _ c.if-branch.true c.in_ok-silent_statement.ensures.did in
     let less : i.steps - 1 + 1 ≡ i.steps = omega arith in
     let paid : InstanceParts = record i { steps = i.steps - 1; top = record i.top { cursor = c.pass_in.new.self } } in
@@ -87,13 +87,14 @@ loop-around-preserved-then-is_fork g c =
     let costs = q.ensures.few in
     let path = same-path i new (record { trail = stays.trail; scopes = stays.scopes; leaving = stays.leaving }) in
     let sound = stays-instance plan i new was.sound (passed-on plan i _ _ was.sound passes.first) (record { trail = stays.trail; scopes = stays.scopes; leaving = stays.leaving }) (λ h. q.ensures.named plan (top-named plan i paid refl refl refl refl h)) (omega (arith, costs)) in
+    let inside = came-inside c.loop-around.text.now c.pass_in.new.self new.top.cursor st c.in-Some.ensures.0.after c.if-self-eq0-2.true c.in_ok-silent_statement.ensures.cursor in
     record {
       straight_run = More i new c.loop_in_place.new.sink was.straight_run moves path sound;
       sound = sound;
       path = path ∙ was.path;
       text = was.text ∙ sym (text-same plan i new there.function there.levels);
-      block = c.loop_around-inside.ensures.block;
-      around = c.loop_around-inside.ensures.around;
+      block = c.entered_block-inside.ensures.block c.loop-around.text.now inside;
+      around = c.entered_block-inside.ensures.around c.loop-around.text.now inside;
     }
 
 pub loop-around-preserved-then-branch : goal.loop-around-preserved-then-branch
@@ -105,14 +106,14 @@ loop-around-preserved-then-branch g c =
     let st = c.in-Some.passed.0.now in
     let q = c.silent_statement in
     let new = q.new.self in
-    let passes = rw was.text at c.in-Some.ensures.passes.0 in
+    let passes = rw was.text at c.in-Some.ensures.0 in
     let did = did-silent st _ new _ c.if-branch.true c.in_ok-silent_statement.ensures.did in
     let less : i.steps - 1 + 1 ≡ i.steps = omega arith in
     let paid : InstanceParts = record i { steps = i.steps - 1; top = record i.top { cursor = c.pass_in.new.self } } in
     let moves = fast_path-moved plan i st c.pass_in.new.self (i.steps - 1) (here-is plan i was.sound) passes less new did in
     let stays = q.ensures.stays in
     let there = q.ensures.there in
-    let same = q.ensures.cursor (sym c.is_fork.ensures ∙ c.if-is_fork.false) in
+    let same = stayed-outside c.loop-around.text.now c.pass_in.new.self new.top.cursor st c.in-Some.ensures.0.after c.if-self-eq0-2.false c.in_ok-silent_statement.ensures.cursor in
     let costs = q.ensures.few in
     let path = same-path i new (record { trail = stays.trail; scopes = stays.scopes; leaving = stays.leaving }) in
     let sound = stays-instance plan i new was.sound (passed-on plan i _ _ was.sound passes.first) (record { trail = stays.trail; scopes = stays.scopes; leaving = stays.leaving }) (λ h. q.ensures.named plan (top-named plan i paid refl refl refl refl h)) (omega (arith, costs)) in
@@ -121,8 +122,8 @@ loop-around-preserved-then-branch g c =
       sound = sound;
       path = path ∙ was.path;
       text = was.text ∙ sym (text-same plan i new there.function there.levels);
-      block = c.in-Some.ensures.passes.1 ∙ ap (λ (k : Cursor). block_of c.loop-around.text.now k.entered.items) (sym same);
-      around = around-on c.loop-around.text.now (statements_of plan i.top) c.loop-around.block.now i.top.cursor new.top.cursor _ was.text c.in_ok-around.ensures.left (λ within. ap (λ (k : Cursor). k.entered.items) same ∙ c.pass_in.ensures.stays within);
+      block = c.in-Some.ensures.1 ∙ ap (λ (k : Cursor). block_of c.loop-around.text.now k.entered.items) (sym same);
+      around = same-around c.loop-around.text.now c.pass_in.new.self new.top.cursor _ (ap (λ (k : Cursor). k.entered.items) same) c.in-Some.ensures.2;
     }
 
 -- a statement that was found to be no plain one
@@ -136,7 +137,7 @@ loop-around-preserved-in-Emitting g c =
     let st = c.in-Some.passed.0.now in
     let q = c.silent_statement in
     let o = c.other_statement in
-    let passes = rw was.text at c.in-Some.ensures.passes.0 in
+    let passes = rw was.text at c.in-Some.ensures.0 in
     let left = did-nothing st _ q.new.self _ c.if-branch.false c.in_ok-silent_statement.ensures.did in
     let gone = subst (HasGone g.S.EventSink.after plan st q.new.self c.loop_in_place.new.sink o.new.self o.new.sink) c.in-Emitting.is c.in_ok-other_statement.ensures.gone in
     let did = gone.0 in
@@ -149,8 +150,8 @@ loop-around-preserved-in-Emitting g c =
       sound = moved.sound;
       path = moved.path ∙ was.path;
       text = was.text ∙ sym (text-same plan i o.new.self (there.there.function ∙ q.ensures.there.function) (there.there.levels ∙ q.ensures.there.levels));
-      block = c.in-Some.ensures.passes.1 ∙ ap (λ (k : Cursor). block_of c.loop-around.text.now k.entered.items) (sym same);
-      around = around-on c.loop-around.text.now (statements_of plan i.top) c.loop-around.block.now i.top.cursor o.new.self.top.cursor _ was.text c.in_ok-around.ensures.left (λ within. ap (λ (k : Cursor). k.entered.items) same ∙ c.pass_in.ensures.stays within);
+      block = c.in-Some.ensures.1 ∙ ap (λ (k : Cursor). block_of c.loop-around.text.now k.entered.items) (sym same);
+      around = same-around c.loop-around.text.now c.pass_in.new.self o.new.self.top.cursor _ (ap (λ (k : Cursor). k.entered.items) same) c.in-Some.ensures.2;
     }
 
 pub loop-around-preserved : goal.loop-around-preserved
@@ -162,7 +163,7 @@ loop-around-preserved g c =
     let st = c.in-Some.passed.0.now in
     let q = c.silent_statement in
     let o = c.other_statement in
-    let passes = rw was.text at c.in-Some.ensures.passes.0 in
+    let passes = rw was.text at c.in-Some.ensures.0 in
     let left = did-nothing st _ q.new.self _ c.if-branch.false c.in_ok-silent_statement.ensures.did in
     let gone = subst (HasGone g.S.EventSink.after plan st q.new.self c.loop_in_place.new.sink o.new.self o.new.sink) c.in-Calling.is c.in_ok-other_statement.ensures.gone in
     let did = gone.0 in
@@ -180,7 +181,7 @@ other_statement-requires-clause-strand g c =
 pub other_statement-requires-clause-goes_on : goal.other_statement-requires-clause-goes_on
 other_statement-requires-clause-goes_on g c =
     let was = in-place g.S.EventSink.after c.args.plan.now c.args.self.now c.args.sink.now c.loop-around.self c.loop-around.sink c.loop-around.invariant.straight_run c.loop-around.invariant.path c.loop-around.text.now c.loop-around.block.now c.loop-around.invariant.text c.loop-around.invariant.block c.loop_in_place.new.self c.loop_in_place.new.sink c.in_ok-around.ensures.moved in
-    let passes = rw was.text at c.in-Some.ensures.passes.0 in
+    let passes = rw was.text at c.in-Some.ensures.0 in
     c.silent_statement.ensures.stays.leaving ∙ passed-on c.args.plan.now c.loop_in_place.new.self c.in-Some.passed.0.now _ was.sound passes.first
 
 -- where no statement of a frame is left
@@ -188,12 +189,12 @@ other_statement-requires-clause-goes_on g c =
 pub frame_end-requires-clause-instance : goal.frame_end-requires-clause-instance
 frame_end-requires-clause-instance g c =
     let was = in-place g.S.EventSink.after c.args.plan.now c.args.self.now c.args.sink.now c.loop-around.self c.loop-around.sink c.loop-around.invariant.straight_run c.loop-around.invariant.path c.loop-around.text.now c.loop-around.block.now c.loop-around.invariant.text c.loop-around.invariant.block c.loop_in_place.new.self c.loop_in_place.new.sink c.in_ok-around.ensures.moved in
-    passed-sound c.args.plan.now c.loop_in_place.new.self c.pass_in.new.self None was.sound (rw was.text at c.in_default.ensures.passes)
+    passed-sound c.args.plan.now c.loop_in_place.new.self c.pass_in.new.self None was.sound (rw was.text at c.in_default.ensures)
 
 pub frame_end-requires-clause-none : goal.frame_end-requires-clause-none
 frame_end-requires-clause-none g c =
     let was = in-place g.S.EventSink.after c.args.plan.now c.args.self.now c.args.sink.now c.loop-around.self c.loop-around.sink c.loop-around.invariant.straight_run c.loop-around.invariant.path c.loop-around.text.now c.loop-around.block.now c.loop-around.invariant.text c.loop-around.invariant.block c.loop_in_place.new.self c.loop_in_place.new.sink c.in_ok-around.ensures.moved in
-    let none = rw was.text at c.in_default.ensures.passes in
+    let none = rw was.text at c.in_default.ensures in
     none.1
 
 pub loop-around-preserved-in_default : goal.loop-around-preserved-in_default
@@ -202,7 +203,7 @@ loop-around-preserved-in_default g c =
     let was = in-place g.S.EventSink.after c.args.plan.now c.args.self.now c.args.sink.now c.loop-around.self c.loop-around.sink c.loop-around.invariant.straight_run c.loop-around.invariant.path c.loop-around.text.now c.loop-around.block.now c.loop-around.invariant.text c.loop-around.invariant.block c.loop_in_place.new.self c.loop_in_place.new.sink c.in_ok-around.ensures.moved in
     let plan = c.args.plan.now in
     let e = c.frame_end in
-    let none = rw was.text at c.in_default.ensures.passes in
+    let none = rw was.text at c.in_default.ensures in
     let ended = did-end g.S.EventSink.after plan _ e.new.self c.loop_in_place.new.sink e.new.sink _ c.if-not-branch.false c.in_ok-frame_end.ensures.did in
     let moved = straight_run-ended g.S.EventSink.after plan c.args.self.now c.args.sink.now c.loop_in_place.new.self c.loop_in_place.new.sink was.straight_run was.sound c.pass_in.new.self none e.new.self e.new.sink ended in
     record { straight_run = moved.straight_run; sound = moved.sound; path = moved.path ∙ was.path; text = c.statements-text-in_default.ensures; block = c.loop_around-below.ensures.block; around = c.loop_around-below.ensures.around }
@@ -213,7 +214,7 @@ returns-then-not-branch g c =
     let was = in-place g.S.EventSink.after c.args.plan.now c.args.self.now c.args.sink.now c.loop-around.self c.loop-around.sink c.loop-around.invariant.straight_run c.loop-around.invariant.path c.loop-around.text.now c.loop-around.block.now c.loop-around.invariant.text c.loop-around.invariant.block c.loop_in_place.new.self c.loop_in_place.new.sink c.in_ok-around.ensures.moved in
     let plan = c.args.plan.now in
     let e = c.frame_end in
-    let none = rw was.text at c.in_default.ensures.passes in
+    let none = rw was.text at c.in_default.ensures in
     let still = did-not-end g.S.EventSink.after plan _ e.new.self c.loop_in_place.new.sink e.new.sink _ c.if-not-branch.true c.in_ok-frame_end.ensures.did in
     comes-ended g.S.EventSink.after plan c.args.self.now c.args.sink.now c.loop_in_place.new.self c.loop_in_place.new.sink was.straight_run was.sound c.pass_in.new.self none was.path e.new.self e.new.sink still
 
@@ -230,7 +231,7 @@ pub returns-then-self-eq0 : goal.returns-then-self-eq0
 returns-then-self-eq0 g c =
     let l = c.loop-around in
     let was = in-place g.S.EventSink.after c.args.plan.now c.args.self.now c.args.sink.now c.loop-around.self c.loop-around.sink c.loop-around.invariant.straight_run c.loop-around.invariant.path c.loop-around.text.now c.loop-around.block.now c.loop-around.invariant.text c.loop-around.invariant.block c.loop_in_place.new.self c.loop_in_place.new.sink c.in_ok-around.ensures.moved in
-    record { before = c.loop_in_place.new.self; straight_run = was.straight_run; sound = was.sound; path = was.path; passed = refl; at = rw was.text at c.in-Some.ensures.passes.0 }
+    record { before = c.loop_in_place.new.self; straight_run = was.straight_run; sound = was.sound; path = was.path; passed = refl; at = rw was.text at c.in-Some.ensures.0 }
 
 pub returns-in-Other : goal.returns-in-Other
 returns-in-Other g c =
@@ -241,7 +242,7 @@ returns-in-Other g c =
     let st = c.in-Some.passed.0.now in
     let q = c.silent_statement in
     let o = c.other_statement in
-    let passes = rw was.text at c.in-Some.ensures.passes.0 in
+    let passes = rw was.text at c.in-Some.ensures.0 in
     let left = did-nothing st _ q.new.self _ c.if-branch.false c.in_ok-silent_statement.ensures.did in
     let gone = subst (HasGone g.S.EventSink.after plan st q.new.self c.loop_in_place.new.sink o.new.self o.new.sink) c.in-Other.is c.in_ok-other_statement.ensures.gone in
     let less : i.steps - 1 + 1 ≡ i.steps = omega arith in
@@ -249,15 +250,18 @@ returns-in-Other g c =
 
 -- the table has the slots of what the next statement names
 
-pub pass_in-requires : goal.pass_in-requires
-pass_in-requires g c = let was = in-place g.S.EventSink.after c.args.plan.now c.args.self.now c.args.sink.now c.loop-around.self c.loop-around.sink c.loop-around.invariant.straight_run c.loop-around.invariant.path c.loop-around.text.now c.loop-around.block.now c.loop-around.invariant.text c.loop-around.invariant.block c.loop_in_place.new.self c.loop_in_place.new.sink c.in_ok-around.ensures.moved in was.block
+pub pass_in-requires-clause-block : goal.pass_in-requires-clause-block
+pass_in-requires-clause-block g c = let was = in-place g.S.EventSink.after c.args.plan.now c.args.self.now c.args.sink.now c.loop-around.self c.loop-around.sink c.loop-around.invariant.straight_run c.loop-around.invariant.path c.loop-around.text.now c.loop-around.block.now c.loop-around.invariant.text c.loop-around.invariant.block c.loop_in_place.new.self c.loop_in_place.new.sink c.in_ok-around.ensures.moved in was.block
+
+pub pass_in-requires-clause-around : goal.pass_in-requires-clause-around
+pass_in-requires-clause-around g c = let was = in-place g.S.EventSink.after c.args.plan.now c.args.self.now c.args.sink.now c.loop-around.self c.loop-around.sink c.loop-around.invariant.straight_run c.loop-around.invariant.path c.loop-around.text.now c.loop-around.block.now c.loop-around.invariant.text c.loop-around.invariant.block c.loop_in_place.new.self c.loop_in_place.new.sink c.in_ok-around.ensures.moved in still-around c.loop-around.text.now (statements_of c.args.plan.now c.loop_in_place.new.self.top) c.loop-around.block.now c.loop_in_place.new.self.top.cursor _ was.text c.in_ok-around.ensures.left
 
 pub silent_statement-requires : goal.silent_statement-requires
 silent_statement-requires g c =
     let was = in-place g.S.EventSink.after c.args.plan.now c.args.self.now c.args.sink.now c.loop-around.self c.loop-around.sink c.loop-around.invariant.straight_run c.loop-around.invariant.path c.loop-around.text.now c.loop-around.block.now c.loop-around.invariant.text c.loop-around.invariant.block c.loop_in_place.new.self c.loop_in_place.new.sink c.in_ok-around.ensures.moved in
     let plan = c.args.plan.now in
     let i = c.loop_in_place.new.self in
-    let passes = rw was.text at c.in-Some.ensures.passes.0 in
+    let passes = rw was.text at c.in-Some.ensures.0 in
     let paid : InstanceParts = record i { steps = i.steps - 1; top = record i.top { cursor = c.pass_in.new.self } } in
     (finds_callee (functions_of plan), next-found plan c.slots-slots.result.now paid (record { table = c.slots-slots.ensures.table; found = c.slots-slots.ensures.found }) (top-named plan i paid refl refl refl refl was.sound.named) c.in-Some.passed.0.now passes.after)
 
@@ -271,7 +275,7 @@ other_statement-requires-clause-finds g c =
     let i = c.loop_in_place.new.self in
     let st = c.in-Some.passed.0.now in
     let slots = c.slots-slots.result.now in
-    let passes = rw was.text at c.in-Some.ensures.passes.0 in
+    let passes = rw was.text at c.in-Some.ensures.0 in
     let paid : InstanceParts = record i { steps = i.steps - 1; top = record i.top { cursor = c.pass_in.new.self } } in
     let left = did-nothing st _ c.silent_statement.new.self _ c.if-branch.false c.in_ok-silent_statement.ensures.did in
     let found = next-found plan slots paid (record { table = c.slots-slots.ensures.table; found = c.slots-slots.ensures.found }) (top-named plan i paid refl refl refl refl was.sound.named) st passes.after in

@@ -1,4 +1,4 @@
-use Rattle.std.proofs.Common.{◌∙◌, refl}
+use Rattle.std.proofs.Common.{inl, inr, ◌∙◌, refl}
 use Rattle.script_grammar.specs.declared.tree.Act.TheOpen as act
 use Rattle.serial_meaning.specs.Values.{value_of}
 use Rattle.strand_moves.specs.declared.instance_parts.InstanceParts.{InstanceParts}
@@ -23,7 +23,7 @@ pub returns-in_ok-enter_loop-clause-shows : goal.returns-in_ok-enter_loop-clause
 returns-in_ok-enter_loop-clause-shows c = λ plan st body after a.
     let i = c.args.self.now in
     let known = holding-known (value_of c.args.e.now i.top.env.variables) c.in_ok-holds.holds c.in_ok-holds.ensures in
-    turn-into plan i st c.args.e.now known.0 c.enter_loop.new.self known.1.0 body (known.1.1 ∙ c.if-holds.true) a (c.in_ok-enter_loop.ensures (statements_of plan i.top) st after)
+    turn-into plan i st c.args.e.now known.0 c.enter_loop.new.self known.1.0 body (known.1.1 ∙ c.if-holds.true) a (c.in_ok-enter_loop.ensures.left (statements_of plan i.top) st after)
 
 pub returns-else-holds-clause-shows : goal.returns-else-holds-clause-shows
 returns-else-holds-clause-shows c = λ plan st body after a.
@@ -42,3 +42,9 @@ returns-in_err-enter_loop-clause-named c = λ plan.
     let i = c.args.self.now in
     let new : InstanceParts = record i { top = record i.top { cursor = c.enter_loop.new.self } } in
     top-named plan i new refl refl refl refl
+
+pub returns-in_ok-enter_loop-clause-cursor : goal.returns-in_ok-enter_loop-clause-cursor
+returns-in_ok-enter_loop-clause-cursor c = inr c.in_ok-enter_loop.ensures.enters
+
+pub returns-else-holds-clause-cursor : goal.returns-else-holds-clause-cursor
+returns-else-holds-clause-cursor c = inl refl

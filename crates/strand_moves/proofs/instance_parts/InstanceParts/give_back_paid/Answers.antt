@@ -1,16 +1,13 @@
 use Rattle.std.proofs.Common.{arith}
-use Rattle.strand_moves.proofs.Frames.EndMoves.{given-back, gives-nothing}
+use Rattle.strand_moves.proofs.Frames.EndMoves.{given-back}
 use Rattle.strand_moves.proofs.OpenScopes.Keeping.{here-is}
-use Rattle.strand_moves.proofs.instance_parts.InstanceParts.give_back_if_any.Goals as goal
+use Rattle.strand_moves.proofs.instance_parts.InstanceParts.give_back_paid.Goals as goal
 
 pub give_back-requires-clause-named : goal.give_back-requires-clause-named
 give_back-requires-clause-named c = c.requires.instance.named
 
 pub give_back-requires-clause-here : goal.give_back-requires-clause-here
 give_back-requires-clause-here c = here-is c.args.plan.now c.args.self.now c.requires.instance
-
-pub returns-then-is_empty : goal.returns-then-is_empty
-returns-then-is_empty c = gives-nothing c.args.plan.now c.args.self.now c.requires.instance
 
 pub returns : goal.returns
 returns c =

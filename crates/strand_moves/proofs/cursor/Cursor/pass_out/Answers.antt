@@ -2,7 +2,7 @@ use Rattle.std.proofs.Common.{◌+◌, arith, ◌∙◌, refl, sym}
 use Rattle.std.proofs.lemmas.List.{append-nil}
 use Rattle.std.proofs.lemmas.Option.{slice_get_read}
 use Rattle.strand_moves.proofs.Cursors.CursorLemmas.{nothing-there, passes, left-out, left-ended, left-same}
-use Rattle.strand_moves.proofs.cursor.Cursor.pass_statement.Goals as goal
+use Rattle.strand_moves.proofs.cursor.Cursor.pass_out.Goals as goal
 
 pub returns-in-Some : goal.returns-in-Some
 returns-in-Some c =
@@ -12,7 +12,7 @@ returns-in-Some c =
     let found = c.in-Some.ensures.lookup in
     let there = rw l.invariant.block at (slice_get_read _ _ here.next c.in-Some.statement.now refl found.3.0 found.1) in
     let next = passes body here (record { entered = here.entered; next = here.next + 1 }) c.in-Some.statement.now there refl refl in
-    (record { first = sym l.invariant.left ∙ next.first; after = next.after }, l.invariant.block)
+    record { first = sym l.invariant.left ∙ next.first; after = next.after }
 
 pub loop-statement-preserved : goal.loop-statement-preserved
 loop-statement-preserved c =

@@ -1,6 +1,6 @@
 use Rattle.std.proofs.Common.{◌≡◌, ◌<◌, ◌^◌, length}
 use Rattle.strand_moves.specs.Cursors.{block_of, statements_left}
-use Rattle.strand_moves.proofs.cursor.Cursor.pass_statement.Given as goal
+use Rattle.strand_moves.proofs.cursor.Cursor.pass_out.Given as goal
 
 abbrev pub invariant-loop-statement : goal.invariant-loop-statement
 invariant-loop-statement l = record {
