@@ -4,4 +4,5 @@ pub mod Starts
 pub mod Making
 pub mod Moving
 pub mod Halves
+pub mod Halving
 pub mod Starting

@@ -3,3 +3,4 @@ pub mod Cutting
 pub mod Faulting
 pub mod Targets
 pub mod Taking
+pub mod Turns

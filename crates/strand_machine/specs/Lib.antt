@@ -1,6 +1,7 @@
 pub mod TaskStates
 pub mod Probes
 pub mod Links
+pub mod InTurn
 pub mod Faults
 pub mod Merge
 pub mod Made

@@ -1,44 +1,26 @@
 // Running a task to its next stop, and the ends of tasks.
 ghost use Rattle.std.specs.Prelude.{◌≡◌, IfOk, None, true};
-ghost use Rattle.strand_meaning.specs.Cuts.{IsByFaultOf};
-ghost use Rattle.strand_machine.specs.Made.{CanEnd, IsSoundMade, IsStopped, KnowsEnd, PausesAs, made};
+ghost use Rattle.strand_machine.specs.Made.{IsSoundMade, IsStopped, KnowsEnd, PausesAs, made};
 ghost use Rattle.strand_machine.specs.Stops.{Advances, Pauses};
-ghost use Rattle.strand_machine.specs.Tasks.{HoldsOfTask, ended_by, has_outcome};
+ghost use Rattle.strand_machine.specs.Tasks.{has_outcome};
 ghost use Rattle.strand_machine.specs.declared.stop.Stop.TheVariants as stop;
-ghost use Rattle.strand_machine.specs.declared.remaining.Remaining.TheVariants as remaining;
 
 use crate::memory::Memory;
 use crate::parts::Parts;
 use crate::remaining::Remaining;
-use crate::replace::set_remaining;
 use crate::step::run_in_place;
 use crate::stop::{Passed, Paused, Stop};
 use crate::task::Task;
 use crate::task_pool::TaskPool;
 use crate::task_state::TaskState;
 use meet_block::Give;
-use serial_meaning::{Answer, Keep, Outcome};
+use serial_meaning::{Answer, Keep};
 use spare_memory::emptied;
 use std::alloc::Global;
 
-// Records a task's end: the fault in its trace, or else this outcome.
-#[inline(always)]
-fn keep_end<K: Keep>(parts: &mut Parts<K>, outcome: Outcome)
-    requires can { CanEnd parts.old.state outcome }
-    requires known { IsByFaultOf parts.old.state.links.plan (ended_by parts.old.state.trace.fault outcome) }
-    ensures remaining { parts.new.remaining ≡ remaining.Ends (ended_by parts.old.state.trace.fault outcome) }
-    ensures links { parts.new.state.links ≡ parts.old.state.links }
-    ensures prefix { parts.new.state.trace.prefix ≡ parts.old.state.trace.prefix }
-    ensures holds { HoldsOfTask parts.new.state parts.new.remaining }
-{
-    let ended = parts.state.trace.end(outcome);
-    parts.state.waiting = false;
-    set_remaining(&mut parts.remaining, Remaining::Ends(ended));
-}
-
 // A task at the stop that it came to.
 #[inline(always)]
-fn paused<K: Keep>(mut parts: Box<Parts<K>>, passed: Passed<K>) -> Paused<K>
+fn paused<K: Keep>(parts: Box<Parts<K>>, passed: Passed<K>) -> Paused<K>
     requires sound { IsSoundMade parts.value passed }
     requires stops { IsStopped passed }
     requires known { KnowsEnd parts.value passed }
@@ -53,12 +35,9 @@ fn paused<K: Keep>(mut parts: Box<Parts<K>>, passed: Passed<K>) -> Paused<K>
             child,
             rest: Task { parts },
         },
-        Passed::Ends(outcome) => {
-            keep_end(&mut parts, outcome);
-            Paused::Ended {
-                rest: Task { parts },
-            }
-        }
+        Passed::Ends => Paused::Ended {
+            rest: Task { parts },
+        },
     }
 }
 

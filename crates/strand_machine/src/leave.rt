@@ -3,7 +3,7 @@ ghost use Rattle.std.specs.Prelude.{◌≡◌, IfOk, OnOk};
 ghost use Rattle.serial_meaning.specs.Laws.{IsOriginOf};
 ghost use Rattle.strand_moves.specs.Moves.{IsTrailOf};
 ghost use Rattle.strand_machine.specs.Links.{AreJoinNames, links_with_child};
-ghost use Rattle.strand_machine.specs.Made.{IsSoundMade, IsSpawn, made};
+ghost use Rattle.strand_machine.specs.Made.{CanEnd, IsSoundMade, IsSpawn, ended_move, made};
 ghost use Rattle.strand_machine.specs.Stops.{IsStep};
 ghost use Rattle.strand_machine.specs.Tasks.{IsSound, view_of, fresh, gone, waiting, with_child};
 ghost use Rattle.strand_machine.specs.MoveOrStop as step;
@@ -48,6 +48,19 @@ pub(crate) fn wait<K: Keep>(parts: &mut Parts<K>, remaining: Remaining) -> Passe
     parts.state.advanced = true;
     set_remaining(&mut parts.remaining, remaining);
     Passed::Waits
+}
+
+// The task ends, by the fault in its trace, or else by this outcome.
+#[inline(always)]
+pub(crate) fn end<K: Keep>(parts: &mut Parts<K>, outcome: Outcome) -> Passed<K>
+    requires { CanEnd parts.old.state outcome }
+    ensures made { made parts.new result ≡ ended_move parts.old.state outcome }
+    ensures sound { IsSoundMade parts.new result }
+{
+    let ended = parts.state.trace.end(outcome);
+    parts.state.waiting = false;
+    set_remaining(&mut parts.remaining, Remaining::Ends(ended));
+    Passed::Ends
 }
 
 // Begins a child, and counts it among the task's. Its give is of the task's join. The key of its give is made of its own
@@ -139,6 +152,25 @@ pub(crate) fn spawn<K: Keep>(
     }
 }
 
+// The same, where what is left to do stands in the task's parts.
+#[inline(always)]
+pub(crate) fn spawn_in_place<K: Keep>(
+    parts: &mut Parts<K>,
+    alloc: Global,
+    child: Child,
+    destination: Destination,
+    pool: &mut TaskPool<K>,
+) -> Result<Passed<K>, Memory>
+    requires known { IsOriginOf parts.old.state.links.plan child.origin }
+    requires trail { IsTrailOf parts.old.state.links.plan child.origin child.trail }
+    requires sound { IsSound (with_child parts.old.state child.origin destination) parts.old.remaining }
+    ensures made { IfOk result (λ passed. IsSpawn parts.old.state child.origin destination parts.old.remaining (made parts.new passed)) }
+    ensures sound { IfOk result (IsSoundMade parts.new) }
+{
+    let task = add_child_task(&mut parts.state, alloc, child, destination, pool)?;
+    Ok(Passed::Spawned(task))
+}
+
 // An instance ended by a value: the task ends too, unless it was the last iteration of a loop.
 #[inline(always)]
 pub(crate) fn returned<K: Keep>(parts: &mut Parts<K>, value: Value) -> Passed<K>
@@ -148,7 +180,7 @@ pub(crate) fn returned<K: Keep>(parts: &mut Parts<K>, value: Value) -> Passed<K>
 {
     laws::steps_are_sound();
     match parts.state.links.origin() {
-        Origin::Instance { .. } => Passed::Ends(Outcome::Value(value)),
+        Origin::Instance { .. } => end(parts, Outcome::Value(value)),
         Origin::Loop { .. } => pass(parts, Remaining::Finished(value, false)),
     }
 }
@@ -161,7 +193,7 @@ pub(crate) fn faulted<K: Keep>(parts: &mut Parts<K>, fault: Fault) -> Passed<K>
 {
     laws::steps_are_sound();
     if parts.state.trace.awaits_none() {
-        return Passed::Ends(Outcome::Fault(fault));
+        return end(parts, Outcome::Fault(fault));
     }
     wait(parts, Remaining::Runs(Stage::Faulted(fault)))
 }

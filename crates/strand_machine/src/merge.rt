@@ -183,6 +183,7 @@ fn merge_stage(
 }
 
 // What remains after the answer of a child.
+#[inline(never)]
 fn merge_remaining(
     remaining: &mut Remaining,
     alloc: Global,
@@ -259,7 +260,7 @@ impl Merging {
     }
 }
 
-// More values of a loop. The first ones are those of its lower half, with which room is made for those of the other half.
+// More values of a loop. The list of the first ones, those of its lower half, takes those of the other half too.
 fn add_values(
     values: &mut Items<Value>,
     more: Items<Value>,
@@ -267,11 +268,11 @@ fn add_values(
 ) -> Result<(), Memory>
     ensures { OnOk result (values.new ≡ values.old ++ more) }
 {
-    let mut more = more;
     if values.0.is_empty() {
-        let all = more.0.len().saturating_mul(2).saturating_add(1);
-        values.0.reserve(all)?;
+        set(values, more);
+        return Ok(());
     }
+    let mut more = more;
     values.0.append(&mut more.0)?;
     pool.keep_values(more);
     Ok(())
@@ -300,6 +301,7 @@ fn add_half(
 }
 
 // What a merged answer changes in the values, or in what remains.
+#[inline(always)]
 fn merge_value(
     values: &mut Items<Value>,
     remaining: &mut Remaining,

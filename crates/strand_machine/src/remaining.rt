@@ -1,5 +1,5 @@
 // What remains of a task.
-ghost use Rattle.std.specs.Prelude.{◌≡◌, ◌∷◌, ◌++◌, ◌<◌, [], IfNone, IfOk, IfSome, length, pos, ◌+ℤ◌};
+ghost use Rattle.std.specs.Prelude.{◌≡◌, ◌∷◌, ◌++◌, ◌<◌, ◌-◌, [], IfNone, IfOk, IfSome, length, pos, ◌+ℤ◌};
 ghost use Rattle.dotmix.specs.Trails.{FitsGamma};
 ghost use Rattle.serial_meaning.specs.declared.origin.Origin.{Origin};
 ghost use Rattle.serial_meaning.specs.declared.value.Value.TheVariants.{Int};
@@ -8,6 +8,7 @@ ghost use Rattle.serial_meaning.specs.Plan.{functions_of};
 ghost use Rattle.strand_meaning.specs.Machine.{function_begun};
 ghost use Rattle.strand_meaning.specs.Task.{begun_stage, begun_remaining, begins_last};
 ghost use Rattle.strand_moves.specs.Moves.{IsTrailOf};
+ghost use Rattle.strand_machine.specs.Made.{IsHalved};
 ghost use Rattle.strand_machine.specs.Tasks.{stage_of, remaining_of, StandsAt, RemainsAt};
 ghost use Rattle.strand_machine.specs.declared.remaining.Stage.TheVariants as stage;
 ghost use Rattle.strand_machine.specs.declared.remaining.Remaining.TheVariants as remaining;
@@ -73,6 +74,39 @@ impl Remaining {
             Remaining::Splits(left) => left.trail.path.unshare(alloc),
             Remaining::Runs(Stage::Running(instance)) => instance.unshare_path(alloc),
             _ => {}
+        }
+    }
+
+    /// Takes out the lower half of a loop's iterations, where two or more are left, with a copy of the trail.
+    #[inline(always)]
+    pub fn take_half(&mut self) -> Result<Option<(IterRange, Trail)>, Memory>
+        ensures some { IfOk result (λ half. IfSome half (λ h. IsHalved self.old self.new h.0 h.1)) }
+        ensures none { IfOk result (λ half. IfNone half (self.new ≡ self.old)) }
+    {
+        let Remaining::Splits(left) = self else {
+            return Ok(None);
+        };
+        let Some(halves) = left.range.split() else {
+            return Ok(None);
+        };
+        let trail = left.trail.share()?;
+        left.range = halves.1;
+        Ok(Some((halves.0, trail)))
+    }
+
+    /// Takes out a loop's last iteration, where it alone is left.
+    #[inline(always)]
+    pub fn take_last(&mut self) -> Option<Left>
+        ensures some { IfSome result (λ left. (self.old ≡ remaining.Splits left) × (left.range.hi - left.range.lo ≡ 1)) }
+        ensures none { IfNone result (self.new ≡ self.old) }
+    {
+        match self {
+            Remaining::Splits(left) if left.range.len() == 1 => {}
+            _ => return None,
+        }
+        match mem::replace(self, Remaining::nothing()) {
+            Remaining::Splits(left) => Some(left),
+            _ => unreachable!(),
         }
     }
 
@@ -146,8 +180,14 @@ pub(crate) fn begun_last(
             ..
         } => {
             let k = range.hi.saturating_sub(1);
-            let args = iteration_args_in(*first, rest.as_slice(), k, pool.values(alloc))?;
             let trail = trail.child(alloc, &plan.gamma, k)?;
+            if rest.as_slice().is_empty() {
+                // most loops hand on the iteration's number alone, which needs no list
+                let args = [Value::Int(first.wrapping_add_unsigned(k))];
+                let stage = begun_instance(alloc, plan, *function, &args, trail, pool)?;
+                return Ok(Remaining::Runs(stage));
+            }
+            let args = iteration_args_in(*first, rest.as_slice(), k, pool.values(alloc))?;
             let stage = begun_instance(alloc, plan, *function, args.as_slice(), trail, pool)?;
             pool.keep_values(args);
             Ok(Remaining::Runs(stage))

@@ -1,11 +1,12 @@
 // How a task continues after a wait. There are two sources of answers: the task's own join (`resume`, `resume_in`), and a runner that keeps
 // the answers itself (`resume_with`, `resume_by`). The second call for each gives back the list of the answers, to be used again.
-ghost use Rattle.std.specs.Prelude.{◌≡◌, ◌-◌, [], true, false, length, drop, IfOk, OnOk};
+ghost use Rattle.std.specs.Prelude.{◌≡◌, ◌+◌, ◌-◌, [], ◌∷◌, true, false, length, drop, IfNone, IfOk, IfSome, OnOk};
 ghost use Rattle.strand_meaning.specs.Task.{resumed, resumed_remaining};
 ghost use Rattle.strand_machine.specs.Links.{tags, origins, AwaitsCount};
 ghost use Rattle.strand_machine.specs.Merge.{BecomesStage, BecomesRemaining, EndsShort, HasTakenAnswers, IsShort, KeepsRest, TakesAnswers, RemainingFindsAll, IsRemainingOfPlan, end_of, merge_of};
 ghost use Rattle.strand_machine.specs.AwaitedChildren.{awaited, awaited_children};
 ghost use Rattle.strand_meaning.specs.Cuts.{AreAnswersOf};
+ghost use Rattle.strand_machine.specs.InTurn.{in_turn};
 ghost use Rattle.strand_machine.specs.Made.{resumed_as};
 ghost use Rattle.strand_machine.specs.Stops.{IsResumed, IsResumedWith, answer_tags};
 ghost use Rattle.strand_machine.specs.Tasks.{HoldsOfTask, IsSound, view_of, remaining_of};
@@ -90,6 +91,21 @@ fn resume_remaining(remaining: &mut Remaining) -> Result<(), Memory>
     }
 }
 
+// Takes the next item, in order, of a list of which this many were taken so. The last item comes to its place: then the last ones, in
+// reverse, stand where the first ones were, and are taken from the end. So half of the items move once, and none is moved to reverse the list.
+#[inline(always)]
+fn take_next<T>(list: &mut Vec<T>, taken: usize) -> Option<T>
+    ensures some { IfSome result (λ item. in_turn taken list.old.items ≡ item ∷ in_turn (taken + 1) list.new.items) }
+    ensures fewer { IfSome result (λ _. length list.old.items ≡ length list.new.items + 1) }
+    ensures none { IfNone result (list.old.items ≡ []) }
+{
+    let left = list.len().saturating_sub(taken);
+    if left > 1 {
+        return Some(list.swap_remove(taken));
+    }
+    list.pop()
+}
+
 // Merges the answers of all awaited children, in order. Their list comes back empty, with its capacity.
 fn merge_all<K: Keep>(
     parts: &mut Parts<K>,
@@ -108,11 +124,13 @@ fn merge_all<K: Keep>(
     ensures none { IfOk result (λ left. left ≡ []) }
 {
     let mut after = children;
-    after.reverse();
     let mut left = answers.0;
-    left.reverse();
-    while let Some(part) = after.pop() {
-        let Some(answer) = left.pop() else {
+    let count = after.len();
+    for taken in 0..count {
+        let Some(part) = take_next(&mut after, taken) else {
+            unreachable!()
+        };
+        let Some(answer) = take_next(&mut left, taken) else {
             unreachable!()
         };
         merge_answer(parts, merging, alloc, part, answer, pool)?;

@@ -17,16 +17,17 @@ ghost use Rattle.strand_machine.specs.declared.remaining.Stage.TheVariants as st
 ghost use Rattle.strand_machine.specs.declared.remaining.Remaining.TheVariants as remaining;
 
 use crate::destination::Destination;
-use crate::leave::{faulted, pass, returned, spawn, wait};
+use crate::leave::{end, faulted, pass, spawn, wait};
 use crate::memory::Memory;
 use crate::parts::Parts;
 use crate::remaining::{Remaining, Stage};
+use crate::step::end_loop;
 use crate::stop::Passed;
 use crate::task_pool::TaskPool;
 use crate::trace::Trace;
 use contract_views::Boxed;
 use script_grammar::Stmt;
-use serial_meaning::{Keep, Plan};
+use serial_meaning::{Keep, Origin, Outcome, Plan, Value};
 use std::alloc::Global;
 use strand_meaning::laws;
 use strand_moves::{Effects, Instance, InstancePool, LoopedChild, MoveResult, SpawnedChild, Waits};
@@ -109,12 +110,13 @@ fn begin_spawned<K: Keep>(
     spawn(parts, alloc, child, destination, next, pool)
 }
 
-// Begins the loop for which the instance waits, whose event the trace has.
+// Begins the loop for which the instance waits, whose event the trace has. The loop comes in its box, since the room for
+// what is in it would else be cleared at each run of an instance.
 fn begin_looped<K: Keep>(
     parts: &mut Parts<K>,
     alloc: Global,
     instance: Instance,
-    looped: LoopedChild,
+    looped: Boxed<LoopedChild>,
     pool: &mut TaskPool<K>,
 ) -> Result<Passed<K>, Memory>
     requires known { IsOriginOf parts.old.state.links.plan looped.child.origin }
@@ -124,7 +126,7 @@ fn begin_looped<K: Keep>(
         (remaining.Runs (stage.AtLoop instance)) (made parts.new passed)) }
     ensures sound { IfOk result (IsSoundMade parts.new) }
 {
-    let LoopedChild { child, target } = looped;
+    let LoopedChild { child, target } = unboxed(looped);
     let destination = Destination::Looped(target);
     let next = Remaining::Runs(Stage::AtLoop(instance));
     spawn(parts, alloc, child, destination, next, pool)
@@ -161,7 +163,30 @@ pub(crate) fn apply_effects<K: Keep>(
         }
         Effects::Looped { event, looped } => {
             parts.state.trace.emit(alloc, event)?;
-            begin_looped(parts, alloc, instance, unboxed(looped), pool)
+            begin_looped(parts, alloc, instance, looped, pool)
+        }
+    }
+}
+
+// An instance ended by a value: the task ends too, or goes on to the end of the loop whose last iteration it was.
+#[inline(always)]
+fn end_by_value<K: Keep>(
+    parts: &mut Parts<K>,
+    alloc: Global,
+    value: Value,
+    pool: &mut TaskPool<K>,
+) -> Result<Passed<K>, Memory>
+    requires { IsSound parts.old.state (remaining.Runs (stage.Returned value)) }
+    ensures step { IfOk result (λ passed. IsRun (view_of parts.old.state (remaining.Runs (stage.Returned value))) (made parts.new passed)) }
+    ensures sound { IfOk result (IsSoundMade parts.new) }
+{
+    laws::steps_are_sound();
+    laws::moves_fall();
+    match parts.state.links.origin() {
+        Origin::Instance { .. } => Ok(end(parts, Outcome::Value(value))),
+        Origin::Loop { .. } => {
+            parts.state.advanced = true;
+            end_loop(parts, alloc, value, false, pool)
         }
     }
 }
@@ -211,9 +236,17 @@ pub(crate) fn go<K: Keep>(
                     return Ok(wait(parts, Remaining::Runs(Stage::AtSync(instance))));
                 }
                 Waits::ForLoop(looped) => {
-                    return begin_looped(parts, alloc, instance, unboxed(looped), pool);
+                    return begin_looped(parts, alloc, instance, looped, pool);
                 }
             },
+            Ok(None) => {}
+            Err(memory) => return Err(memory.into()),
+        }
+        match instance.last_value(plan, next) {
+            Ok(Some(value)) => {
+                instance.discard(&mut pool.instances);
+                return end_by_value(parts, alloc, value, pool);
+            }
             Ok(None) => {}
             Err(memory) => return Err(memory.into()),
         }
@@ -224,7 +257,7 @@ pub(crate) fn go<K: Keep>(
             ),
             Ok(MoveResult::Returned(value)) => {
                 instance.discard(&mut pool.instances);
-                return Ok(returned(parts, value));
+                return end_by_value(parts, alloc, value, pool);
             }
             Ok(MoveResult::Faulted(own)) => return Ok(faulted(parts, own)),
             Err(memory) => return Err(memory.into()),

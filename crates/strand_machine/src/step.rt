@@ -1,14 +1,18 @@
 // Moves of a task, or its stop.
-ghost use Rattle.std.specs.Prelude.{◌≡◌, ◌++◌, ◌∷◌, [], IfOk, OnOk};
+ghost use Rattle.std.specs.Prelude.{◌≡◌, ◌++◌, ◌∷◌, ◌-◌, [], IfOk};
 ghost use Rattle.serial_meaning.specs.declared.answer.Outcome.TheVariants as outcome;
-ghost use Rattle.strand_machine.specs.Made.{IsSoundMade, IsStopped, StopsSo, made, StepsOn, CanEnd, ended_move};
+ghost use Rattle.serial_meaning.specs.Laws.{IsOriginOf};
+ghost use Rattle.strand_family.specs.Origins.{loop_part};
+ghost use Rattle.strand_moves.specs.Moves.{IsTrailOf};
+ghost use Rattle.strand_machine.specs.declared.destination.Destination.TheVariants as destination;
+ghost use Rattle.strand_machine.specs.Made.{IsRun, IsSoundMade, IsSpawn, IsStopped, LeavesOutcome, StopsSo, made, StepsOn, CanEnd, done_by, ended_move, outcome_left};
 ghost use Rattle.strand_machine.specs.MoveOrStop as step;
 ghost use Rattle.strand_machine.specs.Stops.{IsStep};
-ghost use Rattle.strand_machine.specs.Tasks.{IsSound, view_of};
+ghost use Rattle.strand_machine.specs.Tasks.{IsSound, view_of, with_child};
 ghost use Rattle.strand_machine.specs.declared.remaining.Remaining.TheVariants as remaining;
 
 use crate::destination::Destination;
-use crate::leave::{faulted, pass, returned, spawn, wait};
+use crate::leave::{end, faulted, pass, returned, spawn, spawn_in_place, wait};
 use crate::memory::Memory;
 use crate::parts::Parts;
 use crate::remaining::{Left, Remaining, Stage, begun_last};
@@ -18,6 +22,8 @@ use crate::task::Task;
 use crate::task_pool::TaskPool;
 use crate::task_state::TaskState;
 use contract_views::Items;
+use dotmix::Trail;
+use loop_range::IterRange;
 use serial_meaning::{Keep, Outcome, Value};
 use std::alloc::Global;
 use std::mem;
@@ -51,7 +57,7 @@ fn split_loop<K: Keep>(
     }
     if range.len() == 0 {
         let values = parts.state.take_values(alloc);
-        return Ok(Passed::Ends(Outcome::Values(values)));
+        return Ok(end(parts, Outcome::Values(values)));
     }
     let state = &parts.state;
     let remaining = begun_last(
@@ -75,22 +81,27 @@ fn with_room(values: Items<Value>, alloc: Global, pool: &mut InstancePool) -> It
 }
 
 // A loop ends, with this value after those that were taken.
+#[inline(always)]
 fn end_loop_with<K: Keep>(
-    state: &mut TaskState<K>,
+    parts: &mut Parts<K>,
     alloc: Global,
     value: Value,
     pool: &mut TaskPool<K>,
 ) -> Result<Passed<K>, Memory>
-    ensures ends { IfOk result (λ passed. passed ≡ Passed.Ends (outcome.Values (state.old.values ++ value ∷ []))) }
-    ensures state { OnOk result (state.new ≡ record state.old { values = [] }) }
+    requires { CanEnd parts.old.state (outcome.Values (parts.old.state.values ++ value ∷ [])) }
+    ensures made { IfOk result (λ passed. made parts.new passed ≡ ended_move parts.old.state (outcome.Values (parts.old.state.values ++ value ∷ []))) }
+    ensures sound { IfOk result (IsSoundMade parts.new) }
 {
-    let mut values = with_room(state.take_values(alloc), alloc, &mut pool.instances);
+    let mut values = with_room(parts.state.take_values(alloc), alloc, &mut pool.instances);
     values.0.push(value)?;
-    Ok(Passed::Ends(Outcome::Values(values)))
+    Ok(end(parts, Outcome::Values(values)))
 }
 
 // A loop's last iteration gave this value. Where the loop began a part, it waits for that first.
-fn end_loop<K: Keep>(
+//
+// It is a call of its own, since the room for what it makes would else be cleared at each run of an instance.
+#[inline(never)]
+pub(crate) fn end_loop<K: Keep>(
     parts: &mut Parts<K>,
     alloc: Global,
     value: Value,
@@ -103,12 +114,12 @@ fn end_loop<K: Keep>(
 {
     laws::steps_are_sound();
     if has_waited {
-        return end_loop_with(&mut parts.state, alloc, value, pool);
+        return end_loop_with(parts, alloc, value, pool);
     }
     if parts.state.is_long() {
         return Ok(wait(parts, Remaining::Finished(value, false)));
     }
-    end_loop_with(&mut parts.state, alloc, value, pool)
+    end_loop_with(parts, alloc, value, pool)
 }
 
 // A move of an instance, or a stop, by its state.
@@ -129,7 +140,7 @@ pub(crate) fn run<K: Keep>(
         Stage::AtLoop(instance) => Ok(wait(parts, Remaining::Runs(Stage::AtLoop(instance)))),
         Stage::Returned(value) => Ok(returned(parts, value)),
         Stage::Faulted(own) => Ok(faulted(parts, own)),
-        Stage::ChildFaulted(fault) => Ok(Passed::Ends(Outcome::Fault(fault))),
+        Stage::ChildFaulted(fault) => Ok(end(parts, Outcome::Fault(fault))),
     }
 }
 
@@ -152,6 +163,60 @@ pub(crate) fn pass_with<K: Keep>(
     }
 }
 
+// The lower half of a loop's iterations, which was taken out, goes to a child.
+fn begin_half<K: Keep>(
+    parts: &mut Parts<K>,
+    alloc: Global,
+    range: IterRange,
+    trail: Trail,
+    pool: &mut TaskPool<K>,
+) -> Result<Passed<K>, Memory>
+    requires known { IsOriginOf parts.old.state.links.plan (loop_part parts.old.state.links.origin range) }
+    requires trail { IsTrailOf parts.old.state.links.plan (loop_part parts.old.state.links.origin range) trail }
+    requires sound { IsSound (with_child parts.old.state (loop_part parts.old.state.links.origin range) destination.Half) parts.old.remaining }
+    ensures made { IfOk result (λ passed. IsSpawn parts.old.state (loop_part parts.old.state.links.origin range) destination.Half parts.old.remaining (made parts.new passed)) }
+    ensures sound { IfOk result (IsSoundMade parts.new) }
+{
+    let origin = part_of(alloc, parts.state.links.origin(), range)?;
+    spawn_in_place(
+        parts,
+        alloc,
+        Child { origin, trail },
+        Destination::Half,
+        pool,
+    )
+}
+
+// The last iteration of a loop, which was taken out, is begun, and its instance goes on.
+fn begin_last<K: Keep>(
+    parts: &mut Parts<K>,
+    alloc: Global,
+    left: Left,
+    pool: &mut TaskPool<K>,
+) -> Result<Passed<K>, Memory>
+    requires sound { IsSound parts.old.state (remaining.Splits left) }
+    requires one { left.range.hi - left.range.lo ≡ 1 }
+    ensures step { IfOk result (λ passed. IsRun (view_of parts.old.state (remaining.Splits left)) (made parts.new passed)) }
+    ensures sound { IfOk result (IsSoundMade parts.new) }
+{
+    laws::steps_are_sound();
+    laws::moves_fall();
+    let Left { trail, .. } = left;
+    parts.state.advanced = true;
+    let state = &parts.state;
+    let mut remaining = begun_last(
+        alloc,
+        state.links.plan(),
+        state.links.origin(),
+        trail,
+        &mut pool.instances,
+    )?;
+    if let Some(instance) = remaining.take_running() {
+        return go(parts, alloc, instance, pool);
+    }
+    Ok(pass(parts, remaining))
+}
+
 // The same, by what the parts say is left. It is a call of its own, since the room for what it makes would else be cleared before each move.
 #[inline(never)]
 fn move_other<K: Keep>(
@@ -160,9 +225,16 @@ fn move_other<K: Keep>(
     pool: &mut TaskPool<K>,
 ) -> Result<Passed<K>, Memory>
     requires { IsSound parts.old.state parts.old.remaining }
-    ensures step { IfOk result (λ passed. StepsOn (view_of parts.old.state parts.old.remaining) (made parts.new passed)) }
+    ensures step { IfOk result (λ passed. IsRun (view_of parts.old.state parts.old.remaining) (made parts.new passed)) }
     ensures sound { IfOk result (IsSoundMade parts.new) }
 {
+    laws::steps_are_sound();
+    if let Some(half) = parts.remaining.take_half()? {
+        return begin_half(parts, alloc, half.0, half.1, pool);
+    }
+    if let Some(left) = parts.remaining.take_last() {
+        return begin_last(parts, alloc, left, pool);
+    }
     let remaining = mem::replace(&mut parts.remaining, Remaining::nothing());
     pass_with(parts, alloc, remaining, pool)
 }
@@ -175,7 +247,7 @@ fn move_once<K: Keep>(
     pool: &mut TaskPool<K>,
 ) -> Result<Passed<K>, Memory>
     requires { IsSound parts.old.state parts.old.remaining }
-    ensures step { IfOk result (λ passed. StepsOn (view_of parts.old.state parts.old.remaining) (made parts.new passed)) }
+    ensures step { IfOk result (λ passed. IsRun (view_of parts.old.state parts.old.remaining) (made parts.new passed)) }
     ensures sound { IfOk result (IsSoundMade parts.new) }
 {
     // most moves are those of an instance
@@ -185,19 +257,17 @@ fn move_once<K: Keep>(
     move_other(parts, alloc, pool)
 }
 
-// The end of a task: by the fault in its trace, or else by this outcome. Its box is freed.
-fn end<K: Keep>(parts: Box<Parts<K>>, outcome: Outcome) -> Stop<K>
-    requires { CanEnd parts.value.state outcome }
-    ensures { step.Stops result ≡ ended_move parts.value.state outcome }
+// The stop of a task that has ended. Its box is freed.
+fn done<K: Keep>(parts: Box<Parts<K>>) -> Stop<K>
+    requires { LeavesOutcome parts.value }
+    ensures { step.Stops result ≡ done_by parts.value.state (outcome_left parts.value.remaining) }
 {
-    let (links, prefix, fault) = Parts::end(parts);
-    let outcome = match fault {
-        Some(fault) => {
-            drop(outcome);
-            Outcome::Fault(fault)
-        }
-        None => outcome,
+    let Parts { state, remaining } = Box::into_inner(parts);
+    let Remaining::Ends(outcome) = remaining else {
+        unreachable!()
     };
+    let TaskState { links, trace, .. } = state;
+    let (prefix, _) = trace.prefix();
     let (answer, give) = links.answer(prefix, outcome);
     Stop::Done { answer, give }
 }
@@ -240,6 +310,6 @@ pub(crate) fn to_stop<K: Keep>(parts: Box<Parts<K>>, passed: Passed<K>) -> Stop<
             child,
             rest: Task { parts },
         },
-        Passed::Ends(outcome) => end(parts, outcome),
+        Passed::Ends => done(parts),
     }
 }

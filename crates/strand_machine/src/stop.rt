@@ -1,6 +1,6 @@
 use crate::task::Task;
 use meet_block::Give;
-use serial_meaning::{All, Answer, Keep, Outcome};
+use serial_meaning::{All, Answer, Keep};
 
 /// Where a task stopped.
 #[derive(Drop)]
@@ -42,8 +42,8 @@ pub(crate) enum Passed<K: Keep> {
     Waits,
     // It began a child.
     Spawned(Task<K>),
-    // It ends by the fault in its trace, or else by this outcome.
-    Ends(Outcome),
+    // It has ended, by the outcome that is what remains of it.
+    Ends,
 }
 
 /// What became of a wait.

@@ -79,7 +79,7 @@ impl<K: Keep> TaskPool<K> {
                 drop(path);
                 self.instances.keep_values(args);
             }
-            origin => drop(origin),
+            Origin::Loop { rest, path, .. } => drop((rest, path)),
         }
     }
 }

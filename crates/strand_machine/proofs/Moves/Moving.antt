@@ -34,7 +34,7 @@ use Rattle.strand_machine.specs.AwaitedChildren.{awaited, destination_of}
 use Rattle.strand_machine.specs.Effects.{task_after_effects, HasSoundEffects}
 use Rattle.strand_machine.specs.Made.{IsRun, IsSpawn, LeadsTo}
 use Rattle.strand_machine.specs.Stops.{IsStep, KeepsLinksInStep, step_of}
-use Rattle.strand_machine.specs.Tasks.{TaskView, task_of, view_of, fresh, cut_of, AwaitsLast, RunsAt, IsSound, gone, waiting, with_child}
+use Rattle.strand_machine.specs.Tasks.{TaskView, task_of, view_of, fresh, cut_of, AwaitsLast, RemainsAt, RunsAt, IsSound, gone, waiting, with_child}
 use Rattle.strand_machine.specs.declared.task_state.TaskState.{TaskState}
 use Rattle.strand_machine.specs.declared.destination.Destination.{Destination}
 use Rattle.strand_machine.specs.declared.destination.Destination.TheVariants as destination
@@ -206,6 +206,18 @@ pub record IsOnRun {K : Type 0} (first : TaskView) (b : TaskState K) (i : RawIns
   pub sound : IsSound b (remaining.Runs (stage.Running i))
   pub leads : LeadsTo first (view_of b (remaining.Runs (stage.Running i)))
 
+-- A move, and then moves in a row
+pub pass-run : {K : Type 0} → MovesFall → (b : TaskState K) (w next : Remaining) → cut_of w ≡ None → RemainsAt b.links.plan b.links.origin next → meaning.step (task_of b w) ≡ meaning.Passes (task_of (gone b) next) →
+    (r : MadeStep K) → IsRun (view_of (gone b) next) r → IsRun (view_of b w) r
+pass-run fall b w next goes at e r h =
+    let first = view_of b w in
+    let now = view_of (gone b) next in
+    record {
+      before = h.before;
+      leads = leads-over first now h.before (leads-on fall first first now (step-in.Passes now) (leads-start first goes) (pass-is b w next (step-in.Passes now) at e refl) refl) h.leads;
+      step = h.step;
+    }
+
 -- A move
 
 module _ {K : Type 0} (b : TaskState K) (i next : RawInstance) (plan : PlanView) (m : MoveResult) (p : plan ≡ b.links.plan) (e : move plan (moves.path_of i) (moves.machine_of plan i) ≡ run_of m (moves.machine_of plan next)) (h : IsSound b (remaining.Runs (stage.Running i))) where
@@ -292,12 +304,14 @@ module _ {K : Type 0} (b : TaskState K) (i next : RawInstance) (plan : PlanView)
   }
 
   pub gives-run : MovesFall → (first : TaskView) → LeadsTo first (view_of b (remaining.Runs (stage.Running i))) → (v : Value) → m ≡ move_result-in.Returned v →
-      (r : MadeStep K) → IsStep (view_of (gone b) (remaining.Runs (stage.Returned v))) r → IsRun first r
-  gives-run fall first leads v is r e = record {
-    before = view_of (gone b) (remaining.Runs (stage.Returned v));
-    leads = leads-on fall first _ _ _ leads (returned-is v (step-in.Passes (view_of (gone b) (remaining.Runs (stage.Returned v)))) is refl) refl;
-    step = e;
-  }
+      (r : MadeStep K) → IsRun (view_of (gone b) (remaining.Runs (stage.Returned v))) r → IsRun first r
+  gives-run fall first leads v is r e =
+      let now = view_of (gone b) (remaining.Runs (stage.Returned v)) in
+      record {
+        before = e.before;
+        leads = leads-over first now e.before (leads-on fall first _ now _ leads (returned-is v (step-in.Passes now) is refl) refl) e.leads;
+        step = e.step;
+      }
 
   pub faults-run : MovesFall → (first : TaskView) → LeadsTo first (view_of b (remaining.Runs (stage.Running i))) → (f : Fault) → m ≡ move_result-in.Faulted f →
       (r : MadeStep K) → IsStep (view_of (gone b) (remaining.Runs (stage.Faulted f))) r → IsRun first r

@@ -160,10 +160,10 @@ stops-there law first now s stop sound h g e =
 
 -- What a call that makes moves in a row leads to
 
-one-step : {K : Type 0} (now : TaskView) (s : MadeStep K) → now.cut ≡ None → IsStep now s → IsRun now s
+pub one-step : {K : Type 0} (now : TaskView) (s : MadeStep K) → now.cut ≡ None → IsStep now s → IsRun now s
 one-step now s goes g = record { before = now; leads = leads-start now goes; step = g }
 
-runs : {K : Type 0} (now : TaskView) (s : MadeStep K) → now.cut ≡ None → StepsOn now s → IsRun now s
+pub runs : {K : Type 0} (now : TaskView) (s : MadeStep K) → now.cut ≡ None → StepsOn now s → IsRun now s
 runs now s goes g = by_remaining now.task.remaining g
   where
     by_stage : (stage : meaning.Stage) → stage_goes_on stage now s → IsRun now s
@@ -177,19 +177,16 @@ runs now s goes g = by_remaining now.task.remaining g
     by_remaining (meaning.Runs stage) h = by_stage stage h
     by_remaining (meaning.Finished v has_waited) h = one-step now s goes h
 
-pub run-leads : {K : Type 0} → MovesFall → (first now next : TaskView) (s : MadeStep K) → LeadsTo first now → StepsOn now s → s ≡ step-in.Passes next → LeadsTo first next
-run-leads law first now next s h g e =
-    let r = runs now s h.cut g in leads-on law first r.before next s (leads-over first now r.before h r.leads) r.step e
+pub run-leads : {K : Type 0} → MovesFall → (first now next : TaskView) (s : MadeStep K) → LeadsTo first now → IsRun now s → s ≡ step-in.Passes next → LeadsTo first next
+run-leads law first now next s h r e = leads-on law first r.before next s (leads-over first now r.before h r.leads) r.step e
 
-pub run-falls : {K : Type 0} → MovesFall → (now next : TaskView) (s : MadeStep K) → now.cut ≡ None → StepsOn now s → s ≡ step-in.Passes next → moves_left next.task < moves_left now.task
-run-falls law now next s goes g e =
-    let r = runs now s goes g in
+pub run-falls : {K : Type 0} → MovesFall → (now next : TaskView) (s : MadeStep K) → IsRun now s → s ≡ step-in.Passes next → moves_left next.task < moves_left now.task
+run-falls law now next s r e =
     let last : moves_left next.task < moves_left r.before.task = falls law r.before next s r.step e in
     omega (arith, last, r.leads.fewer)
 
-pub run-stops : {K : Type 0} → StopsAreSound → (first now : TaskView) (s : MadeStep K) (stop : MadeStop K) → IsTask first.task → LeadsTo first now → StepsOn now s → s ≡ step-in.Stops stop → IsStop first stop
-run-stops law first now s stop sound h g e =
-    let r = runs now s h.cut g in stops-there law first r.before s stop sound (leads-over first now r.before h r.leads) r.step e
+pub run-stops : {K : Type 0} → StopsAreSound → (first now : TaskView) (s : MadeStep K) (stop : MadeStop K) → IsTask first.task → LeadsTo first now → IsRun now s → s ≡ step-in.Stops stop → IsStop first stop
+run-stops law first now s stop sound h r e = stops-there law first r.before s stop sound (leads-over first now r.before h r.leads) r.step e
 
 -- what holds of a task by its type, where it took no cut
 pub holds-sound : {K : Type 0} (b : TaskState K) (w : Remaining) → cut_of w ≡ None → HoldsOfTask b w → IsSound b w

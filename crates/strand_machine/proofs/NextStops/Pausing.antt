@@ -8,10 +8,10 @@ use Rattle.strand_meaning.specs.Cuts.{IsByFaultOf}
 use Rattle.strand_meaning.specs.Laws.{IsFaultOf}
 use Rattle.meet_block.specs.Gives.{give_of}
 use Rattle.serial_meaning.specs.declared.origin.Origin.{Origin}
-use Rattle.strand_machine.specs.Links.{LinksView, GiveView, tag, task_give}
-use Rattle.strand_machine.specs.Made.{KeepsAnswer, KnowsEnd, PausesAs, StopsSo, made}
+use Rattle.strand_machine.specs.Links.{GiveView, tag, task_give}
+use Rattle.strand_machine.specs.Made.{IsSoundMade, KeepsAnswer, KnowsEnd, PausesAs, StopsSo, made, outcome_left}
 use Rattle.strand_machine.specs.Stops.{Advances, HasEnded, IsCutEnd, IsStop, Pauses}
-use Rattle.strand_machine.specs.Tasks.{HoldsOfTask, TaskView, cut_of, ended_by, has_outcome, view_of}
+use Rattle.strand_machine.specs.Tasks.{HoldsOfTask, TaskView, cut_of, has_outcome, view_of}
 use Rattle.strand_machine.specs.declared.task_state.TaskState.{TaskState}
 use Rattle.strand_machine.specs.declared.parts.Parts.{Parts}
 use Rattle.strand_machine.specs.MoveOrStop.{MoveOrStop}
@@ -24,6 +24,7 @@ use Rattle.strand_machine.specs.declared.stop.Stop.{Stop}
 use Rattle.strand_machine.specs.declared.stop.Stop.TheVariants as stop-in
 use Rattle.strand_machine.specs.declared.remaining.Remaining.{Remaining}
 use Rattle.strand_machine.specs.declared.remaining.Remaining.TheVariants as remaining
+use Rattle.strand_machine.proofs.Moves.Making.{leaves-outcome}
 use Rattle.strand_machine.proofs.NextStops.Advancing.{advances-uncut}
 
 by-fault : (plan : PlanView) (o : Outcome) → IsFaultOf plan o → IsByFaultOf plan o
@@ -37,8 +38,8 @@ pub knows-end : {K : Type 0} (t : TaskView) (p : Parts K) (passed : Passed K) �
 knows-end t p passed-in.Continues h = tt
 knows-end t p passed-in.Waits h = tt
 knows-end t p (passed-in.Spawned child) h = tt
-knows-end t p (passed-in.Ends o) h =
-    let ended = ended_by p.state.trace.fault o in by-fault p.state.links.plan ended (subst (λ (plan : PlanView). IsFaultOf plan ended) (sym h.keeps.0) h.known)
+knows-end t p passed-in.Ends h =
+    let ended = outcome_left p.remaining in by-fault p.state.links.plan ended (subst (λ (plan : PlanView). IsFaultOf plan ended) (sym h.keeps.0) h.known)
 
 kept-end : {K : Type 0} (t rest : TaskView) (a : AnswerView) (give : GiveView AnswerTag) → IsStop {K = K} t (stop-in.Done a give) → KeepsAnswer {K = K} a give (paused-in.Ended rest) → HasEnded K t rest
 kept-end {K} t rest a give h k =
@@ -66,17 +67,17 @@ waits-as p passed is = subst (λ (x : Passed _). PausesAs (made p x) (paused-in.
 pub spawns-as : {K : Type 0} (p : Parts K) (passed : Passed K) (child : TaskView) → passed ≡ passed-in.Spawned child → PausesAs (made p passed) (paused-in.Spawn child (view_of p.state p.remaining))
 spawns-as p passed child is = subst (λ (x : Passed _). PausesAs (made p x) (paused-in.Spawn child (view_of p.state p.remaining))) (sym is) refl
 
-pub knows-at : {K : Type 0} (p : Parts K) (passed : Passed K) (o : Outcome) → passed ≡ passed-in.Ends o → KnowsEnd p passed → IsByFaultOf p.state.links.plan (ended_by p.state.trace.fault o)
-knows-at p passed o is h = subst (KnowsEnd p) is h
-
-pub keeps-end : {K : Type 0} (p new : Parts K) (passed : Passed K) (o : Outcome) → passed ≡ passed-in.Ends o → new.remaining ≡ remaining.Ends (ended_by p.state.trace.fault o) → new.state.links ≡ p.state.links → new.state.trace.prefix ≡ p.state.trace.prefix →
-    PausesAs (made p passed) (paused-in.Ended (view_of new.state new.remaining))
-keeps-end p new passed o is ends links prefix =
-    subst (λ (x : Passed _). PausesAs (made p x) (paused-in.Ended (view_of new.state new.remaining))) (sym is)
-    (ap (λ (f : LinksView). f.plan) links, ap (λ (f : LinksView). f.origin) links, prefix, ap cut_of ends, ap (λ (f : LinksView). f.joins.parents) links)
-
 pub holds-end : {K : Type 0} (b : TaskState K) (ended : Outcome) (w : Remaining) → w ≡ remaining.Ends ended → IsAnswer b.links.plan b.links.origin b.trace.prefix ended → IsByFaultOf b.links.plan ended → b.waiting ≡ false → HoldsOfTask b w
 holds-end b ended w is answers known waits = subst (HoldsOfTask b) (sym is) (record { answers = answers; known = known; waits = waits })
+
+pub ended-holds : {K : Type 0} (p : Parts K) (passed : Passed K) → passed ≡ passed-in.Ends → IsSoundMade p passed → KnowsEnd p passed → HoldsOfTask p.state p.remaining
+ended-holds p passed is sound known =
+    let left = leaves-outcome p passed is sound in holds-end p.state (outcome_left p.remaining) p.remaining left.is left.answers (subst (KnowsEnd p) is known) left.waits
+
+pub ends-as : {K : Type 0} (p : Parts K) (passed : Passed K) → passed ≡ passed-in.Ends → IsSoundMade p passed → PausesAs (made p passed) (paused-in.Ended (view_of p.state p.remaining))
+ends-as p passed is sound =
+    let left = leaves-outcome p passed is sound in
+    subst (λ (x : Passed _). PausesAs (made p x) (paused-in.Ended (view_of p.state p.remaining))) (sym is) (refl, refl, refl, ap cut_of left.is, refl)
 
 -- What the code makes of it is its pause.
 pub pauses : {K : Type 0} (t : TaskView) (m : MoveOrStop K) (p : Paused K) → StopsSo t m → PausesAs m p → Pauses t p

@@ -1,4 +1,4 @@
-use Rattle.std.proofs.Common.{refl, sym, ◌∙◌}
+use Rattle.std.proofs.Common.{sym, ◌∙◌}
 use Rattle.std.proofs.lemmas.Bool.{true≢false}
 use Rattle.serial_meaning.specs.declared.answer.Outcome.TheVariants as outcome
 use Rattle.strand_machine.specs.declared.remaining.Stage.TheVariants as stage
@@ -10,10 +10,10 @@ pub returns-then-awaits_none-clause-step : goal.returns-then-awaits_none-clause-
 returns-then-awaits_none-clause-step g c =
     let b = c.args.parts.now.state in
     let f = c.args.fault in
-    end-is b (remaining.Runs (stage.Faulted f)) (outcome.Fault f) _ (fault-alone b f (c.awaits_none.ensures.0 c.if-awaits_none.true)) refl
+    end-is b (remaining.Runs (stage.Faulted f)) (outcome.Fault f) _ (fault-alone b f (c.awaits_none.ensures.0 c.if-awaits_none.true)) c.end.ensures.made
 
-pub returns-then-awaits_none-clause-sound : goal.returns-then-awaits_none-clause-sound
-returns-then-awaits_none-clause-sound g c =
+pub end-requires : goal.end-requires
+end-requires g c =
     let b = c.args.parts.now.state in
     let f = c.args.fault in
     end-answers c.steps_are_sound.ensures b (remaining.Runs (stage.Faulted f)) (outcome.Fault f) c.requires (fault-alone b f (c.awaits_none.ensures.0 c.if-awaits_none.true))

@@ -1,4 +1,4 @@
-use Rattle.std.proofs.Common.{false, refl, sym, ◌∙◌}
+use Rattle.std.proofs.Common.{false, sym, ◌∙◌}
 use Rattle.serial_meaning.specs.declared.answer.Outcome.TheVariants as outcome
 use Rattle.strand_machine.specs.declared.remaining.Stage.TheVariants as stage
 use Rattle.strand_machine.specs.declared.remaining.Remaining.TheVariants as remaining
@@ -9,10 +9,10 @@ pub returns-in-Instance-clause-step : goal.returns-in-Instance-clause-step
 returns-in-Instance-clause-step g c =
     let b = c.args.parts.now.state in
     let v = c.args.value in
-    end-is b (remaining.Runs (stage.Returned v)) (outcome.Value v) _ (give-instance b v _ _ _ (sym c.origin.ensures ∙ c.in-Instance.is)) refl
+    end-is b (remaining.Runs (stage.Returned v)) (outcome.Value v) _ (give-instance b v _ _ _ (sym c.origin.ensures ∙ c.in-Instance.is)) c.end.ensures.made
 
-pub returns-in-Instance-clause-sound : goal.returns-in-Instance-clause-sound
-returns-in-Instance-clause-sound g c =
+pub end-requires : goal.end-requires
+end-requires g c =
     let b = c.args.parts.now.state in
     let v = c.args.value in
     end-answers c.steps_are_sound.ensures b (remaining.Runs (stage.Returned v)) (outcome.Value v) c.requires (give-instance b v _ _ _ (sym c.origin.ensures ∙ c.in-Instance.is))

@@ -2,7 +2,6 @@ use Rattle.std.proofs.Common.{◌≡◌, ◌∙◌, ap, refl, sym}
 use Rattle.strand_meaning.specs.Task.{stops_at, child_in}
 use Rattle.strand_moves.specs.Moves.{effects_of}
 use Rattle.strand_moves.specs.declared.effects.Effects.TheVariants as effect
-use Rattle.strand_moves.specs.declared.effects.LoopedChild.{LoopedChild}
 use Rattle.strand_moves.specs.declared.effects.SpawnedChild.{SpawnedChild}
 use Rattle.strand_machine.specs.Effects.{task_after_effects}
 use Rattle.strand_machine.specs.Made.{IsSpawn, made}
@@ -98,32 +97,32 @@ returns-in-Spawned-clause-keeps g c =
 
 pub begin_looped-requires-clause-known : goal.begin_looped-requires-clause-known
 begin_looped-requires-clause-known g c =
-    looped-known c.args.parts.now.state c.args.instance c.args.effects c.in-Looped.event c.unboxed-in-Looped.result (c.in-Looped.is ∙ ap (λ (o : LoopedChild). effect.Looped c.in-Looped.event o) (sym c.unboxed-in-Looped.ensures)) c.requires
+    looped-known c.args.parts.now.state c.args.instance c.args.effects c.in-Looped.event c.in-Looped.looped c.in-Looped.is c.requires
 
 pub begin_looped-requires-clause-trail : goal.begin_looped-requires-clause-trail
 begin_looped-requires-clause-trail g c =
-    looped-trail c.args.parts.now.state c.args.instance c.args.effects c.in-Looped.event c.unboxed-in-Looped.result (c.in-Looped.is ∙ ap (λ (o : LoopedChild). effect.Looped c.in-Looped.event o) (sym c.unboxed-in-Looped.ensures)) c.requires
+    looped-trail c.args.parts.now.state c.args.instance c.args.effects c.in-Looped.event c.in-Looped.looped c.in-Looped.is c.requires
 
 pub begin_looped-requires-clause-sound : goal.begin_looped-requires-clause-sound
 begin_looped-requires-clause-sound g c =
-    looped-sound c.args.parts.now.state c.args.instance c.args.effects c.in-Looped.event c.unboxed-in-Looped.result c.emit-in-Looped.new.self (c.in-Looped.is ∙ ap (λ (o : LoopedChild). effect.Looped c.in-Looped.event o) (sym c.unboxed-in-Looped.ensures)) c.in_ok-emit-in-Looped.ensures c.requires
+    looped-sound c.args.parts.now.state c.args.instance c.args.effects c.in-Looped.event c.in-Looped.looped c.emit-in-Looped.new.self c.in-Looped.is c.in_ok-emit-in-Looped.ensures c.requires
 
 pub returns-clause-step : goal.returns-clause-step
 returns-clause-step g c =
     let b = c.args.parts.now.state in
     let i = c.args.instance in
-    let o = c.unboxed-in-Looped.result in
+    let o = c.in-Looped.looped in
     let p = c.emit-in-Looped.new.self in
     made-ok c.begin_looped.new.parts c.begin_looped.result
     (IsSpawn (with_trace b p) o.child.origin (destination.Looped o.target) (remaining.Runs (stage.AtLoop i)))
     (λ (r : MoveOrStop _). step_of r ≡ stops_at (child_in (effects_of c.args.effects)) (task_after_effects b i c.args.effects))
-    (λ r h. looped-step b i c.args.effects c.in-Looped.event o p r (c.in-Looped.is ∙ ap (λ (o : LoopedChild). effect.Looped c.in-Looped.event o) (sym c.unboxed-in-Looped.ensures)) c.in_ok-emit-in-Looped.ensures h) c.begin_looped.ensures.made
+    (λ r h. looped-step b i c.args.effects c.in-Looped.event o p r c.in-Looped.is c.in_ok-emit-in-Looped.ensures h) c.begin_looped.ensures.made
 
 pub returns-clause-keeps : goal.returns-clause-keeps
 returns-clause-keeps g c =
     let b = c.args.parts.now.state in
     let i = c.args.instance in
-    let o = c.unboxed-in-Looped.result in
+    let o = c.in-Looped.looped in
     let p = c.emit-in-Looped.new.self in
     let at = destination.Looped o.target in
     made-ok c.begin_looped.new.parts c.begin_looped.result

@@ -1,11 +1,10 @@
-use Rattle.std.proofs.Common.{◌≡◌, ◌∙◌, refl, sym, ap, arith}
+use Rattle.std.proofs.Common.{◌≡◌, ◌∙◌, refl, arith}
 use Rattle.strand_meaning.specs.Task.{child_in, stops_at}
 use Rattle.strand_moves.specs.Moves.{effects_of}
 use Rattle.strand_moves.specs.declared.effects.Effects.TheVariants as effect
 use Rattle.strand_moves.specs.declared.effects.MoveResult.TheVariants as move_result
-use Rattle.strand_moves.specs.declared.effects.Waits.TheVariants as waits
 use Rattle.strand_machine.specs.Effects.{task_after_effects}
-use Rattle.strand_machine.specs.Made.{IsSpawn, made}
+use Rattle.strand_machine.specs.Made.{IsRun, IsSpawn, made}
 use Rattle.strand_machine.specs.Stops.{KeepsLinksInStep, step_of}
 use Rattle.strand_machine.specs.Tasks.{gone, view_of}
 use Rattle.strand_machine.specs.declared.destination.Destination.TheVariants as destination
@@ -156,8 +155,8 @@ returns-in-ForChildren-clause-step g c =
 
 pub begin_looped-requires-clause-known : goal.begin_looped-requires-clause-known
 begin_looped-requires-clause-known g c =
-    let o = c.unboxed.result in
-    let is = c.in-ForLoop.is ∙ ap waits.ForLoop (sym c.unboxed.ensures) in
+    let o = c.in-ForLoop.looped in
+    let is = c.in-ForLoop.is in
     let did = rw c.in-Ok-None.field-0-is at c.in-Ok-None.ensures.did in
     let given = c.in-Ok-Some-wait_next.ensures in
     let moved = rw (c.in-Ok-Some-wait_next.field-0-is, is) at given.did in
@@ -171,8 +170,8 @@ begin_looped-requires-clause-known g c =
 
 pub begin_looped-requires-clause-trail : goal.begin_looped-requires-clause-trail
 begin_looped-requires-clause-trail g c =
-    let o = c.unboxed.result in
-    let is = c.in-ForLoop.is ∙ ap waits.ForLoop (sym c.unboxed.ensures) in
+    let o = c.in-ForLoop.looped in
+    let is = c.in-ForLoop.is in
     let did = rw c.in-Ok-None.field-0-is at c.in-Ok-None.ensures.did in
     let given = c.in-Ok-Some-wait_next.ensures in
     let moved = rw (c.in-Ok-Some-wait_next.field-0-is, is) at given.did in
@@ -186,8 +185,8 @@ begin_looped-requires-clause-trail g c =
 
 pub begin_looped-requires-clause-sound : goal.begin_looped-requires-clause-sound
 begin_looped-requires-clause-sound g c =
-    let o = c.unboxed.result in
-    let is = c.in-ForLoop.is ∙ ap waits.ForLoop (sym c.unboxed.ensures) in
+    let o = c.in-ForLoop.looped in
+    let is = c.in-ForLoop.is in
     let did = rw c.in-Ok-None.field-0-is at c.in-Ok-None.ensures.did in
     let given = c.in-Ok-Some-wait_next.ensures in
     let moved = rw (c.in-Ok-Some-wait_next.field-0-is, is) at given.did in
@@ -201,8 +200,8 @@ begin_looped-requires-clause-sound g c =
 
 pub returns-in-ForLoop-clause-step : goal.returns-in-ForLoop-clause-step
 returns-in-ForLoop-clause-step g c =
-    let o = c.unboxed.result in
-    let is = c.in-ForLoop.is ∙ ap waits.ForLoop (sym c.unboxed.ensures) in
+    let o = c.in-ForLoop.looped in
+    let is = c.in-ForLoop.is in
     let did = rw c.in-Ok-None.field-0-is at c.in-Ok-None.ensures.did in
     let given = c.in-Ok-Some-wait_next.ensures in
     let moved = rw (c.in-Ok-Some-wait_next.field-0-is, is) at given.did in
@@ -221,6 +220,45 @@ returns-in-ForLoop-clause-step g c =
     let keeps = made-ok c.begin_looped.new.parts c.begin_looped.result (IsSpawn (with_trace b p) o.child.origin at to) (KeepsLinksInStep (view_of b from)) (λ r h. spawns-keep b p from to o.child.origin at r refl h) c.begin_looped.ensures.made in
     run-is-ok _ b k.before k.runs (made c.begin_looped.new.parts) c.begin_looped.result
     (moved-is b k.before i _ m c.plan-plan.ensures k.last k.runs.sound (made c.begin_looped.new.parts) shows c.begin_looped.result refl steps keeps)
+
+-- an end by a value
+
+pub last_value-requires-clause-sound : goal.last_value-requires-clause-sound
+last_value-requires-clause-sound g c =
+    let did = rw c.in-Ok-None.field-0-is at c.in-Ok-None.ensures.did in
+    let also = rw c.in-Ok-None-wait_next.field-0-is at c.in-Ok-None-wait_next.ensures.did in
+    came-sound c.steps_are_sound.ensures c.moves_fall.ensures c.plan-plan.result.now _ c.loop-next.parts.state c.loop-next.instance c.plan-plan.ensures c.loop-next.invariant c.straight_run.new.self c.straight_run.new.sink _ c.in-Ok.ensures c.wait_next.new.instance (also.0 ∙ did.0)
+
+pub last_value-requires-clause-passed : goal.last_value-requires-clause-passed
+last_value-requires-clause-passed g c =
+    let did = rw c.in-Ok-None.field-0-is at c.in-Ok-None.ensures.did in
+    let also = rw c.in-Ok-None-wait_next.field-0-is at c.in-Ok-None-wait_next.ensures.did in
+    came-has c.steps_are_sound.ensures c.moves_fall.ensures c.plan-plan.result.now _ c.loop-next.parts.state c.loop-next.instance c.plan-plan.ensures c.loop-next.invariant c.straight_run.new.self c.straight_run.new.sink _ c.in-Ok.ensures c.wait_next.new.instance (also.0 ∙ did.0) _ refl
+
+pub end_by_value-requires : goal.end_by_value-requires
+end_by_value-requires g c =
+    let did = rw c.in-Ok-None.field-0-is at c.in-Ok-None.ensures.did in
+    let also = rw c.in-Ok-None-wait_next.field-0-is at c.in-Ok-None-wait_next.ensures.did in
+    let came = comes-heard c.plan-plan.result.now c.loop-next.instance c.loop-next.parts.state.trace c.straight_run.new.self c.straight_run.new.sink c.wait_next.new.trace _ (also.1 ∙ did.1) c.in-Ok.ensures in
+    let sound = came-sound c.steps_are_sound.ensures c.moves_fall.ensures c.plan-plan.result.now _ c.loop-next.parts.state c.loop-next.instance c.plan-plan.ensures c.loop-next.invariant c.straight_run.new.self c.straight_run.new.sink _ c.in-Ok.ensures c.wait_next.new.instance (also.0 ∙ did.0) in
+    let given = c.in-Ok-Some-last_value in
+    let m = move_result.Returned given.value in
+    let k = one-more c.steps_are_sound.ensures c.moves_fall.ensures c.plan-plan.result.now _ c.loop-next.parts.state c.loop-next.instance c.plan-plan.ensures c.loop-next.invariant c.straight_run.new.self c.wait_next.new.trace _ came c.wait_next.new.instance (also.0 ∙ did.0) _ refl c.wait_next.new.instance m (rw given.field-0-is at given.ensures) refl sound in
+    returned-sound (gone (with_trace c.loop-next.parts.state c.wait_next.new.trace)) k.before c.wait_next.new.instance _ m c.plan-plan.ensures k.last k.runs.sound c.steps_are_sound.ensures given.value refl
+
+pub returns-in-Ok-Some-last_value-clause-step : goal.returns-in-Ok-Some-last_value-clause-step
+returns-in-Ok-Some-last_value-clause-step g c =
+    let did = rw c.in-Ok-None.field-0-is at c.in-Ok-None.ensures.did in
+    let also = rw c.in-Ok-None-wait_next.field-0-is at c.in-Ok-None-wait_next.ensures.did in
+    let came = comes-heard c.plan-plan.result.now c.loop-next.instance c.loop-next.parts.state.trace c.straight_run.new.self c.straight_run.new.sink c.wait_next.new.trace _ (also.1 ∙ did.1) c.in-Ok.ensures in
+    let sound = came-sound c.steps_are_sound.ensures c.moves_fall.ensures c.plan-plan.result.now _ c.loop-next.parts.state c.loop-next.instance c.plan-plan.ensures c.loop-next.invariant c.straight_run.new.self c.straight_run.new.sink _ c.in-Ok.ensures c.wait_next.new.instance (also.0 ∙ did.0) in
+    let given = c.in-Ok-Some-last_value in
+    let m = move_result.Returned given.value in
+    let k = one-more c.steps_are_sound.ensures c.moves_fall.ensures c.plan-plan.result.now _ c.loop-next.parts.state c.loop-next.instance c.plan-plan.ensures c.loop-next.invariant c.straight_run.new.self c.wait_next.new.trace _ came c.wait_next.new.instance (also.0 ∙ did.0) _ refl c.wait_next.new.instance m (rw given.field-0-is at given.ensures) refl sound in
+    let b = gone (with_trace c.loop-next.parts.state c.wait_next.new.trace) in
+    made-ok c.end_by_value.new.parts c.end_by_value.result (IsRun (view_of (gone b) (remaining.Runs (stage.Returned given.value)))) (IsRun _)
+    (λ s h. gives-run b k.before c.wait_next.new.instance _ m c.plan-plan.ensures k.last k.runs.sound c.moves_fall.ensures _ k.runs.leads given.value refl s h)
+    c.end_by_value.ensures.step
 
 -- another move
 
@@ -245,8 +283,8 @@ apply_effects-requires g c =
     let k = one-more c.steps_are_sound.ensures c.moves_fall.ensures c.plan-plan.result.now _ c.loop-next.parts.state c.loop-next.instance c.plan-plan.ensures c.loop-next.invariant c.straight_run.new.self c.wait_next.new.trace _ came c.wait_next.new.instance (also.0 ∙ did.0) _ refl c.make.new.self _ m.moves m.path m.sound in
     moved-sound (gone (with_trace c.loop-next.parts.state c.wait_next.new.trace)) k.before c.make.new.self _ _ c.plan-plan.ensures k.last k.runs.sound c.steps_are_sound.ensures c.in-Ok-Moved.effects c.in-Ok-Moved.field-0-is k.path k.sound m.child
 
-pub returned-requires : goal.returned-requires
-returned-requires g c =
+pub end_by_value-requires-in-Ok-Returned : goal.end_by_value-requires-in-Ok-Returned
+end_by_value-requires-in-Ok-Returned g c =
     let m = c.in-Ok-Returned.ensures in
     let did = rw c.in-Ok-None.field-0-is at c.in-Ok-None.ensures.did in
     let also = rw c.in-Ok-None-wait_next.field-0-is at c.in-Ok-None-wait_next.ensures.did in
@@ -281,7 +319,10 @@ returns-in-Ok-Returned-clause-step g c =
     let also = rw c.in-Ok-None-wait_next.field-0-is at c.in-Ok-None-wait_next.ensures.did in
     let came = comes-heard c.plan-plan.result.now c.loop-next.instance c.loop-next.parts.state.trace c.straight_run.new.self c.straight_run.new.sink c.wait_next.new.trace _ (also.1 ∙ did.1) c.in-Ok.ensures in
     let k = one-more c.steps_are_sound.ensures c.moves_fall.ensures c.plan-plan.result.now _ c.loop-next.parts.state c.loop-next.instance c.plan-plan.ensures c.loop-next.invariant c.straight_run.new.self c.wait_next.new.trace _ came c.wait_next.new.instance (also.0 ∙ did.0) _ refl c.make.new.self _ m.moves m.path m.sound in
-    gives-run (gone (with_trace c.loop-next.parts.state c.wait_next.new.trace)) k.before c.make.new.self _ _ c.plan-plan.ensures k.last k.runs.sound c.moves_fall.ensures _ k.runs.leads c.in-Ok-Returned.value c.in-Ok-Returned.field-0-is _ c.returned.ensures.step
+    let b = gone (with_trace c.loop-next.parts.state c.wait_next.new.trace) in
+    made-ok c.end_by_value-in-Ok-Returned.new.parts c.end_by_value-in-Ok-Returned.result (IsRun (view_of (gone b) (remaining.Runs (stage.Returned c.in-Ok-Returned.value)))) (IsRun _)
+    (λ s h. gives-run b k.before c.make.new.self _ _ c.plan-plan.ensures k.last k.runs.sound c.moves_fall.ensures _ k.runs.leads c.in-Ok-Returned.value c.in-Ok-Returned.field-0-is s h)
+    c.end_by_value-in-Ok-Returned.ensures.step
 
 pub returns-in-Ok-Faulted-clause-step : goal.returns-in-Ok-Faulted-clause-step
 returns-in-Ok-Faulted-clause-step g c =

@@ -1,4 +1,4 @@
-use Rattle.std.proofs.Common.{IfOk, refl, sym, subst}
+use Rattle.std.proofs.Common.{IfOk, sym, subst}
 use Rattle.strand_machine.specs.Made.{made, StepsOn}
 use Rattle.strand_machine.specs.Tasks.{view_of}
 use Rattle.strand_machine.specs.declared.remaining.Stage.{Stage}
@@ -39,7 +39,7 @@ pub returns-in-Faulted-clause-step : goal.returns-in-Faulted-clause-step
 returns-in-Faulted-clause-step g c = stage-is c.args.parts.now.state c.args.stage (stage.Faulted c.in-Faulted.own) _ c.in-Faulted.is c.faulted.ensures.step
 
 pub returns-in-ChildFaulted-clause-step : goal.returns-in-ChildFaulted-clause-step
-returns-in-ChildFaulted-clause-step g c = child_fault-is c.args.parts.now.state c.args.stage c.in-ChildFaulted.fault _ c.in-ChildFaulted.is refl
+returns-in-ChildFaulted-clause-step g c = child_fault-is c.args.parts.now.state c.args.stage c.in-ChildFaulted.fault _ c.in-ChildFaulted.is c.end.ensures.made
 
-pub returns-in-ChildFaulted-clause-sound : goal.returns-in-ChildFaulted-clause-sound
-returns-in-ChildFaulted-clause-sound g c = child_fault-ends c.steps_are_sound.ensures c.args.parts.now.state c.args.stage c.in-ChildFaulted.fault c.in-ChildFaulted.is c.requires
+pub end-requires : goal.end-requires
+end-requires g c = child_fault-ends c.steps_are_sound.ensures c.args.parts.now.state c.args.stage c.in-ChildFaulted.fault c.in-ChildFaulted.is c.requires

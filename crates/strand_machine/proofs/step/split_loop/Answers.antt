@@ -1,4 +1,4 @@
-use Rattle.std.proofs.Common.{◌≡◌, ◌-◌, refl, sym, ap, ◌∙◌}
+use Rattle.std.proofs.Common.{◌≡◌, ◌-◌, sym, ap, ◌∙◌}
 use Rattle.serial_meaning.specs.declared.origin.Origin.{Origin}
 use Rattle.serial_meaning.specs.declared.answer.Outcome.TheVariants as outcome
 use Rattle.strand_family.specs.Origins.{loop_part}
@@ -62,11 +62,10 @@ pub returns-then-len-eq0-clause-step : goal.returns-then-len-eq0-clause-step
 returns-then-len-eq0-clause-step g c =
     let b = c.args.parts.now.state in
     let l = c.args.left in
-    rw (c.take_values-values.ensures.rest, c.take_values-values.ensures.values)
-    (end-is b (remaining.Splits l) (outcome.Values b.values) _ (split-none b l (sym c.len.ensures.count ∙ c.if-len-eq0.true)) refl)
+    end-is b (remaining.Splits l) (outcome.Values b.values) _ (split-none b l (sym c.len.ensures.count ∙ c.if-len-eq0.true)) (rw (c.take_values-values.ensures.rest, c.take_values-values.ensures.values) at c.end.ensures.made)
 
-pub returns-then-len-eq0-clause-sound : goal.returns-then-len-eq0-clause-sound
-returns-then-len-eq0-clause-sound g c =
+pub end-requires : goal.end-requires
+end-requires g c =
     let b = c.args.parts.now.state in
     let l = c.args.left in
     rw (c.take_values-values.ensures.rest, c.take_values-values.ensures.values)

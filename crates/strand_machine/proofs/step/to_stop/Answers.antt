@@ -1,4 +1,4 @@
-use Rattle.strand_machine.proofs.Moves.Making.{ends-can, never-goes, spawned-holds, waits-holds}
+use Rattle.strand_machine.proofs.Moves.Making.{leaves-outcome, never-goes, spawned-holds, waits-holds}
 use Rattle.strand_machine.proofs.step.to_stop.Goals as goal
 
 pub unreachable-requires : goal.unreachable-requires
@@ -10,5 +10,5 @@ invariant_of-result g c = waits-holds c.args.parts.value c.args.passed c.in-Wait
 pub invariant_of-result-in-Spawned : goal.invariant_of-result-in-Spawned
 invariant_of-result-in-Spawned g c = spawned-holds c.args.parts.value c.args.passed c.in-Spawned.child c.in-Spawned.is c.requires.sound
 
-pub end-requires : goal.end-requires
-end-requires g c = ends-can c.args.parts.value c.args.passed c.in-Ends.outcome c.in-Ends.is c.requires.sound
+pub done-requires : goal.done-requires
+done-requires g c = leaves-outcome c.args.parts.value c.args.passed c.in-Ends.is c.requires.sound
