@@ -9,7 +9,8 @@ use Rattle.strand_meaning.specs.Sound.{IsTask}
 use Rattle.strand_meaning.specs.Task.{Task, start, Stop, Spawn, Wait, End, IsNext, on}
 use Rattle.strand_machine.specs.Links.{tags}
 use Rattle.strand_machine.specs.AwaitedChildren.{awaited}
-use Rattle.strand_machine.specs.Stops.{answer_tags, any_cut}
+use Rattle.strand_machine.specs.Stops.{HasEnded, answer_tags, any_cut}
+use Rattle.strand_machine.specs.Tasks.{TaskView}
 use Rattle.serial_runner.specs.declared.open_tasks.OpenTask.{OpenTask}
 use Rattle.serial_runner.specs.declared.stack.Stack.{Stack}
 use Rattle.serial_runner.specs.declared.stack.Advanced.{Advanced}
@@ -80,6 +81,10 @@ AnswersLowest s = IsAnswerOf (lowest s)
 -- the task of an answer before it was begun
 abbrev pub task_of_answer : AnswerView → Task
 task_of_answer answer = start answer.plan answer.origin
+
+-- a task that has ended stood on top of these, in a sound stack
+abbrev pub IsEndAbove : {K : Type 0} → TaskView → List (OpenTask K) → Type 0
+IsEndAbove {K} ended below = (s : Stack K) × IsStack s × (s.below ≡ below) × HasEnded K s.top.task ended
 
 abbrev pub AdvancesTo : {K : Type 0} → Stack K → Advanced K → Type 0
 AdvancesTo s (Continues next) = StepsStack s next

@@ -2,8 +2,10 @@
 ghost use Rattle.std.specs.Prelude.{◌≡◌, List, [], ◌∷◌, true, IfOk};
 ghost use Rattle.strand_meaning.specs.Laws.{IsFaultOf};
 ghost use Rattle.strand_machine.specs.Faults.{is_fault};
+ghost use Rattle.strand_machine.specs.Stops.{HasEnded};
 ghost use Rattle.serial_runner.specs.declared.open_tasks.OpenTask.{OpenTask};
-ghost use Rattle.serial_runner.specs.Stacks.{AreBelow, IsAnswerOf, IsStack, AdvancesTo, lowest_of, task_of_answer, stack_with_answer};
+ghost use Rattle.serial_runner.specs.declared.stack.Stack.{Stack};
+ghost use Rattle.serial_runner.specs.Stacks.{AreBelow, IsAnswerOf, IsEndAbove, IsStack, AdvancesTo, lowest_of, task_of_answer, stack_with_answer};
 
 use crate::open_tasks::{OpenTask, OpenTasks};
 use crate::stack::{Advanced, Stack};
@@ -11,7 +13,7 @@ use crate::zip::zip;
 use contract_views::{Boxed, Items};
 use serial_meaning::{Answer, Keep};
 use std::alloc::Global;
-use strand_machine::{Memory, Paused, TaskPool, is_fault};
+use strand_machine::{Memory, Paused, Task, TaskPool, is_fault};
 
 fn boxed<K: Keep>(alloc: Global, answer: Answer<K>) -> Result<Boxed<Answer<K>>, Memory>
     ensures { IfOk result (λ b. b ≡ answer) }
@@ -66,8 +68,31 @@ fn end_all<K: Keep>(
     Ok(answer)
 }
 
+// The topmost task has ended. Its answer goes to the task below, and where it is a fault it ends all of them.
+//
+// It is a function of its own, since the room for answers would else be cleared at each stop.
+#[inline(always)]
+fn end_top<K: Keep>(
+    alloc: Global,
+    ended: Task<K>,
+    taken: Items<Answer<K>>,
+    below: OpenTasks<K>,
+    pool: &mut TaskPool<K>,
+) -> Result<Advanced<K>, Memory>
+    requires { IsEndAbove ended below }
+    ensures { (s : Stack K) → IsStack s → s.below ≡ below → HasEnded K s.top.task ended → IfOk result (AdvancesTo s) }
+{
+    let (answer, give) = ended.into_answer(pool);
+    drop(give);
+    if is_fault(&answer) {
+        let last = end_all(alloc, answer, below)?;
+        return Ok(Advanced::Ends(boxed(alloc, last)?));
+    }
+    answer_below(alloc, answer, taken, below)
+}
+
 // Runs the topmost task to its next stop. A child goes on top of it. Where it waits its children have ended, and it takes their
-// answers. Its own answer goes to the task below, and where it is a fault it ends all of them.
+// answers.
 #[inline(always)]
 pub(crate) fn advance<K: Keep>(
     stack: Stack<K>,
@@ -95,14 +120,6 @@ pub(crate) fn advance<K: Keep>(
             let top = OpenTask { task, answers };
             Ok(Advanced::Continues(Stack { top, below }))
         }
-        Paused::Ended { rest } => {
-            let (answer, give) = rest.into_answer(pool);
-            drop(give);
-            if is_fault(&answer) {
-                let last = end_all(alloc, answer, below)?;
-                return Ok(Advanced::Ends(boxed(alloc, last)?));
-            }
-            answer_below(alloc, answer, answers, below)
-        }
+        Paused::Ended { rest } => end_top(alloc, rest, answers, below, pool),
     }
 }

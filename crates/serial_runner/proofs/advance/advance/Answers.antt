@@ -1,8 +1,6 @@
-use Rattle.std.proofs.Common.{◌≡◌, ◌∙◌, [], ◌∷◌, sym, ap, subst}
-use Rattle.serial_runner.specs.Stacks.{AnswersLowest}
+use Rattle.std.proofs.Common.{◌≡◌, ◌∙◌, [], ◌∷◌, refl, ap}
 use Rattle.serial_runner.proofs.ObservedStops.{made}
-use Rattle.strand_machine.proofs.NextStops.Pausing.{ended-stop}
-use Rattle.serial_runner.proofs.Advancing.{resumed_whole, spawned, waits, has_answers, resumed_above, known_fault, answer_below, all_ended, ended}
+use Rattle.serial_runner.proofs.Advancing.{resumed_whole, spawned, waits, has_answers, resumed_above}
 use Rattle.serial_runner.proofs.advance.advance.Goals as goal
 
 pub resume_by-requires-clause-waits : goal.resume_by-requires-clause-waits
@@ -22,16 +20,8 @@ returns-in_ok-task-in-Wait g c =
     resumed_above c.args.stack c.requires c.in-Wait.rest (rw c.in-Wait.is at c.in_ok-paused.ensures) _ c.in_ok-task-in-Wait.task (ap (λ left. record { task = c.in_ok-task-in-Wait.task; answers = left }) c.in_ok-task-in-Wait.ensures.none)
     (resumed_whole c.args.stack.top.answers c.in-Wait.rest c.in_ok-task-in-Wait.task c.requires.top.whole c.in_ok-task-in-Wait.ensures.is_resumed)
 
-pub end_all-requires-clause-known : goal.end_all-requires-clause-known
-end_all-requires-clause-known g c = known_fault c.args.stack c.requires c.into_answer-answer.result.0 c.into_answer-answer.result.1 (ended-stop _ c.in-Ended.rest _ (rw c.in-Ended.is at c.in_ok-paused.ensures) c.into_answer-answer.ensures)
+pub end_top-requires : goal.end_top-requires
+end_top-requires g c = (c.args.stack, c.requires, refl, rw c.in-Ended.is at c.in_ok-paused.ensures)
 
-pub end_all-requires-clause-below : goal.end_all-requires-clause-below
-end_all-requires-clause-below g c = answer_below c.args.stack c.requires c.into_answer-answer.result.0 c.into_answer-answer.result.1 (ended-stop _ c.in-Ended.rest _ (rw c.in-Ended.is at c.in_ok-paused.ensures) c.into_answer-answer.ensures)
-
-pub returns-then-is_fault : goal.returns-then-is_fault
-returns-then-is_fault g c =
-    subst (AnswersLowest c.args.stack) (sym c.in_ok-boxed-in-Ended.ensures)
-    (all_ended c.args.stack c.requires c.into_answer-answer.result.0 c.into_answer-answer.result.1 (ended-stop _ c.in-Ended.rest _ (rw c.in-Ended.is at c.in_ok-paused.ensures) c.into_answer-answer.ensures) _ c.in_ok-last-in-Ended.ensures)
-
-pub returns-else-is_fault : goal.returns-else-is_fault
-returns-else-is_fault g c = ended c.args.stack c.requires c.into_answer-answer.result.0 c.into_answer-answer.result.1 (ended-stop _ c.in-Ended.rest _ (rw c.in-Ended.is at c.in_ok-paused.ensures) c.into_answer-answer.ensures) c.answer_below.result c.answer_below.ensures.parent c.answer_below.ensures.last
+pub returns-in-Ended : goal.returns-in-Ended
+returns-in-Ended g c = c.end_top.ensures c.args.stack c.requires refl (rw c.in-Ended.is at c.in_ok-paused.ensures)
