@@ -1,5 +1,5 @@
 -- What contracts see of a hand, and what a turn makes of it.
-use Rattle.std.specs.Prelude.{◌≡◌, ℕ, ◌<◌, ◌≤◌, ◌⊎◌, slice_index_or, false, List, [], ◌∷◌, ◌++◌, Option, Some, None, length}
+use Rattle.std.specs.Prelude.{◌≡◌, ℕ, ◌<◌, ◌≤◌, ◌⊎◌, slice_index_or, Bool, true, false, Result, Ok, List, [], ◌∷◌, ◌++◌, Option, Some, None, length}
 use Rattle.serial_meaning.specs.Answer.{AnswerView, AnswerTag, IsCut}
 use Rattle.serial_meaning.specs.Eval.{main_origin}
 use Rattle.serial_meaning.specs.declared.event.Fault.{Fault}
@@ -30,6 +30,13 @@ pub record HandView : Type 0 where
 
 abbrev pub view_of : {K : Type 0} → HandState K → HandView
 view_of h = record { current = h.current; overflow = h.overflow; deck = h.deck; stalled = h.stalled.items; thieves = h.thieves.items; answered = h.answered }
+
+-- Whether a turn stole a task, or may have left one for others to steal.
+abbrev pub has_task : {K E : Type 0} → Result (Turn K) E → Bool
+has_task (Ok Ran) = true
+has_task (Ok Popped) = true
+has_task (Ok Stole) = true
+has_task _ = false
 
 -- The steps of a turn
 

@@ -8,6 +8,7 @@ ghost use Rattle.serial_meaning.specs.Render.{IsWhole};
 ghost use Rattle.strand_meaning.specs.Laws.{IsFaultOf};
 ghost use Rattle.strand_machine.specs.Links.{tag};
 ghost use Rattle.parallel_runner.specs.Crews.{AreRootAnswers};
+ghost use Rattle.parallel_runner.specs.Hands.{has_task};
 
 use crate::any_hand::AnyHand;
 use crate::gate::Gate;
@@ -111,8 +112,91 @@ fn wait_stalled<R: Wait, K: Keep>(
 
 // Whether the turn stole a task, or may have left one for others to steal.
 #[inline(always)]
-fn has_task<K: Keep>(turn: &Result<Turn<K>, Memory>) -> bool {
+fn has_task<K: Keep>(turn: &Result<Turn<K>, Memory>) -> bool
+    ensures { result ≡ has_task turn.now }
+{
     matches!(turn, Ok(Turn::Ran | Turn::Popped | Turn::Stole))
+}
+
+// The hand found something to do in its turn. One that cuts all that it begins goes on to count as one that looks, if it did.
+#[inline(always)]
+fn end_parking(parking: &mut Parking, signals: &Signals, cuts: bool) {
+    if cuts {
+        parking.cut(signals);
+    } else {
+        parking.end(signals);
+    }
+}
+
+// After another turn than those of `after_turn`.
+#[inline(never)]
+fn after_rare_turn<R: Wait, K: Keep>(
+    rt: &R,
+    alloc: Global,
+    parking: &mut Parking,
+    parents: &mut Parents,
+    signals: &Signals,
+    hand: &mut Hand<K>,
+    turn: Result<Turn<K>, Memory>,
+) -> bool
+    ensures { result ≡ has_task turn }
+{
+    match turn {
+        Ok(Turn::Waiting) => {
+            wait_stalled(rt, alloc, parking, parents, signals, hand);
+            return false;
+        }
+        Ok(Turn::Idle) => {
+            parents.found_none(signals);
+            parking.park_idle(rt, signals);
+            return false;
+        }
+        _ => {}
+    }
+    end_parking(parking, signals, hand.cuts());
+    match turn {
+        Ok(Turn::Resumed | Turn::Stole) => parents.took(signals),
+        Ok(Turn::Ended(_)) => signals.root_ended(),
+        Ok(_) => {}
+        Err(_) => signals.end_turns(),
+    }
+    has_task(&turn)
+}
+
+// After a turn. Says whether the turn stole a task, or may have left one for others to steal.
+#[inline(always)]
+fn after_turn<R: Wait, K: Keep>(
+    rt: &R,
+    alloc: Global,
+    heap: &mut Heap,
+    parking: &mut Parking,
+    parents: &mut Parents,
+    signals: &Signals,
+    hand: &mut Hand<K>,
+    turn: Result<Turn<K>, Memory>,
+) -> bool
+    ensures { result ≡ has_task turn }
+{
+    match turn {
+        Ok(Turn::Ran) => {
+            let cuts = hand.cuts();
+            end_parking(parking, signals, cuts);
+            heap.count_turn();
+            keep_turning(rt, alloc, parking, parents, signals, hand, cuts);
+            true
+        }
+        Ok(Turn::Answered(_)) => {
+            end_parking(parking, signals, hand.cuts());
+            after_put(alloc, parents, signals, hand);
+            false
+        }
+        Ok(Turn::Popped) => {
+            end_parking(parking, signals, hand.cuts());
+            parents.popped();
+            true
+        }
+        turn => after_rare_turn(rt, alloc, parking, parents, signals, hand, turn),
+    }
 }
 
 // Makes turns until then, and says whether the run goes on. After a turn that left a task waiting or answered one, all
@@ -136,32 +220,17 @@ fn take_turns<R: Wait, G: Gate, K: Keep>(
             break;
         }
         let turn = hand.turn(alloc, gate);
-        let cuts = hand.cuts();
-        let is_last = matches!(until, Until::Task) && has_task(&turn);
-        match turn {
-            Ok(Turn::Waiting | Turn::Idle) => {}
-            _ if cuts => parking.cut(signals),
-            _ => parking.end(signals),
-        }
-        match turn {
-            Ok(Turn::Ran) => {
-                heap.count_turn();
-                keep_turning(rt, alloc, &mut parking, &mut parents, signals, hand, cuts);
-            }
-            Ok(Turn::Answered(_)) => after_put(alloc, &mut parents, signals, hand),
-            Ok(Turn::Popped) => parents.popped(),
-            Ok(Turn::Resumed | Turn::Stole) => parents.took(signals),
-            Ok(Turn::Waiting) => {
-                wait_stalled(rt, alloc, &mut parking, &mut parents, signals, hand);
-            }
-            Ok(Turn::Idle) => {
-                parents.found_none(signals);
-                parking.park_idle(rt, signals);
-            }
-            Ok(Turn::Ended(_)) => signals.root_ended(),
-            Err(_) => signals.end_turns(),
-        }
-        if is_last {
+        let has_task = after_turn(
+            rt,
+            alloc,
+            &mut heap,
+            &mut parking,
+            &mut parents,
+            signals,
+            hand,
+            turn,
+        );
+        if has_task && matches!(until, Until::Task) {
             return true;
         }
     }
