@@ -1,3 +1,4 @@
 pub mod PutLemmas
 pub mod EventLemmas
 pub mod Loops
+pub mod LineLemmas

@@ -35,6 +35,7 @@ impl Page {
     }
 
     // Adds a piece to the bytes that wait, if there is room for it.
+    #[inline(always)]
     fn take(&mut self, piece: &[u8]) -> bool
         ensures { self.new ≡ (if result then self.old ++ piece.now else self.old) }
     {
@@ -49,6 +50,7 @@ impl Page {
     ///
     /// # Errors
     /// `Failed` where a write failed: of the bytes that waited and the piece, a prefix was written.
+    #[inline(always)]
     pub fn put<S: Sink>(&mut self, piece: &[u8], out: &mut S) -> Result<(), Failed>
         ensures all { OnOk result (Puts (S.written out.old) (S.written out.new) self.old self.new piece.now) }
         ensures front { OnErr result (AppendsFront (S.written out.old) (S.written out.new) (self.old ++ piece.now)) }
@@ -57,6 +59,16 @@ impl Page {
         if self.take(piece) {
             return Ok(());
         }
+        self.put_flushed(piece, out)
+    }
+
+    // The same, where there is no room for the piece.
+    #[inline(never)]
+    fn put_flushed<S: Sink>(&mut self, piece: &[u8], out: &mut S) -> Result<(), Failed>
+        ensures all { OnOk result (Puts (S.written out.old) (S.written out.new) self.old self.new piece.now) }
+        ensures front { OnErr result (AppendsFront (S.written out.old) (S.written out.new) (self.old ++ piece.now)) }
+        ensures cause { HasCause (S.faults out.old) (S.faults out.new) result }
+    {
         self.flush(out)?;
         if self.take(piece) {
             return Ok(());

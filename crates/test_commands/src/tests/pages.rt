@@ -1,4 +1,4 @@
-// Outputs of 65536 bytes, as many as wait at most to be written, and of one more.
+// Outputs of 65536 bytes, as many as wait at most to be written, and of one byte more.
 
 use engine::OpenGate;
 use std::test::Fail;
@@ -27,16 +27,17 @@ fn second_failing<R: Host>(rt: &R, line: &str, last: &str) -> Result<Printed, Fa
     )
 }
 
-// The call of this line ended with this status, and 65536 bytes were written, of which these are the last.
-fn wrote_page(
+// The call of this line ended with this status, and as many bytes were written, of which these are the last.
+fn wrote(
     line: &str,
     printed: Printed,
     code: u8,
+    size: usize,
     end: &str,
     refusal: &str,
 ) -> Result<(), Fail> {
     same(line, printed.code, code)?;
-    same(line, printed.out.len(), 65536)?;
+    same(line, printed.out.len(), size)?;
     same(line, printed.out.as_str().ends_with(end), true)?;
     same(line, printed.err.as_str(), refusal)
 }
@@ -52,17 +53,17 @@ static CALLS: [&str; 4] = [
 fn as_much_as_may_wait_is_one_write(rt: HostRuntime) -> Result<(), Fail> {
     for &line in &CALLS {
         let printed = second_failing(&rt, line, "12345")?;
-        wrote_page(line, printed, 0, "\n12345\n", "")?;
+        wrote(line, printed, 0, 65536, "\n12345\n", "")?;
     }
     Ok(())
 }
 
-// The last line feed finds no room after the others.
+// The last line finds no room after the others, and waits for them to be written.
 #[test]
 fn one_byte_more_is_a_second_write(rt: HostRuntime) -> Result<(), Fail> {
     for &line in &CALLS {
         let printed = second_failing(&rt, line, "123456")?;
-        wrote_page(line, printed, 5, "\n123456", "write fault\n")?;
+        wrote(line, printed, 5, 65530, "6789\n", "write fault\n")?;
     }
     Ok(())
 }
