@@ -5,8 +5,10 @@ use denote.RattleType.{RattleType}
 use mir.Syntax.{Dict}
 use Rattle.meet_block.proofs.give.Give.TheSendSync as give_shared
 use Rattle.meet_block.proofs.join.Join.TheSendSync as join_shared
+use Rattle.meet_block.proofs.join_pool.JoinPool.TheSendSync as join_pool_shared
 use Rattle.meet_block.specs.contracts.give.Give as give
 use Rattle.meet_block.specs.contracts.join.Join as join
+use Rattle.meet_block.specs.contracts.join_pool.JoinPool as join_pool
 use Rattle.serial_meaning.proofs.CodeLemmas.Shares.{shared_plan_sends, answer_sends}
 use Rattle.serial_meaning.proofs.origin.Origin.TheSendSync as origin_shared
 use Rattle.serial_meaning.specs.contracts.answer.Answer as answer
@@ -22,6 +24,9 @@ module _ (K : RattleType) (keeps : Ghosts K.Denot) (dict : Dict) where
 
   join_sends : IsSend (join.the_row (answer.the_row K keeps) key.the_row (ghosts K keeps dict))
   join_sends = join_shared.the_send (answer.the_row K keeps) key.the_row (ghosts K keeps dict) (answer_sends K keeps)
+
+  pub join_pool_sends : IsSend (join_pool.the_row (answer.the_row K keeps) key.the_row (ghosts K keeps dict))
+  join_pool_sends = join_pool_shared.the_send (answer.the_row K keeps) key.the_row (ghosts K keeps dict) (answer_sends K keeps)
 
   links_inside_sends : IsSend (links_inside.the_row K keeps)
   links_inside_sends = declared_send (links_inside.the_type K keeps) (shared_plan_sends, (origin_shared.the_send, (give_sends, (join_sends, tt))))

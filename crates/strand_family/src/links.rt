@@ -6,7 +6,7 @@ ghost use Rattle.strand_family.specs.Links.{tag, links_with_child, task_give, Lo
 
 use crate::memory::Memory;
 use crate::start::stands_before;
-use meet_block::{Give, Join, Look};
+use meet_block::{Give, Join, JoinPool, Look, Taken};
 use serial_meaning::{All, Answer, AnswerKey, Fault, Keep, Origin, Out, Outcome, Plan};
 use std::alloc::Global;
 use std::marker::Model;
@@ -129,18 +129,19 @@ impl<K: Keep> Links<K> {
         &self.origin
     }
 
-    /// The give for one more child, whose key has the task's plan.
+    /// The give for one more child, whose key has the task's plan. Its memory is of the pool, where that has some.
     #[tactic(auto, using(crate::proofs::Tags::origins_append, crate::proofs::Tags::give_keeps))]
     pub fn give_for_child(
         &mut self,
         alloc: Global,
         child: &AnswerKey,
+        pool: &mut JoinPool<Answer<K>>,
     ) -> Result<Give<Answer<K>>, Memory>
         requires { child.now.plan ≡ self.old.plan }
         ensures give { IfOk result (λ give. give ≡ give_of child.now self.old.joins.own) }
         ensures added { OnOk result (self.new ≡ links_with_child self.old child.now.origin) }
     {
-        Ok(self.join.hand(alloc, child)?)
+        Ok(self.join.hand_in(alloc, child, pool)?)
     }
 
     /// How many children were begun.
@@ -158,16 +159,17 @@ impl<K: Keep> Links<K> {
         self.join.look()
     }
 
-    /// The answer of a child, by its number: the first child has 0.
+    /// The answer of a child, by its number: the first child has 0. It stays in its memory.
     #[tactic(auto, using(crate::proofs::Tags::origin_at, crate::proofs::Tags::plan_at))]
-    pub fn take(&mut self, i: u64) -> Answer<K>
+    #[inline(always)]
+    pub fn take(&mut self, i: u64) -> Taken<Answer<K>>
         requires ready { self.old.ready ≡ true }
         requires left { slice_get self.old.taken i ≡ Some false }
         ensures plan { result.plan ≡ self.old.plan }
         ensures origin { slice_get self.old.children i ≡ Some result.origin }
         ensures taken { self.new ≡ record self.old { taken = slice_set self.old.taken i true } }
     {
-        self.join.take(i)
+        self.join.take_boxed(i)
     }
 
     /// The task's answer, and the give for it.

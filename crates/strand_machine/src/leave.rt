@@ -87,7 +87,7 @@ fn begin_child<K: Keep>(
         }
     };
     let key = AnswerKey { plan, origin };
-    let give = match links.give_for_child(alloc, &key) {
+    let give = match links.give_for_child(alloc, &key, &mut pool.joins) {
         Ok(give) => give,
         Err(memory) => {
             drop((key, trail));

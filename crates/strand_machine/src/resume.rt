@@ -35,6 +35,7 @@ fn take_answers<K: Keep>(
     links: &mut Links<K>,
     awaited: u64,
     room: Items<Answer<K>>,
+    pool: &mut TaskPool<K>,
 ) -> Result<Items<Answer<K>>, Memory>
     requires ready { links.old.ready ≡ true }
     requires last { AwaitsCount links.old awaited }
@@ -46,7 +47,7 @@ fn take_answers<K: Keep>(
     let first = links.count() - awaited;
     let mut answers = room.0;
     for i in 0..awaited {
-        answers.push(links.take(first + i))?;
+        answers.push(pool.joins.value_of(links.take(first + i)))?;
     }
     Ok(Items(answers))
 }
@@ -225,7 +226,7 @@ fn poll<K: Keep>(
         Look::NotYet(_) => Ok((false, room)),
         Look::Ready => {
             let awaited = parts.state.trace.awaited_count();
-            let answers = take_answers(&mut parts.state.links, awaited, room)?;
+            let answers = take_answers(&mut parts.state.links, awaited, room, pool)?;
             let left = resume_parts(parts, alloc, answers, pool)?;
             Ok((true, left))
         }

@@ -5,15 +5,17 @@ ghost use Rattle.std.specs.Prelude.{◌≡◌, [], IfOk};
 use crate::memory::Memory;
 use crate::parts::Parts;
 use crate::trace::AfterChild;
-use serial_meaning::{All, Keep, Origin};
+use meet_block::JoinPool;
+use serial_meaning::{All, Answer, Keep, Origin};
 use spare_memory::{EmptyBox, EmptyList, Pool, boxed};
 use std::alloc::Global;
 use strand_moves::InstancePool;
 
-/// The memory of tasks that have ended, and of their instances, for the next ones. It holds no value.
+/// The memory of tasks that have ended, and of their instances and joins, for the next ones. It holds no value.
 #[derive(Drop)]
 pub struct TaskPool<K: Keep = All> {
     pub(crate) instances: InstancePool,
+    pub(crate) joins: JoinPool<Answer<K>>,
     boxes: Pool<EmptyBox<Parts<K>>>,
     children: Pool<EmptyList<AfterChild<K>>>,
 }
@@ -23,6 +25,7 @@ impl<K: Keep> TaskPool<K> {
     pub fn new(alloc: Global) -> TaskPool<K> {
         TaskPool {
             instances: InstancePool::new(alloc),
+            joins: JoinPool::new(alloc),
             boxes: Pool::new(alloc),
             children: Pool::new(alloc),
         }

@@ -16,7 +16,7 @@ use Rattle.serial_meaning.specs.contracts.value.Value as value
 use Rattle.serial_meaning.specs.declared.keep.Keep.{Ghosts}
 use Rattle.std.proofs.Crossing.{Box-send, Vec-send}
 use Rattle.std.specs.contracts.option.Option as option
-use Rattle.strand_family.proofs.Shares.{links_sends, give_sends}
+use Rattle.strand_family.proofs.Shares.{links_sends, give_sends, join_pool_sends}
 use Rattle.strand_machine.proofs.remaining.Left.TheSendSync as left_shared
 use Rattle.strand_machine.specs.contracts.task_state.TaskState as state
 use Rattle.strand_machine.specs.contracts.destination.Destination as destination
@@ -75,7 +75,7 @@ module _ (K : RattleType) (keeps : Ghosts K.Denot) (dict : Dict) where
 
   pub task_pool_sends : IsSend (task_pool.the_row K keeps)
   task_pool_sends = declared_send (task_pool.the_type K keeps)
-      (instance_pool_sends, (pool_shared.the_send _ (empty_box_sends (parts.the_row K keeps)), (pool_shared.the_send _ (empty_list_shared.the_send (after.the_row K keeps) after_sends), tt)))
+      (instance_pool_sends, (join_pool_sends K keeps dict, (pool_shared.the_send _ (empty_box_sends (parts.the_row K keeps)), (pool_shared.the_send _ (empty_list_shared.the_send (after.the_row K keeps) after_sends), tt))))
 
   pub stop_sends : IsSend (stop.the_row K keeps)
   stop_sends = variants_send (stop.enum K keeps) ((task_sends, (task_sends, tt)), ((task_sends, tt), ((answer_sends K keeps, (give_sends K keeps dict, tt)), tt)))

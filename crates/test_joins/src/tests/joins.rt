@@ -2,7 +2,7 @@ ghost use Rattle.std.specs.Prelude.{◌≡◌, ◌<◌, [], IfOk, OnOk, IsTrue, 
 
 use super::same;
 use contract_views::Tagged;
-use meet_block::{Arrived, Give, Join, Look, Memory};
+use meet_block::{Arrived, Give, Join, JoinPool, Look, Memory};
 use std::alloc::Global;
 use std::process::Abort;
 use std::thread;
@@ -140,6 +140,37 @@ fn values_are_taken_by_number(rt: HostRuntime) -> Result<(), Memory> {
     same(&rt, "number 0", join.take(0).value, 25);
     same(&rt, "number 1", join.take(1).value, 36);
     same(&rt, "number 2", join.take(2).value, 49);
+    Ok(())
+}
+
+// The square, by a join that has its memory of the pool.
+fn square_by_join(
+    alloc: Global,
+    of: u64,
+    pool: &mut JoinPool<Square>,
+) -> Result<Option<Square>, Memory> {
+    let mut join: Join<Square> = Join::new(alloc)?;
+    let give = join.hand_in(alloc, &of, pool)?;
+    give.put(square_of(of));
+    match join.look() {
+        Look::Ready => Ok(Some(pool.value_of(join.take_boxed(0)))),
+        Look::NotYet(_) => Ok(None),
+    }
+}
+
+#[test]
+fn a_pool_serves_joins_by_turns(rt: HostRuntime) -> Result<(), Memory> {
+    let alloc = rt.alloc();
+    let mut pool = JoinPool::new(alloc);
+    for of in 0..3u64 {
+        let Some(square) = square_by_join(alloc, of, &mut pool)? else {
+            panic!(rt; "it has put");
+        };
+        assert!(rt;
+            square.of == of && square.value == of * of,
+            "the square of {of}"
+        );
+    }
     Ok(())
 }
 

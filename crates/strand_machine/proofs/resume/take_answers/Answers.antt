@@ -1,4 +1,4 @@
-use Rattle.std.proofs.Common.{◌≡◌, ℕ, suc, ◌+◌, ◌-◌, ◌≤◌, length, drop, refl, sym, ap, ◌∙◌, subst, arith}
+use Rattle.std.proofs.Common.{◌≡◌, ℕ, suc, ◌+◌, ◌-◌, ◌≤◌, [], ◌∷◌, ◌++◌, length, drop, refl, sym, ap, ◌∙◌, subst, arith}
 use Rattle.std.proofs.Math.ListN.{length-set}
 use Rattle.std.specs.Prelude.{slice_get}
 use Rattle.strand_machine.specs.Links.{LinksView, AwaitsCount, tags}
@@ -40,7 +40,7 @@ loop-i-preserved g c =
     let within : c.args.awaited ≤ length c.args.links.now.children = c.requires.last.within in
     let one : c.args.awaited - c.loop-i.i ≡ suc left = omega arith in
     record {
-      tags = ap answer_tags c.in_ok-push.ensures.items
+      tags = ap answer_tags (c.in_ok-push.ensures.items ∙ ap (λ a. c.loop-i.answers.items ++ a ∷ []) c.value_of.ensures.value)
           ∙ one-more c.args.links.now.plan c.args.links.now.children c.loop-i.answers.items c.take.result first (first + c.loop-i.i) c.loop-i.i was.tags refl
           (c.take.ensures.plan ∙ ap (λ (f : LinksView). f.plan) was.links)
           (ap (λ (f : LinksView). slice_get f.children (first + c.loop-i.i)) (sym was.links) ∙ c.take.ensures.origin);
