@@ -193,7 +193,7 @@ pub record MakesEnd {S : Type 0} (after : Event → S → S) (plan : PlanView) (
   pub sound : IsInstance plan new
   pub shorter : Shortens old new
 
--- Either a frame made moves of its end, after which the straight run goes on; or nothing changed, or it made a move after which no statement is left.
+-- Either a frame made moves of its end, and the straight run goes on; or the run ends here, since nothing changed or no statement is left after them.
 abbrev pub EndsFrame : {S : Type 0} → (Event → S → S) → PlanView → InstanceParts → S → InstanceParts → S → Bool → Type 0
 EndsFrame after plan old from new to true = MakesEnd after plan old from new to
 EndsFrame after plan old from new to false =

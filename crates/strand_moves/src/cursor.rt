@@ -1,6 +1,6 @@
 // Positions in a block: a function's body, or a scope's block.
 
-ghost use Rattle.std.specs.Prelude.{◌≡◌, ◌<◌, length, false, List, [], ◌∷◌, ◌++◌, IfOk, OnOk, MatchOption, if◌then◌else◌};
+ghost use Rattle.std.specs.Prelude.{◌≡◌, List, [], ◌∷◌, ◌++◌, IfOk, OnOk, MatchOption, if◌then◌else◌};
 ghost use Rattle.std.specs.Option.{option_copied};
 ghost use Rattle.script_grammar.specs.declared.tree.Stmt.{Stmt, out-Stmt};
 ghost use Rattle.script_grammar.specs.declared.tree.Act.{out-Act};

@@ -1,5 +1,5 @@
 -- Moves that a loop's body makes in place, and the step by which the loop goes round.
-use Rattle.std.proofs.Common.{◌≡◌, ℕ, suc, ◌+◌, ◌-◌, ◌<◌, ◌≤◌, Bool, true, false, inl, inr, List, [], ◌∷◌, ◌++◌, Option, Some, None, IfSome, Ok, length, take, drop, get_or, slice_get, refl, sym, ap, subst, ◌∙◌, arith}
+use Rattle.std.proofs.Common.{◌≡◌, ℕ, suc, ◌+◌, ◌-◌, ◌≤◌, Bool, true, false, inl, inr, List, [], ◌∷◌, ◌++◌, Option, Some, None, IfSome, Ok, length, take, get_or, slice_get, refl, sym, ap, subst, ◌∙◌, arith}
 use Rattle.std.proofs.Common.{ℤ}
 use Rattle.std.proofs.lemmas.List.{drop_all, drop_more, length-append, take-append-drop}
 use Rattle.script_grammar.specs.declared.tree.Expr.{Expr}
@@ -85,9 +85,6 @@ at-end (x ∷ es) e d = at-end es e d
 
 -- by the last of a cursor's blocks, which it has just entered
 module _ (body : List Stmt) (c : Cursor) (st : Stmt) (h : HasEntered body c st) (es : List Entered) (d : Entered) (same : es ≡ c.entered.items) where
-  pub entered-some : 1 ≤ length es
-  entered-some = let long = ap (λ (l : List Entered). length l) (same ∙ h.entered) ∙ length-append h.around (h.last ∷ []) in omega (arith, long)
-
   last-is : get_or es (length es - 1) d ≡ h.last
   last-is =
       let long = length-append h.around (h.last ∷ []) in

@@ -1,7 +1,6 @@
-use Rattle.std.proofs.Common.{arith}
 use Rattle.script_grammar.specs.declared.tree.Act.TheOpen as act
 use Rattle.script_grammar.specs.declared.tree.Act.TheVariants as variant
-use Rattle.strand_moves.proofs.Cursors.Loops.{entered-block, entered-loop, entered-some}
+use Rattle.strand_moves.proofs.Cursors.Loops.{entered-block, entered-loop}
 use Rattle.strand_moves.proofs.Statements.Paying.{act-is}
 use Rattle.strand_moves.proofs.cursor.Cursor.entered_block.Goals as goal
 
