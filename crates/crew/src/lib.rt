@@ -7,6 +7,6 @@
 
 pub use parallel_runner::{
     Crew, Gate, Hand, Hands, Looked, Memory, OpenGate, Root, Roots, Turn, run_crew,
-    run_crew_of_prints, run_roots, run_roots_of_prints,
+    run_crew_of_lines, run_crew_of_prints, run_roots, run_roots_of_lines, run_roots_of_prints,
 };
 pub use serial_runner::{Node, run_serial, run_serial_keeping, walk_node};

@@ -1,6 +1,10 @@
--- What is kept has all lines: all events where the log is shown, and prints where values alone are.
-use Rattle.std.proofs.Common.{◌≡◌, true, false, refl, sym, ap, ◌∙◌, subst}
+-- What is kept has all lines: the events that have a line in some form, and prints where values alone are shown.
+use Rattle.std.proofs.Common.{◌≡◌, List, true, false, refl, sym, ap, ◌∙◌, subst}
+use Rattle.std.specs.Prelude.{All}
+use Rattle.std.specs.List.{slice_index_or}
+use Rattle.serial_meaning.specs.Answer.{AnswerView}
 use Rattle.serial_meaning.specs.KeptLines.{KeepsLines}
+use Rattle.serial_meaning.specs.Lined.{has_line}
 use Rattle.serial_meaning.specs.Plan.{PlanView}
 use Rattle.serial_meaning.specs.Prints.{is_print}
 use Rattle.serial_meaning.specs.declared.event.Event.{Event}
@@ -8,8 +12,17 @@ use Rattle.serial_meaning.specs.declared.event.Event.TheVariants as event
 use Rattle.serial_meaning.specs.declared.plan.Show.{Show}
 use Rattle.serial_meaning.specs.declared.plan.Show.TheVariants.{Plain}
 
-pub all_kept : (show : Show) → KeepsLines (λ _. true) show
-all_kept show e none = let no : true ≡ false = none in absurd (cc)
+pub lines_kept : (show : Show) → KeepsLines has_line show
+lines_kept show (event.Print j v) none = let no : true ≡ false = none in absurd (cc)
+lines_kept show (event.Draw j n) none = let no : true ≡ false = none in absurd (cc)
+lines_kept show (event.New j) none = let no : true ≡ false = none in absurd (cc)
+lines_kept show (event.Spawn j) none = refl
+lines_kept show (event.Sync j) none = refl
+lines_kept show (event.Loop j) none = refl
+
+-- the same of several answers
+pub all_lines_kept : (answers : List AnswerView) → All (λ (answer : AnswerView). KeepsLines has_line answer.plan.show) answers
+all_lines_kept answers = λ k d within. lines_kept (slice_index_or answers k d).plan.show
 
 plain : KeepsLines is_print Plain
 plain (event.Print j v) none = let no : true ≡ false = none in absurd (cc)

@@ -61,11 +61,6 @@ span_reported a told work span evals is uncut main counted longest output ending
 pub played_of : (settings : Settings) (bytes : List ℕ) (plan seen : PlanView) (told : Report) → IsPlanOf settings bytes plan → seen ≡ plan → told ≡ run_report seen → IsRunOf settings bytes told
 played_of settings bytes plan seen told planned same e = (planned.0, planned.1, planned.2, e ∙ ap run_report (same ∙ planned.3))
 
--- No text stands before a run's lines.
-pub lines_only : (plan : PlanView) (text : List ℕ) (told : Report) → text ≡ [] → told.output ≡ text ++ (run_report plan).output → told.ending ≡ (run_report plan).ending → told ≡ run_report plan
-lines_only plan text told none output ending =
-    ap₂ (λ (o : List ℕ) (e : ReportEnd). record { output = o; ending = e }) (output ∙ ap (λ t. t ++ (run_report plan).output) none) ending
-
 -- The worker of a simulation under a script's plan, and what is written of main's answer, are a simulation of the script.
 pub simulated_of : (settings : Settings) (workers number worker : ℕ) (bytes : List ℕ) (plan seen : PlanView) (told : Report) → IsPlanOf settings bytes plan → seen ≡ plan → IsSimWorker plan workers number worker →
     told.output ≡ worker_line worker ++ (run_report seen).output → told.ending ≡ (run_report seen).ending → IsSimOf settings workers number bytes told

@@ -24,8 +24,8 @@ use crew::Gate;
 use dotmix::Gamma;
 use ped_words::Settings;
 use script_check::Checked;
-use seed_batch::{run_batch, run_batch_of_prints};
-use serial_meaning::{Answer, Keep, Limits, Outcome, Plan, Prints, Show};
+use seed_batch::{run_batch_of_lines, run_batch_of_prints};
+use serial_meaning::{Answer, Keep, Limits, Lined, Outcome, Plan, Prints, Show};
 use std::alloc::{AllocError, Global};
 use std::sync::{Arc, Wait};
 use std::thread::Threads;
@@ -121,12 +121,12 @@ fn prints_report(
     }
 }
 
-// The report of answers that keep all events.
+// The report of answers that keep the events that have a line.
 #[tactic(auto, using(crate::proofs::BatchLemmas::answers_whole, crate::proofs::BatchLemmas::answers_written))]
-fn log_report(
+fn lines_report(
     alloc: Global,
     seeds: Items<u64>,
-    answers: Items<Answer>,
+    answers: Items<Answer<Lined>>,
     plans: &Items<Arc<Plan>>,
 ) -> Report
     requires count { length plans.now ≡ length seeds }
@@ -137,7 +137,7 @@ fn log_report(
     let _plans = plans;
     let ending = ending_for(answers.as_slice());
     Report {
-        output: Output::batch_of_logs(alloc, seeds, answers),
+        output: Output::batch_of_lines(alloc, seeds, answers),
         ending,
     }
 }
@@ -149,7 +149,7 @@ fn copied(alloc: Global, seeds: &Items<u64>) -> Result<Items<u64>, AllocError>
 }
 
 // Runs the script under each seed on this many workers, and makes the report. The gate is told of the tasks.
-#[tactic(auto, using(crate::proofs::BatchLemmas::batch_is, crate::proofs::KeptLemmas::all_kept))]
+#[tactic(auto, using(crate::proofs::BatchLemmas::batch_is))]
 pub(crate) fn report_batch<R: Threads + Wait + Sync, G: Gate + Sync>(
     rt: &R,
     alloc: Global,
@@ -173,8 +173,8 @@ pub(crate) fn report_batch<R: Threads + Wait + Sync, G: Gate + Sync>(
             Ok(prints_report(alloc, seeds, prints, &plans))
         }
         Show::Log => {
-            let answers = run_batch(rt, alloc, &plans, workers, gate)?;
-            Ok(log_report(alloc, seeds, answers, &plans))
+            let answers = run_batch_of_lines(rt, alloc, &plans, workers, gate)?;
+            Ok(lines_report(alloc, seeds, answers, &plans))
         }
     }
 }

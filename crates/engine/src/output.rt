@@ -14,7 +14,7 @@ use contract_views::Items;
 use ped_io::{Failed, Sink};
 use run_lines::{Page, put_answer, put_strand};
 use seed_batch::put_batch;
-use serial_meaning::{Answer, Prints, Strand};
+use serial_meaning::{Answer, Lined, Prints, Strand};
 use std::alloc::Global;
 use std::marker::Model;
 
@@ -31,11 +31,12 @@ pub struct Output {
 enum Runs {
     Nothing,
     Prints(Answer<Prints>),
+    Lines(Answer<Lined>),
     Log(Answer),
     Strand(Strand),
     // The runs under a list of seeds.
     SeedsPrints(Items<u64>, Items<Answer<Prints>>),
-    SeedsLogs(Items<u64>, Items<Answer>),
+    SeedsLines(Items<u64>, Items<Answer<Lined>>),
 }
 
 impl Model for Output {
@@ -69,6 +70,17 @@ impl Output {
         Output {
             text: Vec::new(alloc),
             runs: Runs::Prints(answer),
+        }
+    }
+
+    /// The lines of a run whose answer keeps the events that have a line.
+    pub fn lines(alloc: Global, answer: Answer<Lined>) -> Output
+        requires { IsWhole answer.outcome }
+        ensures { result ≡ answer_text answer }
+    {
+        Output {
+            text: Vec::new(alloc),
+            runs: Runs::Lines(answer),
         }
     }
 
@@ -110,15 +122,15 @@ impl Output {
         }
     }
 
-    /// The lines of a batch whose answers keep all events.
-    pub fn batch_of_logs(alloc: Global, seeds: Items<u64>, answers: Items<Answer>) -> Output
+    /// The lines of a batch whose answers keep the events that have a line.
+    pub fn batch_of_lines(alloc: Global, seeds: Items<u64>, answers: Items<Answer<Lined>>) -> Output
         requires count { length answers ≡ length seeds }
         requires whole { All (λ (answer : AnswerView). IsWhole answer.outcome) answers }
         ensures { result ≡ batch_text seeds answers }
     {
         Output {
             text: Vec::new(alloc),
-            runs: Runs::SeedsLogs(seeds, answers),
+            runs: Runs::SeedsLines(seeds, answers),
         }
     }
 
@@ -149,6 +161,7 @@ impl Output {
 impl Runs {
     ghost use Rattle.engine.specs.Output.{AreWhole, runs_text};
 
+    #[tactic(auto, using(crate::proofs::KeptLemmas::lines_kept, crate::proofs::KeptLemmas::all_lines_kept))]
     fn put<S: Sink>(&self, page: &mut Page, out: &mut S) -> Result<(), Failed>
         requires { AreWhole self.now }
         ensures all { OnOk result (Puts (S.written out.old) (S.written out.new) page.old page.new (runs_text self.now)) }
@@ -158,10 +171,11 @@ impl Runs {
         match self {
             Runs::Nothing => Ok(()),
             Runs::Prints(answer) => put_answer(answer, page, out),
+            Runs::Lines(answer) => put_answer(answer, page, out),
             Runs::Log(answer) => put_answer(answer, page, out),
             Runs::Strand(strand) => put_strand(strand, page, out),
             Runs::SeedsPrints(seeds, answers) => put_batch(seeds, answers, page, out),
-            Runs::SeedsLogs(seeds, answers) => put_batch(seeds, answers, page, out),
+            Runs::SeedsLines(seeds, answers) => put_batch(seeds, answers, page, out),
         }
     }
 }

@@ -18,14 +18,14 @@ use crate::output::Output;
 use crate::refusal::Refusal;
 use crate::report::{Report, ReportEnd};
 use crate::script::valid_script;
-use crew::{Gate, run_crew, run_crew_of_prints, run_serial_keeping};
+use crew::{Gate, run_crew_of_lines, run_crew_of_prints, run_serial_keeping};
 use ped_path::Pedigree;
 use ped_words::Settings;
 use replay::{ReplayError, replay};
 use sched_core::{Simulated, simulate};
 use script_check::Checked;
 use serial_meaning::{
-    Answer, Keep, Memory, Out, Outcome, Plan, Prints, Show, Strand, laws, render_strand,
+    Answer, Keep, Lined, Memory, Out, Outcome, Plan, Prints, Show, Strand, laws, render_strand,
 };
 use span_report::{Span, span};
 use std::alloc::{AllocError, Global};
@@ -87,6 +87,20 @@ fn prints_report(alloc: Global, answer: Answer<Prints>) -> Report
     }
 }
 
+// The report of an answer of main that keeps the events that have a line.
+fn lines_report(alloc: Global, answer: Answer<Lined>) -> Report
+    requires main { answer.origin ≡ main_origin answer.plan }
+    requires whole { IsWhole answer.outcome }
+    ensures { report_view result ≡ run_report answer.plan }
+{
+    laws::whole_answers_are_evals();
+    let ending = ending_for(&answer.outcome);
+    Report {
+        output: Output::lines(alloc, answer),
+        ending,
+    }
+}
+
 // The report of an answer of main that keeps all events, with a text before its lines.
 fn log_report(text: Vec<u8>, answer: Answer) -> Report
     requires main { answer.origin ≡ main_origin answer.plan }
@@ -113,7 +127,7 @@ fn run_serially<K: Keep>(alloc: Global, plan: &Arc<Plan>) -> Result<Answer<K>, c
 }
 
 // Runs the script with this text on the caller's thread.
-#[tactic(auto, using(crate::proofs::KeptLemmas::all_kept, crate::proofs::KeptLemmas::prints_kept_of))]
+#[tactic(auto, using(crate::proofs::KeptLemmas::prints_kept_of))]
 pub(crate) fn report_serial_run(
     alloc: Global,
     settings: Settings,
@@ -131,14 +145,14 @@ pub(crate) fn report_serial_run(
             Ok(prints_report(alloc, prints))
         }
         Show::Log => {
-            let answer: Answer = run_serially(alloc, &plan)?;
-            Ok(log_report(Vec::new(alloc), answer))
+            let lines: Answer<Lined> = run_serially(alloc, &plan)?;
+            Ok(lines_report(alloc, lines))
         }
     }
 }
 
 // The same on this many workers. The gate is told of their tasks.
-#[tactic(auto, using(crate::proofs::KeptLemmas::all_kept, crate::proofs::KeptLemmas::prints_kept_of))]
+#[tactic(auto, using(crate::proofs::KeptLemmas::prints_kept_of))]
 pub(crate) fn report_crew_run<R: Threads + Wait + Sync, G: Gate + Sync>(
     rt: &R,
     alloc: Global,
@@ -160,8 +174,8 @@ pub(crate) fn report_crew_run<R: Threads + Wait + Sync, G: Gate + Sync>(
             Ok(prints_report(alloc, prints))
         }
         Show::Log => {
-            let answer = run_crew(rt, alloc, &plan, workers, gate)?;
-            Ok(log_report(Vec::new(alloc), answer))
+            let lines = run_crew_of_lines(rt, alloc, &plan, workers, gate)?;
+            Ok(lines_report(alloc, lines))
         }
     }
 }

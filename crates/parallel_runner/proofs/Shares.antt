@@ -14,6 +14,8 @@ use Rattle.serial_meaning.proofs.CodeLemmas.Shares.{answer_sends, known_sends, k
 use Rattle.serial_meaning.specs.contracts.answer.Answer as answer
 use Rattle.serial_meaning.specs.contracts.keep.All as all
 use Rattle.serial_meaning.specs.contracts.keep.AllKeep.TheImpl.{ghosts as all_ghosts}
+use Rattle.serial_meaning.specs.contracts.keep.Lined as lined
+use Rattle.serial_meaning.specs.contracts.keep.LinedKeep.TheImpl.{ghosts as lined_ghosts}
 use Rattle.serial_meaning.specs.contracts.keep.Prints as prints
 use Rattle.serial_meaning.specs.contracts.keep.PrintsKeep.TheImpl.{ghosts as prints_ghosts}
 use Rattle.serial_meaning.specs.contracts.known.Known as known
@@ -134,4 +136,4 @@ module _ (K : RattleType) (keeps : Ghosts K.Denot) (dict : Dict) where
   hand_sends = view_send (hand_inside.the_row K keeps) _ _ _ _ hand_inside_sends
 
 pub any_hand_sends : IsSend any_hand.the_row
-any_hand_sends = variants_send any_hand.enum ((hand_sends all.the_row all_ghosts (given 0), tt), ((hand_sends prints.the_row prints_ghosts (given 0), tt), tt))
+any_hand_sends = variants_send any_hand.enum ((hand_sends all.the_row all_ghosts (given 0), tt), ((hand_sends lined.the_row lined_ghosts (given 0), tt), ((hand_sends prints.the_row prints_ghosts (given 0), tt), tt)))

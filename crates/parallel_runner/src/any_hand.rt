@@ -1,13 +1,14 @@
 // What a thread of a crew gets. It has no type parameter, so that the proofs of the threads' closures are of one type.
 use crate::hand::{Hand, Hands};
 use crate::memory::Memory;
-use serial_meaning::Prints;
+use serial_meaning::{Lined, Prints};
 use std::alloc::Global;
 
 // A hand, whatever its tasks keep.
 #[derive(Drop)]
 pub(crate) enum AnyHand {
     All(Hand),
+    Lined(Hand<Lined>),
     Prints(Hand<Prints>),
 }
 
@@ -30,6 +31,11 @@ impl AnyHand {
     /// These hands, in order.
     pub fn of_all(alloc: Global, hands: Hands) -> Result<Vec<AnyHand>, Memory> {
         wrapped(alloc, hands.0.0, &|hand| AnyHand::All(hand))
+    }
+
+    /// The same for those of events that have a line.
+    pub fn of_lines(alloc: Global, hands: Hands<Lined>) -> Result<Vec<AnyHand>, Memory> {
+        wrapped(alloc, hands.0.0, &|hand| AnyHand::Lined(hand))
     }
 
     /// The same for those of prints.

@@ -35,7 +35,10 @@ pub use gate::{Gate, OpenGate};
 pub use hand::{Hand, Hands, Looked, Turn};
 pub use memory::Memory;
 pub use root::{Root, Roots};
-pub use run::{run_crew, run_crew_of_prints, run_roots, run_roots_of_prints};
+pub use run::{
+    run_crew, run_crew_of_lines, run_crew_of_prints, run_roots, run_roots_of_lines,
+    run_roots_of_prints,
+};
 pub use setup::Crew;
 
 fn is_sent<T: Send>() {}

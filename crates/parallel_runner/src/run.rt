@@ -7,7 +7,7 @@ ghost use Rattle.serial_meaning.specs.Laws.{IsOriginOf};
 ghost use Rattle.serial_meaning.specs.Render.{IsWhole};
 ghost use Rattle.strand_meaning.specs.Laws.{IsFaultOf};
 ghost use Rattle.strand_machine.specs.Links.{tag};
-ghost use Rattle.parallel_runner.specs.Crews.{AreRootAnswers};
+ghost use Rattle.parallel_runner.specs.Crews.{AreRootAnswers, new_root};
 ghost use Rattle.parallel_runner.specs.Hands.{has_task};
 
 use crate::any_hand::AnyHand;
@@ -24,7 +24,7 @@ use crate::threads::{Until, at_each};
 use contract_views::Items;
 use crossbeam_utils::Backoff;
 use meet_block::Look;
-use serial_meaning::{Answer, Keep, Plan, Prints, laws};
+use serial_meaning::{Answer, Keep, Lined, Plan, Prints, laws};
 use std::alloc::Global;
 use std::sync::{Arc, Wait};
 use std::thread::Threads;
@@ -248,6 +248,7 @@ fn take_any_turns<R: Wait, G: Gate>(
 ) -> bool {
     match hand {
         AnyHand::All(hand) => take_turns(rt, alloc, signals, hand, gate, until),
+        AnyHand::Lined(hand) => take_turns(rt, alloc, signals, hand, gate, until),
         AnyHand::Prints(hand) => take_turns(rt, alloc, signals, hand, gate, until),
     }
 }
@@ -323,11 +324,33 @@ fn run_hands<R: Threads + Wait + Sync, G: Gate + Sync>(
     if is_ended { Ok(()) } else { Err(Memory) }
 }
 
+// Makes the turns of these hands until main has answered at the root.
+#[tactic(auto, using(crate::proofs::Rooted::root_is))]
+fn run_main<R: Threads + Wait + Sync, G: Gate + Sync, K: Keep>(
+    rt: &R,
+    alloc: Global,
+    plan: &Arc<Plan>,
+    root: Root<K>,
+    hands: Vec<AnyHand>,
+    gate: &G,
+) -> Result<Answer<K>, Memory>
+    requires { root.children ≡ new_root (arc_value plan.now) }
+    ensures plan { IfOk result (λ answer. answer.plan ≡ arc_value plan.now) }
+    ensures origin { IfOk result (λ answer. answer.origin ≡ main_origin (arc_value plan.now)) }
+    ensures fault { IfOk result (λ answer. IsFaultOf (arc_value plan.now) answer.outcome) }
+{
+    // For the clauses alone.
+    let _plan = plan;
+    run_hands(rt, alloc, hands, 1, gate)?;
+    let answer = roots_answer(rt, root);
+    ends_within_faults(&answer);
+    Ok(answer)
+}
+
 /// Runs main on this many workers, hand 0 in this thread and each other one in a thread of its own. The hands steal
 /// tasks from one another.
 ///
 /// A hand for which no thread can be made is left out. It has no task, and the others finish without it.
-#[tactic(auto, using(crate::proofs::Rooted::root_is))]
 pub fn run_crew<R: Threads + Wait + Sync, G: Gate + Sync>(
     rt: &R,
     alloc: Global,
@@ -342,14 +365,28 @@ pub fn run_crew<R: Threads + Wait + Sync, G: Gate + Sync>(
 {
     let (root, hands) = Crew::new(alloc, plan, workers)?;
     let hands = AnyHand::of_all(alloc, hands)?;
-    run_hands(rt, alloc, hands, 1, gate)?;
-    let answer = roots_answer(rt, root);
-    ends_within_faults(&answer);
-    Ok(answer)
+    run_main(rt, alloc, plan, root, hands, gate)
+}
+
+/// The same, with an answer that keeps the events that have a line.
+pub fn run_crew_of_lines<R: Threads + Wait + Sync, G: Gate + Sync>(
+    rt: &R,
+    alloc: Global,
+    plan: &Arc<Plan>,
+    workers: u32,
+    gate: &G,
+) -> Result<Answer<Lined>, Memory>
+    requires { (1 ≤ workers) × (workers ≤ 64) }
+    ensures plan { IfOk result (λ answer. answer.plan ≡ arc_value plan.now) }
+    ensures origin { IfOk result (λ answer. answer.origin ≡ main_origin (arc_value plan.now)) }
+    ensures fault { IfOk result (λ answer. IsFaultOf (arc_value plan.now) answer.outcome) }
+{
+    let (root, hands) = Crew::new_keeping(alloc, plan, workers)?;
+    let hands = AnyHand::of_lines(alloc, hands)?;
+    run_main(rt, alloc, plan, root, hands, gate)
 }
 
 /// The same, with an answer that keeps prints only.
-#[tactic(auto, using(crate::proofs::Rooted::root_is))]
 pub fn run_crew_of_prints<R: Threads + Wait + Sync, G: Gate + Sync>(
     rt: &R,
     alloc: Global,
@@ -364,10 +401,7 @@ pub fn run_crew_of_prints<R: Threads + Wait + Sync, G: Gate + Sync>(
 {
     let (root, hands) = Crew::new_keeping(alloc, plan, workers)?;
     let hands = AnyHand::of_prints(alloc, hands)?;
-    run_hands(rt, alloc, hands, 1, gate)?;
-    let answer = roots_answer(rt, root);
-    ends_within_faults(&answer);
-    Ok(answer)
+    run_main(rt, alloc, plan, root, hands, gate)
 }
 
 // Takes the answers of these roots, each once it is there.
@@ -385,6 +419,20 @@ fn answers_of<R: Wait, K: Keep>(
     Ok(Items(answers))
 }
 
+// Makes the turns of these hands until all of these roots have answered.
+fn run_all<R: Threads + Wait + Sync, G: Gate + Sync, K: Keep>(
+    rt: &R,
+    alloc: Global,
+    roots: Vec<Root<K>>,
+    hands: Vec<AnyHand>,
+    gate: &G,
+) -> Result<Items<Answer<K>>, Memory>
+    ensures { IfOk result (λ answers. AreRootAnswers roots.items answers) }
+{
+    run_hands(rt, alloc, hands, roots.len() as u64, gate)?;
+    answers_of(rt, alloc, roots)
+}
+
 /// Runs the crew of these roots, which `Crew::many` made, until all have answered, as `run_crew` does. The answers are
 /// in the order of the roots. On `Memory` there are no answers.
 pub fn run_roots<R: Threads + Wait + Sync, G: Gate + Sync>(
@@ -396,10 +444,22 @@ pub fn run_roots<R: Threads + Wait + Sync, G: Gate + Sync>(
 ) -> Result<Items<Answer>, Memory>
     ensures { IfOk result (λ answers. AreRootAnswers roots.0 answers) }
 {
-    let roots = roots.0.0;
     let hands = AnyHand::of_all(alloc, hands)?;
-    run_hands(rt, alloc, hands, roots.len() as u64, gate)?;
-    answers_of(rt, alloc, roots)
+    run_all(rt, alloc, roots.0.0, hands, gate)
+}
+
+/// The same for roots whose answers keep the events that have a line, which `Crew::many_keeping` made.
+pub fn run_roots_of_lines<R: Threads + Wait + Sync, G: Gate + Sync>(
+    rt: &R,
+    alloc: Global,
+    roots: Roots<Lined>,
+    hands: Hands<Lined>,
+    gate: &G,
+) -> Result<Items<Answer<Lined>>, Memory>
+    ensures { IfOk result (λ answers. AreRootAnswers roots.0 answers) }
+{
+    let hands = AnyHand::of_lines(alloc, hands)?;
+    run_all(rt, alloc, roots.0.0, hands, gate)
 }
 
 /// The same for roots whose answers keep prints only, which `Crew::many_keeping` made.
@@ -412,8 +472,6 @@ pub fn run_roots_of_prints<R: Threads + Wait + Sync, G: Gate + Sync>(
 ) -> Result<Items<Answer<Prints>>, Memory>
     ensures { IfOk result (λ answers. AreRootAnswers roots.0 answers) }
 {
-    let roots = roots.0.0;
     let hands = AnyHand::of_prints(alloc, hands)?;
-    run_hands(rt, alloc, hands, roots.len() as u64, gate)?;
-    answers_of(rt, alloc, roots)
+    run_all(rt, alloc, roots.0.0, hands, gate)
 }

@@ -6,4 +6,4 @@ mod run;
 
 pub use crew::{Gate, Memory};
 pub use render::put_batch;
-pub use run::{run_batch, run_batch_of_prints};
+pub use run::{run_batch, run_batch_of_lines, run_batch_of_prints};

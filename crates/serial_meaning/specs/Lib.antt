@@ -9,6 +9,7 @@ pub mod Functions
 pub mod Keeping
 pub mod KeptLines
 pub mod Laws
+pub mod Lined
 pub mod Names
 pub mod Open
 pub mod Plan

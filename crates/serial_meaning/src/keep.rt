@@ -1,6 +1,7 @@
 ghost use Rattle.std.specs.Prelude.{◌≡◌, ℕ, List, Bool, true};
 ghost use Rattle.serial_meaning.specs.declared.event.Event.{Event};
 ghost use Rattle.serial_meaning.specs.EventKinds.{event_at};
+ghost use Rattle.serial_meaning.specs.Lined.{has_line};
 ghost use Rattle.serial_meaning.specs.Prints.{is_print};
 
 use crate::event::{Event, EventKind};
@@ -23,6 +24,10 @@ pub struct All;
 
 /// Prints only: all that is printed of a run whose plan shows values only.
 pub struct Prints;
+
+/// The events that have a line in some form of a run: prints, draws and objects. All that is printed of a run, whatever
+/// its plan shows.
+pub struct Lined;
 
 impl Keep for All {
     ghost kept = { λ _. true };
@@ -52,5 +57,25 @@ impl Keep for Prints {
     fn keeps_kind(kind: EventKind) -> bool {
         let _ = kind;
         false
+    }
+}
+
+impl Keep for Lined {
+    ghost kept = { has_line };
+
+    #[inline(always)]
+    fn keeps(event: &Event) -> bool {
+        match event {
+            Event::Print(_, _) | Event::Draw(_, _) | Event::New(_) => true,
+            Event::Spawn(_) | Event::Sync(_) | Event::Loop(_) => false,
+        }
+    }
+
+    #[inline(always)]
+    fn keeps_kind(kind: EventKind) -> bool {
+        match kind {
+            EventKind::Draw(_) | EventKind::New => true,
+            EventKind::Spawn | EventKind::Sync | EventKind::Loop => false,
+        }
     }
 }

@@ -27,7 +27,7 @@ pub use answer_key::AnswerKey;
 pub use chunk::Chunk;
 pub use environment::{Content, Variable};
 pub use event::{Event, EventKind, Fault, FaultKind};
-pub use keep::{All, Keep, Prints};
+pub use keep::{All, Keep, Lined, Prints};
 pub use known::Known;
 pub use memory::Memory;
 pub use origin::Origin;

@@ -9,8 +9,8 @@ use ped_io::MemSink;
 use run_lines::Page;
 use script_check::check;
 use script_text::{MAX_BYTES, parse};
-use seed_batch::{put_batch, run_batch, run_batch_of_prints};
-use serial_meaning::{Answer, Keep, Limits, Origin, Out, Plan, Prints, Show};
+use seed_batch::{put_batch, run_batch, run_batch_of_lines, run_batch_of_prints};
+use serial_meaning::{Answer, Keep, Limits, Lined, Origin, Out, Plan, Prints, Show};
 use std::alloc::{AllocError, Global};
 use std::fmt::{Debug, Display};
 use std::hint;
@@ -189,6 +189,18 @@ fn answers_of_prints<R: Host>(
     Ok(run_batch_of_prints(rt, rt.alloc(), plans, workers, &OpenGate)?)
 }
 
+// The same of one that keeps the events that have a line.
+fn answers_of_lines<R: Host>(
+    rt: &R,
+    plans: &Items<Arc<Plan>>,
+    workers: u32,
+) -> Result<Items<Answer<Lined>>, Fail> {
+    let count = plans.as_slice().len();
+    assert!(rt; count >= 1 && count <= 256);
+    assert!(rt; workers >= 1 && workers <= 64);
+    Ok(run_batch_of_lines(rt, rt.alloc(), plans, workers, &OpenGate)?)
+}
+
 // The first run spawns, syncs twice and prints twice, and the second has a loop and five prints.
 static COUNTED: [(u64, u64); 3] = [(5, 2), (6, 5), (3, 3)];
 
@@ -197,6 +209,20 @@ fn a_batch_of_prints_keeps_them_alone(rt: HostRuntime) -> Result<(), Fail> {
     let plans = plans_of(&rt, &SEEDED)?;
     for workers in [1, 4] {
         let answers = answers_of_prints(&rt, &plans, workers)?;
+        assert!(rt; answers.as_slice().len() == COUNTED.len());
+        for (answer, &wanted) in answers.as_slice().iter().zip(COUNTED.iter()) {
+            same(&rt, workers, counts(&answer.out), wanted);
+        }
+    }
+    Ok(())
+}
+
+// None of the runs draws or makes an object.
+#[test]
+fn a_batch_of_lines_keeps_those_events_alone(rt: HostRuntime) -> Result<(), Fail> {
+    let plans = plans_of(&rt, &SEEDED)?;
+    for workers in [1, 4] {
+        let answers = answers_of_lines(&rt, &plans, workers)?;
         assert!(rt; answers.as_slice().len() == COUNTED.len());
         for (answer, &wanted) in answers.as_slice().iter().zip(COUNTED.iter()) {
             same(&rt, workers, counts(&answer.out), wanted);

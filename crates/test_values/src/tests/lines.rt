@@ -3,7 +3,8 @@ use contract_views::Items;
 use loop_range::IterRange;
 use ped_path::{Ped, Pedigree};
 use serial_meaning::{
-    All, Event, Fault, FaultKind, Keep, Memory, Origin, Out, Prints, Strand, Value, render_strand,
+    All, Event, EventKind, Fault, FaultKind, Keep, Lined, Memory, Origin, Out, Prints, Strand,
+    Value, render_strand,
 };
 use std::alloc::Global;
 use std::ops::Range;
@@ -30,12 +31,16 @@ fn event(rank: u32, at: Pedigree) -> Event {
 }
 
 // An event of each kind, at the ranks from 0 to 5.
-fn events(alloc: Global) -> Result<Out, Memory> {
-    let mut events = Out::new();
+fn each_kind<K: Keep>(alloc: Global) -> Result<Out<K>, Memory> {
+    let mut events = Out::none();
     for rank in 0..6 {
         events.push(alloc, event(rank, strand(alloc, rank)?))?;
     }
     Ok(events)
+}
+
+fn events(alloc: Global) -> Result<Out, Memory> {
+    each_kind(alloc)
 }
 
 // The strand of these events, with a fault at the rank 6.
@@ -221,14 +226,21 @@ fn in_two<K: Keep>(alloc: Global, middle: u32, end: u32) -> Result<Out<K>, Memor
     Ok(events)
 }
 
+fn rank_of(event: &Event) -> u64 {
+    match event {
+        Event::Print(at, _) => at.rank,
+        Event::Draw(at, _) => at.rank,
+        Event::New(at) => at.rank,
+        Event::Spawn(at) => at.rank,
+        Event::Sync(at) => at.rank,
+        Event::Loop(at) => at.rank,
+    }
+}
+
 // The ranks of these events, at the end of the others.
 fn add_ranks(ranks: &mut Vec<u64>, events: &[Event]) -> Result<(), Memory> {
     for event in events {
-        match event {
-            Event::Print(at, _) => ranks.push(at.rank)?,
-            Event::New(at) => ranks.push(at.rank)?,
-            _ => {}
-        }
+        ranks.push(rank_of(event))?;
     }
     Ok(())
 }
@@ -276,6 +288,36 @@ fn a_list_of_prints_keeps_them_alone(rt: HostRuntime) -> Result<(), Fail> {
         same(&rt, format_args!("{middle} {end}"), kept.as_slice(), prints);
         same(&rt, format_args!("length {end}"), events.len(), end as u64);
     }
+    Ok(())
+}
+
+#[test]
+fn a_list_of_lines_keeps_prints_draws_and_objects(rt: HostRuntime) -> Result<(), Fail> {
+    let events: Out<Lined> = each_kind(rt.alloc())?;
+    let kept = kept_ranks(rt.alloc(), &events)?;
+    same(&rt, "kept", kept.as_slice(), [0, 1, 2].as_slice());
+    same(&rt, "length", events.len(), 6);
+    Ok(())
+}
+
+static KINDS: [EventKind; 5] = [
+    EventKind::Draw(21),
+    EventKind::New,
+    EventKind::Spawn,
+    EventKind::Sync,
+    EventKind::Loop,
+];
+
+#[test]
+fn a_list_of_lines_makes_draws_and_objects(rt: HostRuntime) -> Result<(), Fail> {
+    let path = Ped::root(rt.alloc())?;
+    let mut events: Out<Lined> = Out::none();
+    for rank in 0..5u32 {
+        events.push_at(rt.alloc(), &path, rank as u64, KINDS[rank as usize])?;
+    }
+    let kept = kept_ranks(rt.alloc(), &events)?;
+    same(&rt, "kept", kept.as_slice(), [0, 1].as_slice());
+    same(&rt, "length", events.len(), 5);
     Ok(())
 }
 

@@ -21,5 +21,5 @@ returns-in-Plain-clause-report g c =
 pub returns-clause-report : goal.returns-clause-report
 returns-clause-report g c =
     let plans = map arc_value c.in_ok-plans.plans in
-    batch_is c.args.batch.now c.args.bytes.now c.in_ok-script.script plans (report_view c.log_report.result)
-    c.in_ok-script.ensures.script c.in_ok-script.ensures.valid c.in_ok-plans.ensures.plans (c.log_report.ensures ∙ ap (λ (l : List ℕ). written l plans) c.in_ok-seeds.ensures)
+    batch_is c.args.batch.now c.args.bytes.now c.in_ok-script.script plans (report_view c.lines_report.result)
+    c.in_ok-script.ensures.script c.in_ok-script.ensures.valid c.in_ok-plans.ensures.plans (c.lines_report.ensures ∙ ap (λ (l : List ℕ). written l plans) c.in_ok-seeds.ensures)

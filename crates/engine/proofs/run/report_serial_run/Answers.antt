@@ -1,6 +1,6 @@
 use Rattle.std.specs.Arc.{arc_value}
 use Rattle.engine.specs.Report.{report_view}
-use Rattle.engine.proofs.ReportLemmas.{lines_only, played_of}
+use Rattle.engine.proofs.ReportLemmas.{played_of}
 use Rattle.engine.proofs.run.report_serial_run.Goals as goal
 
 pub returns-in-Plain-clause-report : goal.returns-in-Plain-clause-report
@@ -10,7 +10,5 @@ returns-in-Plain-clause-report c =
 
 pub returns-clause-report : goal.returns-clause-report
 returns-clause-report c =
-    let a = c.in_ok-answer-in-Log in
-    let r = c.log_report in
-    played_of c.args.settings c.args.bytes.now (arc_value c.in_ok-plan.plan) a.answer.plan (report_view r.result) c.in_ok-plan.ensures.plan a.ensures.plan
-    (lines_only a.answer.plan c.new.result.items (report_view r.result) c.new.ensures.items r.ensures.output r.ensures.ending)
+    let l = c.in_ok-lines-in-Log in
+    played_of c.args.settings c.args.bytes.now (arc_value c.in_ok-plan.plan) l.lines.plan (report_view c.lines_report.result) c.in_ok-plan.ensures.plan l.ensures.plan c.lines_report.ensures
