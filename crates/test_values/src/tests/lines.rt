@@ -226,21 +226,18 @@ fn in_two<K: Keep>(alloc: Global, middle: u32, end: u32) -> Result<Out<K>, Memor
     Ok(events)
 }
 
-fn rank_of(event: &Event) -> u64 {
+// The place of an event, whatever its kind.
+fn place_of(event: &Event) -> &Pedigree {
     match event {
-        Event::Print(at, _) => at.rank,
-        Event::Draw(at, _) => at.rank,
-        Event::New(at) => at.rank,
-        Event::Spawn(at) => at.rank,
-        Event::Sync(at) => at.rank,
-        Event::Loop(at) => at.rank,
+        Event::Print(at, _) | Event::Draw(at, _) => at,
+        Event::New(at) | Event::Spawn(at) | Event::Sync(at) | Event::Loop(at) => at,
     }
 }
 
 // The ranks of these events, at the end of the others.
 fn add_ranks(ranks: &mut Vec<u64>, events: &[Event]) -> Result<(), Memory> {
     for event in events {
-        ranks.push(rank_of(event))?;
+        ranks.push(place_of(event).rank)?;
     }
     Ok(())
 }
