@@ -24,10 +24,10 @@ impl<T> KnownList<T> {
         }
     }
 
-    /// One item, which nobody has to make.
-    pub fn one() -> KnownList<T>
-        ghost item: { T }
-        ensures { result.items ≡ item ∷ [] }
+    /// These items, which nobody has to make.
+    pub fn of() -> KnownList<T>
+        ghost items: { List T }
+        ensures { result.items ≡ items }
     {
         KnownList {
             marker: PhantomData,

@@ -1,7 +1,7 @@
 ghost use Rattle.std.specs.Prelude.{◌≡◌};
 
 use crate::memory::Memory;
-use crate::room::Room;
+use crate::reserved_box::ReservedBox;
 use crate::spare_counter::SpareCounter;
 use crate::taken::Taken;
 use contract_views::Tagged;
@@ -13,7 +13,7 @@ use std::marker::Model;
 /// value is.
 #[derive(Drop)]
 pub struct JoinPool<A: Tagged> {
-    boxes: Pool<Room<A>>,
+    boxes: Pool<ReservedBox<A>>,
     counters: Pool<SpareCounter<A>>,
 }
 
@@ -34,12 +34,12 @@ impl<A: Tagged + Drop> JoinPool<A> {
 
     // The box for a value that is still to come.
     #[inline(always)]
-    pub(crate) fn room(&mut self, alloc: Global) -> Result<Room<A>, Memory>
+    pub(crate) fn reserved_box(&mut self, alloc: Global) -> Result<ReservedBox<A>, Memory>
         ensures { self.new ≡ self.old }
     {
         match self.boxes.take() {
-            Some(room) => Ok(room),
-            None => Room::new(alloc),
+            Some(reserved) => Ok(reserved),
+            None => ReservedBox::new(alloc),
         }
     }
 
@@ -64,8 +64,8 @@ impl<A: Tagged + Drop> JoinPool<A> {
         if let Some(counter) = spare {
             self.counters.keep(counter);
         }
-        let (value, room) = value.emptied();
-        self.boxes.keep(room);
+        let (value, reserved) = value.emptied();
+        self.boxes.keep(reserved);
         value
     }
 }

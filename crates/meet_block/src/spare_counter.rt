@@ -5,7 +5,7 @@ ghost use Rattle.meet_block.specs.declared.view.SeatState.TheVariants.{Open, Spa
 ghost use Rattle.meet_block.specs.Counter.{parent, untaken};
 
 use crate::memory::Memory;
-use crate::room::Filled;
+use crate::reserved_box::FilledBox;
 use crate::rule::{Begins, Retires};
 use crate::tied::Counter;
 use crate::view::View;
@@ -22,7 +22,7 @@ pub const SLOTS: u8 = 16;
 #[derive(Drop)]
 pub struct SpareCounter<A: Tagged> {
     counter: Arc<Counter<A>, Global>,
-    seat: Seat<Option<Filled<A>>, View<A::Key>>,
+    seat: Seat<Option<FilledBox<A>>, View<A::Key>>,
     ghost here: { seat.table_id ≡ (arc_value counter).shared.table_id },
     ghost sized: { (arc_value counter).shared.table_id.words ≡ 1 },
     ghost parents: { seat.id ≡ 0 },
@@ -44,7 +44,7 @@ impl<A: Tagged> SpareCounter<A> {
     #[inline(always)]
     pub fn retired(
         counter: Arc<Counter<A>, Global>,
-        seat: &mut Seat<Option<Filled<A>>, View<A::Key>>,
+        seat: &mut Seat<Option<FilledBox<A>>, View<A::Key>>,
     ) -> SpareCounter<A>
         requires here { seat.old.table_id ≡ (arc_value counter).shared.table_id }
         requires sized { (arc_value counter).shared.table_id.words ≡ 1 }
@@ -65,7 +65,7 @@ impl<A: Tagged> SpareCounter<A> {
         self,
     ) -> (
         Arc<Counter<A>, Global>,
-        Seat<Option<Filled<A>>, View<A::Key>>,
+        Seat<Option<FilledBox<A>>, View<A::Key>>,
     )
         ensures here { result.1.table_id ≡ (arc_value result.0).shared.table_id }
         ensures sized { (arc_value result.0).shared.table_id.words ≡ 1 }

@@ -1,6 +1,6 @@
 ghost use Rattle.std.specs.Prelude.{◌≡◌};
 
-use crate::room::Filled;
+use crate::reserved_box::FilledBox;
 use crate::spare_counter::SpareCounter;
 use contract_views::Tagged;
 use std::marker::Model;
@@ -8,7 +8,7 @@ use std::marker::Model;
 /// A value that was taken, in its memory. Contracts see it as the value. It is `Send` where the value is.
 #[derive(Drop)]
 pub struct Taken<A: Tagged> {
-    pub(crate) value: Filled<A>,
+    pub(crate) value: FilledBox<A>,
     // The counter, where this is the last value of it.
     pub(crate) spare: Option<SpareCounter<A>>,
 }

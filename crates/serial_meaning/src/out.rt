@@ -80,7 +80,7 @@ fn unmade(path: &Ped, rank: u64, kind: EventKind) -> KnownList<Event>
 {
     let _ = path;
     let _ = (rank, kind);
-    KnownList::one()
+    KnownList::of()
 }
 
 impl<K: Keep> Out<K> {

@@ -226,6 +226,29 @@ fn a_hand_after_a_look_opens_a_counter(rt: HostRuntime) -> Result<(), Memory> {
 }
 
 #[test]
+fn a_join_serves_round_after_round(rt: HostRuntime) -> Result<(), Memory> {
+    let alloc = rt.alloc();
+    let mut join: Join<Square> = Join::new(alloc)?;
+    join.hand(alloc, &2)?.put(square_of(2));
+    let Look::Ready = join.look() else {
+        panic!(rt; "it has put");
+    };
+    same(&rt, "number 0", join.take(0).value, 4);
+    let second = join.hand(alloc, &3)?;
+    let third = join.hand(alloc, &4)?;
+    same(&rt, "two are pending", join.look(), Look::NotYet(2));
+    second.put(square_of(3));
+    third.put(square_of(4));
+    let Look::Ready = join.look() else {
+        panic!(rt; "each has put");
+    };
+    same(&rt, "number 2", join.take(2).value, 16);
+    same(&rt, "number 1", join.take(1).value, 9);
+    same(&rt, "all", join.count(), 3);
+    Ok(())
+}
+
+#[test]
 fn two_threads_put_64_values(rt: HostRuntime) -> Result<(), Memory> {
     let alloc = rt.alloc();
     let mut join: Join<Square> = Join::new(alloc)?;

@@ -1,4 +1,5 @@
+use Rattle.std.proofs.Common.{[], ◌∷◌}
 use Rattle.serial_meaning.proofs.out.unmade.Given as goal
 
-abbrev pub ghost-one : goal.ghost-one
-ghost-one g a = g.event
+abbrev pub ghost-of : goal.ghost-of
+ghost-of g a = g.event ∷ []

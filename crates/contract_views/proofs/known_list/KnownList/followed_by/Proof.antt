@@ -1,6 +1,6 @@
 -- `followed_by` makes a value of no bytes, whose items are those of the first list and then those of the second.
 use Rattle.std.proofs.Common.{◌++◌}
-use Rattle.atomic_table.proofs.Names.{◌≡◌, List, [], ◌∷◌, refl, ap, ◌∙◌, a_type, named, Val, vptr, vstruct, vcons, vnil, of_list, inst_fn, SProp, emp, Fml, Is, ‵, raw, ◌⊛◌, ◌$◌, ◌∵◌, !, qed, by, keep, split, fjoin, use0, no_more, and_then, returns, enter, alloc_all, pass_all, free_all, look_at, get, sets, agg, tables, no, yes, RattleType, RefOf, owns, types_at, plain, nothing, param, layouts, alive, Stays, stay_dropped, walk_of, Goes-dropped, shr_vals, shr_Tells, fact, fact_i, makes_shadow}
+use Rattle.atomic_table.proofs.Names.{◌≡◌, List, [], ◌∷◌, refl, ap, ◌∙◌, a_type, Val, vstruct, vnil, of_list, inst_fn, SProp, emp, Fml, Is, ‵, raw, ◌⊛◌, ◌$◌, ◌∵◌, !, qed, by, keep, split, fjoin, use0, no_more, and_then, returns, enter, alloc_all, pass_all, free_all, look_at, get, sets, agg, tables, no, RattleType, owns, types_at, plain, nothing, param, layouts, alive, Stays, stay_dropped, walk_of, Goes-dropped, fact, fact_i, makes_shadow}
 use denote.Struct.Struct.{Struct}
 use denote.Struct.Owning.{shape}
 use Rattle.atomic_table.proofs.Walks.{proved, leaves}

@@ -1,5 +1,5 @@
 -- `none` makes a value of no bytes, whose items are none.
-use Rattle.atomic_table.proofs.Names.{◌≡◌, [], ◌∷◌, refl, a_type, Val, vstruct, vcons, vnil, inst_fn, SProp, emp, Fml, ‵, raw, ◌⊛◌, ◌$◌, ◌∵◌, !, qed, by, keep, split, fjoin, use0, no_more, and_then, returns, enter, alloc_all, pass_all, free_all, look_at, get, sets, agg, tables, RattleType, owns, types_at, nothing, param, layouts, alive, Stays, walk_of, fact, fact_i, makes_shadow}
+use Rattle.atomic_table.proofs.Names.{◌≡◌, [], ◌∷◌, refl, a_type, Val, vstruct, vcons, vnil, inst_fn, SProp, emp, Fml, ‵, raw, ◌⊛◌, ◌$◌, ◌∵◌, !, qed, by, keep, split, use0, no_more, and_then, returns, enter, alloc_all, pass_all, free_all, look_at, get, sets, agg, tables, RattleType, owns, types_at, nothing, param, layouts, alive, Stays, walk_of, fact, fact_i, makes_shadow}
 use Rattle.atomic_table.proofs.Walks.{proved, leaves}
 use Rattle.contract_views.specs.contracts.known_list.KnownList as known_list
 use Rattle.contract_views.specs.contracts.known_list.KnownList.none.{ended, clauses}

@@ -1,6 +1,6 @@
 -- `with` makes a value of no bytes, whose items are those before and what the reference shows.
 use Rattle.std.proofs.Common.{◌++◌}
-use Rattle.atomic_table.proofs.Names.{◌≡◌, List, [], ◌∷◌, refl, ap, ◌∙◌, a_type, named, Val, vptr, vstruct, vcons, vnil, of_list, inst_fn, SProp, emp, Fml, Is, ‵, raw, ◌⊛◌, ◌$◌, ◌∵◌, !, qed, by, keep, split, fjoin, use0, no_more, and_then, returns, enter, alloc_all, pass_all, free_all, look_at, get, sets, agg, tables, no, yes, RattleType, RefOf, owns, types_at, plain, nothing, param, layouts, alive, Stays, stay_dropped, walk_of, Goes-dropped, shr_vals, shr_Tells, fact, fact_i, makes_shadow}
+use Rattle.atomic_table.proofs.Names.{◌≡◌, List, [], ◌∷◌, refl, ap, ◌∙◌, a_type, named, Val, vptr, vstruct, vnil, of_list, inst_fn, SProp, emp, Fml, Is, ‵, raw, ◌⊛◌, ◌$◌, ◌∵◌, !, qed, by, keep, split, fjoin, use0, no_more, and_then, returns, enter, alloc_all, pass_all, free_all, look_at, get, sets, agg, tables, no, yes, RattleType, RefOf, owns, types_at, plain, nothing, param, layouts, alive, Stays, stay_dropped, walk_of, Goes-dropped, shr_vals, shr_Tells, fact, fact_i, makes_shadow}
 use denote.Struct.Struct.{Struct}
 use denote.Struct.Owning.{shape}
 use Rattle.atomic_table.proofs.Walks.{proved, leaves}
