@@ -1,6 +1,6 @@
+pub mod CodeLemmas
 pub mod Cutting
 pub mod Dealing
-pub mod Ending
 pub mod Keeping
 pub mod Knowing
 pub mod Looking
@@ -8,7 +8,6 @@ pub mod Mains
 pub mod Meeting
 pub mod NextCell
 pub mod Rooted
-pub mod Shares
 pub mod Stealing
 pub mod Stopping
 pub mod Tying

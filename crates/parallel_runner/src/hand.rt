@@ -121,15 +121,15 @@ impl<K: Keep> Hand<K> {
         self.state.thieves = thieves;
     }
 
-    // How many of its tasks wait for children.
-    pub(crate) fn stalled_count(&self) -> usize
+    /// How many of its tasks wait for children.
+    pub fn stalled_count(&self) -> usize
         ensures { result ≡ length self.now.stalled }
     {
         self.state.stalled.len()
     }
 
-    // Whether the last cancellation check cancelled.
-    pub(crate) fn cuts(&self) -> bool {
+    /// Whether the last cancellation check cancelled.
+    pub fn cuts(&self) -> bool {
         self.state.faults.cuts()
     }
 

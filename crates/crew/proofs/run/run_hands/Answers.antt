@@ -1,8 +1,8 @@
 use mir.Syntax.{of_param}
 use denote.Exit.{yes}
 use denote.Param.Send.{Quiet-if}
-use Rattle.parallel_runner.proofs.Shares.{any_hand_sends}
-use Rattle.parallel_runner.proofs.run.run_hands.Goals as goal
+use Rattle.crew.proofs.Shares.{any_hand_sends}
+use Rattle.crew.proofs.run.run_hands.Goals as goal
 
 -- field by field: the two rows are too large to be compared
 pub at_each-requires-send-T : goal.at_each-requires-send-T

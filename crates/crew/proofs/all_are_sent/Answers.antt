@@ -1,8 +1,8 @@
 use mir.Syntax.{of_param}
 use denote.Exit.{yes}
 use denote.Param.Send.{Quiet-if}
-use Rattle.parallel_runner.proofs.Shares.{any_hand_sends}
-use Rattle.parallel_runner.proofs.all_are_sent.Goals as goal
+use Rattle.crew.proofs.Shares.{any_hand_sends}
+use Rattle.crew.proofs.all_are_sent.Goals as goal
 
 -- field by field: the two rows are too large to be compared
 pub is_sent-requires-send-T : goal.is_sent-requires-send-T

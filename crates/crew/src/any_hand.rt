@@ -1,6 +1,5 @@
 // What a thread of a crew gets. It has no type parameter, so that the proofs of the threads' closures are of one type.
-use crate::hand::{Hand, Hands};
-use crate::memory::Memory;
+use parallel_runner::{Hand, Hands, Memory};
 use serial_meaning::{Lined, Prints};
 use std::alloc::Global;
 

@@ -3,8 +3,8 @@ use Rattle.std.specs.Vec.Iter.{into_iter_items}
 use Rattle.meet_block.specs.Joined.{JoinView}
 use Rattle.serial_meaning.specs.Answer.{AnswerTag, AnswerView}
 use Rattle.parallel_runner.specs.Crews.{AreRootAnswers}
-use Rattle.parallel_runner.proofs.Rooted.{one-more-answer, no-more-answers}
-use Rattle.parallel_runner.proofs.run.answers_of.Goals as goal
+use Rattle.crew.proofs.Rooted.{one-more-answer, no-more-answers}
+use Rattle.crew.proofs.run.answers_of.Goals as goal
 
 pub loop-root-init : goal.loop-root-init
 loop-root-init g c =

@@ -1,8 +1,8 @@
 -- A hand may go to another thread, with the tasks that it has.
 use denote.Param.Send.{IsSend, IsSync, sendable, view_send}
-use denote.Param.SendFields.{declared_send, variants_send}
+use denote.Param.SendFields.{declared_send}
 use denote.RattleType.{RattleType}
-use mir.Syntax.{Dict, given}
+use mir.Syntax.{Dict}
 use Rattle.once_cell.proofs.race.once_box.OnceBox.TheSendSync as cell_shared
 use Rattle.once_cell.specs.contracts.race.once_box.OnceBox as cell
 use Rattle.contract_views.proofs.known_list.KnownList.TheSendSync as known_list_shared
@@ -12,12 +12,6 @@ use Rattle.crossbeam_utils.proofs.cache_padded.CachePadded.TheSendSync as padded
 use Rattle.contract_views.proofs.items.Items.TheSendSync as items_shared
 use Rattle.serial_meaning.proofs.CodeLemmas.Shares.{answer_sends, known_sends, known_syncs}
 use Rattle.serial_meaning.specs.contracts.answer.Answer as answer
-use Rattle.serial_meaning.specs.contracts.keep.All as all
-use Rattle.serial_meaning.specs.contracts.keep.AllKeep.TheImpl.{ghosts as all_ghosts}
-use Rattle.serial_meaning.specs.contracts.keep.Lined as lined
-use Rattle.serial_meaning.specs.contracts.keep.LinedKeep.TheImpl.{ghosts as lined_ghosts}
-use Rattle.serial_meaning.specs.contracts.keep.Prints as prints
-use Rattle.serial_meaning.specs.contracts.keep.PrintsKeep.TheImpl.{ghosts as prints_ghosts}
 use Rattle.serial_meaning.specs.contracts.known.Known as known
 use Rattle.serial_meaning.specs.declared.keep.Keep.{Ghosts}
 use Rattle.std_alloc.specs.contracts.arc.Arc as arc
@@ -31,7 +25,6 @@ use Rattle.steal_deck.specs.contracts.thief.Thief as thief
 use Rattle.strand_machine.proofs.CodeLemmas.Shares.{task_pool_sends, task_sends}
 use Rattle.parallel_runner.specs.contracts.answered.Answered as answered
 use Rattle.parallel_runner.specs.contracts.answered.Answered.TheInside as answered_inside
-use Rattle.parallel_runner.specs.contracts.any_hand.AnyHand as any_hand
 use Rattle.parallel_runner.specs.contracts.cells.Cells as cells
 use Rattle.parallel_runner.specs.contracts.cells.Cells.TheInside as cells_inside
 use Rattle.parallel_runner.specs.contracts.entry.Entry as entry
@@ -132,8 +125,5 @@ module _ (K : RattleType) (keeps : Ghosts K.Denot) (dict : Dict) where
   hand_inside_sends : IsSend (hand_inside.the_row K keeps)
   hand_inside_sends = declared_send (hand_inside.the_type K keeps) (padded_shared.the_send (hand_state.the_row K keeps) hand_state_sends, tt)
 
-  hand_sends : IsSend (hand.the_row K keeps)
+  pub hand_sends : IsSend (hand.the_row K keeps)
   hand_sends = view_send (hand_inside.the_row K keeps) _ _ _ _ hand_inside_sends
-
-pub any_hand_sends : IsSend any_hand.the_row
-any_hand_sends = variants_send any_hand.enum ((hand_sends all.the_row all_ghosts (given 0), tt), ((hand_sends lined.the_row lined_ghosts (given 0), tt), ((hand_sends prints.the_row prints_ghosts (given 0), tt), tt)))

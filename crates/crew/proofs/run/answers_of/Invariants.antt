@@ -2,7 +2,7 @@ use Rattle.std.proofs.Common.{◌≡◌, ◌++◌, List, length}
 use Rattle.std.specs.Vec.Iter.{into_iter_items, into_iter_len}
 use Rattle.serial_meaning.specs.Answer.{AnswerView}
 use Rattle.parallel_runner.specs.Crews.{AreRootAnswers}
-use Rattle.parallel_runner.proofs.run.answers_of.Given as goal
+use Rattle.crew.proofs.run.answers_of.Given as goal
 
 -- with the answers of the roots that are left they are the answers of all
 abbrev pub invariant-loop-root : goal.invariant-loop-root

@@ -1,4 +1,4 @@
-use Rattle.parallel_runner.proofs.threads.+grow_stack.Given as goal
+use Rattle.crew.proofs.threads.+grow_stack.Given as goal
 
 abbrev pub decreases-grow_stack : goal.decreases-grow_stack
 decreases-grow_stack l = l.pages

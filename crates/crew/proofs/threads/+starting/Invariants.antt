@@ -1,5 +1,5 @@
 use Rattle.std.proofs.Common.{◌+◌, ◌*◌, vec_len}
-use Rattle.parallel_runner.proofs.threads.+starting.Given as goal
+use Rattle.crew.proofs.threads.+starting.Given as goal
 
 abbrev pub decreases-run_from : goal.decreases-run_from
 decreases-run_from g l = 3 * vec_len l.all

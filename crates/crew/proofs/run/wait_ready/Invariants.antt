@@ -1,5 +1,5 @@
 use Rattle.std.proofs.Common.{◌≡◌}
-use Rattle.parallel_runner.proofs.run.wait_ready.Given as goal
+use Rattle.crew.proofs.run.wait_ready.Given as goal
 
 abbrev pub invariant-loop : goal.invariant-loop
 invariant-loop g l = (goal.iterator-loop g).can_next l.iterator' × (goal.iterator-loop g).is_finite l.iterator' × (l.root.children.tags ≡ l.fn.root.children.tags)

@@ -1,7 +1,7 @@
 use Rattle.std.proofs.Common.{subst}
 use Rattle.serial_meaning.specs.Answer.{AnswerView, IsAnswer}
-use Rattle.parallel_runner.proofs.Ending.{ends_within}
-use Rattle.parallel_runner.proofs.run.ends_within_faults.Goals as goal
+use Rattle.crew.proofs.Ending.{ends_within}
+use Rattle.crew.proofs.run.ends_within_faults.Goals as goal
 
 pub returns : goal.returns
 returns g c =

@@ -1,6 +1,6 @@
 use Rattle.std.proofs.Common.{subst}
 use Rattle.serial_meaning.specs.Answer.{AnswerView, IsAnswer}
-use Rattle.parallel_runner.proofs.run.is_meant.Goals as goal
+use Rattle.crew.proofs.run.is_meant.Goals as goal
 
 pub returns : goal.returns
 returns g c =
